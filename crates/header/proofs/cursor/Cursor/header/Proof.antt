@@ -1,0 +1,168 @@
+-- `Cursor::header` meets its contract: the id's VINT, then the size's. Assumes nothing.
+use borrow.Author.Needs.{needs}
+use mathlib.Core.Path.{_≡_, ap, _∙_, sym}
+use mathlib.Core.List.{List}
+use native.Mathlib.Omega.{arith}
+use Prim.Native.Nat.{ℕ, _+_}
+use Rattle.header.specs.Reads.{vintAt, headerAt, VintFits}
+use Rattle.header.specs.declared.cursor.Cursor.{Cursor}
+use Rattle.header.specs.declared.cursor.VintRead.{VintRead}
+use Rattle.header.specs.declared.cursor.VintRead.the-variants.{Vint}
+use Rattle.header.specs.declared.cursor.HeaderRead.the-variants.{Read, Refused}
+use Rattle.header.proofs.BigEndian.{fits-in}
+use Rattle.header.proofs.Headers.{withSize, by-id, by-size}
+use Rattle.header.proofs.cursor.Cursor.header.Statement.{statement}
+use Rattle.header.proofs.cursor.Cursor.header.Tie as tie
+
+-- where the id is known: the recording and the place; the id's octets and value, and the place after it
+module _ (c : tie.After-known-told) where
+  abbrev bytes : List ℕ
+  bytes = c .before .before .before .before .before .args .recording .now
+
+  abbrev place : ℕ
+  place = c .before .before .before .before .before .args .self .at
+
+  abbrev octets : ℕ
+  octets = c .before .id-octets .given .0 .0
+
+  abbrev id : ℕ
+  id = c .before .id-octets .given .0 .1 .0
+
+  abbrev after : Cursor
+  after = c .before .id-octets .given .0 .1 .1 .0
+
+  id-fits : VintFits 4 (Vint octets id after)
+  id-fits = rw (c .before .id-octets .given .1) at (c .before .before .before .vint .ensures .1)
+
+  id-told : headerAt bytes place ≡ withSize id octets (vintAt bytes (after .at) 8)
+  id-told = by-id bytes place (c .before .before .before .vint .ensures .0) (c .before .id-octets .given .1)
+
+-- where the size's VINT was read: what it is decides the rest of the header
+sized : (c : tie.After-vint2) {x : VintRead} → c .vint2 .result ≡ x →
+    let i = c .before in
+    withSize (id i) (octets i) (vintAt (bytes i) (after i .at) 8) ≡ withSize (id i) (octets i) x
+sized c q = let i = c .before in by-size (bytes i) (after i .at) (id i) (octets i) (c .vint2 .ensures .0) q
+
+-- where the size is known too: its octets, its value, and the place after it
+module _ (c : tie.After-known-told2) where
+  abbrev size-octets : ℕ
+  size-octets = c .before .size-octets .given .0 .0
+
+  abbrev size-value : ℕ
+  size-value = c .before .size-octets .given .0 .1 .0
+
+  abbrev after-size : Cursor
+  after-size = c .before .size-octets .given .0 .1 .1 .0
+
+  size-fits : VintFits 8 (Vint size-octets size-value after-size)
+  size-fits = rw (c .before .size-octets .given .1) at (c .before .before .before .vint2 .ensures .1)
+
+vint-requires : tie.Need-vint-requires
+vint-requires c κs = search needs
+
+enum-told : tie.Need-enum-told
+enum-told c = search needs
+
+past-end-requires : tie.Need-past-end-requires
+past-end-requires c κs = search needs
+
+enum-told-2 : tie.Need-enum-told-2
+enum-told-2 c = search needs
+
+invalid-id-requires : tie.Need-invalid-id-requires
+invalid-id-requires c κs = search needs
+
+enum-known-id-octets : tie.Need-enum-known-id-octets
+enum-known-id-octets c = search needs
+
+vint-requires-2 : tie.Need-vint-requires-2
+vint-requires-2 c κs = search needs
+
+enum-told-3 : tie.Need-enum-told-3
+enum-told-3 c = search needs
+
+past-end-requires-2 : tie.Need-past-end-requires-2
+past-end-requires-2 c κs = search needs
+
+enum-told-4 : tie.Need-enum-told-4
+enum-told-4 c = search needs
+
+invalid-size-requires : tie.Need-invalid-size-requires
+invalid-size-requires c κs = search needs
+
+enum-known-size-octets : tie.Need-enum-known-size-octets
+enum-known-size-octets c = search needs
+
+cast-id : tie.Need-cast-id
+cast-id c =
+    let i = c .before .before .before .before in
+    record { fits = fits-in (octets i) 4 (id i) (id-fits i .0) (id-fits i .1) }
+
+vint-data-requires : tie.Need-vint-data-requires
+vint-data-requires c κs = size-fits c .0
+
+add-length : tie.Need-add-length
+add-length c = omega (arith, size-fits (c .before), id-fits (c .before .before .before .before .before))
+
+returns : tie.Need-returns
+returns c =
+    let d = c .before .before .before in
+    let a = d .before .before .args in
+    ap Refused (c .past-end .ensures)
+    ∙ sym (by-id (a .recording .now) (a .self .at) (d .vint .ensures .0) (c .before .enum-told .given .1))
+
+returns-2 : tie.Need-returns-2
+returns-2 c =
+    let d = c .before .before .before in
+    let a = d .before .before .args in
+    ap Refused (c .invalid-id .ensures)
+    ∙ sym (by-id (a .recording .now) (a .self .at) (d .vint .ensures .0) (c .before .enum-told2 .given .1))
+
+returns-3 : tie.Need-returns-3
+returns-3 c =
+    let d = c .before .before .before in
+    let i = d .before in
+    ap Refused (c .past-end2 .ensures)
+    ∙ sym (id-told i ∙ sized d (c .before .enum-told3 .given .1))
+
+returns-4 : tie.Need-returns-4
+returns-4 c =
+    let d = c .before .before .before in
+    let i = d .before in
+    ap Refused (c .invalid-size .ensures)
+    ∙ sym (id-told i ∙ sized d (c .before .enum-told4 .given .1))
+
+returns-5 : tie.Need-returns-5
+returns-5 c =
+    let z = c .before in
+    let d = z .before .before .before in
+    let i = d .before in
+    ap
+    (λ (v : ℕ). Read (record { id = id i; size = v; length = octets i + size-octets z }) (after-size z))
+    (c .vint-data .ensures)
+    ∙ sym (id-told i ∙ sized d (z .before .size-octets .given .1))
+
+pub header-spec : {M : Type 1} → statement M
+header-spec =
+    tie.close
+    (tie.spec
+    vint-requires
+    enum-told
+    past-end-requires
+    enum-told-2
+    invalid-id-requires
+    enum-known-id-octets
+    vint-requires-2
+    enum-told-3
+    past-end-requires-2
+    enum-told-4
+    invalid-size-requires
+    enum-known-size-octets
+    cast-id
+    vint-data-requires
+    add-length
+    returns
+    returns-2
+    returns-3
+    returns-4
+    returns-5)

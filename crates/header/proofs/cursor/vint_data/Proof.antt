@@ -1,0 +1,22 @@
+-- `vint_data` meets its contract: the shift makes 2 ^ (7 * octets). Assumes nothing.
+use borrow.Author.Needs.{needs}
+use native.Mathlib.Omega.{arith}
+use Prim.Native.Nat.{_*_}
+use Rattle.header.proofs.Data.{shifted-one, shifted-pos}
+use Rattle.header.proofs.cursor.vint_data.Statement.{statement}
+use Rattle.header.proofs.cursor.vint_data.Tie as tie
+
+mul-result : tie.Need-mul-result
+mul-result c = search needs
+
+shl-result : tie.Need-shl-result
+shl-result c = search needs
+
+rem-result : tie.Need-rem-result
+rem-result c = shifted-pos (7 * c .args .octets) (omega arith)
+
+returns : tie.Need-returns
+returns c = rw (shifted-one (7 * c .args .octets) (omega arith))
+
+pub vint-data-spec : {M : Type 1} → statement M
+vint-data-spec = tie.close (tie.spec mul-result shl-result rem-result returns)

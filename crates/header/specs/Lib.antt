@@ -1,0 +1,8 @@
+-- The definitions that the contracts of `header` cite.
+pub mod Vint
+pub mod Refusals
+pub mod Header
+pub mod Reads
+pub mod Reply
+pub mod Promise
+pub mod Cases

@@ -1,0 +1,14 @@
+-- Document 01's refusals by name, as `Refusal` holds them: the number, and an id for number 8 alone.
+use Rattle.header.specs.declared.refusal.Refusal.{Refusal}
+
+abbrev pub pastEnd : Refusal
+pastEnd = record { number = 1; id = 0 }
+
+abbrev pub invalidId : Refusal
+invalidId = record { number = 2; id = 0 }
+
+abbrev pub invalidSize : Refusal
+invalidSize = record { number = 3; id = 0 }
+
+abbrev pub badArgument : Refusal
+badArgument = record { number = 14; id = 0 }

@@ -1,0 +1,40 @@
+// A refusal and its numbers (document 01, Numbers that bound a call).
+ghost use mathlib.Core.Path.{_≡_};
+ghost use Rattle.header.specs.Refusals.{pastEnd, invalidId, invalidSize, badArgument};
+
+// Why a call refuses: document 01's number, and for number 8 the id, else 0.
+pub struct Refusal {
+    pub number: u8,
+    pub id: u32,
+}
+
+// One constructor for each cause.
+impl Refusal {
+    // 1: a byte needed lies beyond the recording.
+    pub fn past_end() -> Refusal
+        ensures { λ r. ⌜ r ≡ pastEnd ⌝ }
+    {
+        Refusal { number: 1, id: 0 }
+    }
+
+    // 2: an id of more than four bytes.
+    pub fn invalid_id() -> Refusal
+        ensures { λ r. ⌜ r ≡ invalidId ⌝ }
+    {
+        Refusal { number: 2, id: 0 }
+    }
+
+    // 3: a size of more than eight bytes.
+    pub fn invalid_size() -> Refusal
+        ensures { λ r. ⌜ r ≡ invalidSize ⌝ }
+    {
+        Refusal { number: 3, id: 0 }
+    }
+
+    // 14: a length or a place that the caller gave is out of bounds.
+    pub fn bad_argument() -> Refusal
+        ensures { λ r. ⌜ r ≡ badArgument ⌝ }
+    {
+        Refusal { number: 14, id: 0 }
+    }
+}
