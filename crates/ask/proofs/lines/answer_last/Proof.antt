@@ -1,0 +1,28 @@
+-- `answer_last` is safe: what is held is a part of the room. Assumes nothing.
+use borrow.Author.Needs.{needs}
+use mathlib.Core.Path.{sym}
+use native.Mathlib.Omega.{arith}
+use lib.Seq.{length-take-le}
+use Rattle.ask.proofs.lines.answer_last.Statement.{statement}
+use Rattle.ask.proofs.lines.answer_last.Tie as tie
+
+returns : tie.Need-returns
+returns c = search needs
+
+slice-aggregate-answer : tie.Need-slice-aggregate-answer
+slice-aggregate-answer c =
+    let a = c .before .before .before .args in
+    sym (length-take-le (a .state .held) (a .room .now) (omega arith))
+
+answer-requires : tie.Need-answer-requires
+answer-requires c κs = search needs
+
+flush-requires : tie.Need-flush-requires
+flush-requires c κs = search needs
+
+returns-2 : tie.Need-returns-2
+returns-2 c = search needs
+
+pub answer-last-spec : {M : Type 1} → statement M
+answer-last-spec =
+    tie.close (tie.spec returns slice-aggregate-answer answer-requires flush-requires returns-2)

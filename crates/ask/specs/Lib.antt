@@ -1,0 +1,2 @@
+-- What the contracts inside `ask` cite.
+pub mod Bounds

@@ -1,0 +1,221 @@
+// Reads standard input line by line, and has each line answered.
+ghost use Prim.Native.Nat.{_≤_, _<_, _-_};
+ghost use lib.ListN.{length};
+ghost use Rattle.ask.specs.Bounds.{Behind, Roomy, Within};
+use crate::answers;
+use crate::out;
+
+// Room for the longest line that is a question, and more. A longer line is none.
+const ROOM: usize = 1_048_576;
+
+// Between two reads: how many bytes of an unfinished line the room holds, whether that line is too
+// long to hold (its first bytes are then gone), and whether input may follow.
+struct State {
+    held: usize,
+    too_long: bool,
+    more: bool,
+}
+
+// After the finished lines were answered: where the unfinished one begins, how many bytes of answers
+// are gathered, and whether the unfinished line began before the room.
+struct Answered {
+    from: usize,
+    gathered: usize,
+    too_long: bool,
+}
+
+pub fn answer_all() {
+    let mut room = [0u8; 1_048_576];
+    let mut recording = [0u8; 65536];
+    let mut out = [0u8; 65536];
+    let mut state = State {
+        held: 0,
+        too_long: false,
+        more: true,
+    };
+    // A proved loop has to end, and nothing says that the input does. No run takes so many turns.
+    let mut turns = u64::MAX;
+    while turns > 0 {
+        if !state.more {
+            return;
+        }
+        state = turn(state, &mut room, &mut recording, &mut out);
+        turns -= 1;
+    }
+}
+
+// What one read brought: bytes behind those held, the end of the input, or a failure.
+enum Got {
+    Bytes(usize),
+    Ended,
+    Failed,
+}
+
+fn read_more(room: &mut [u8], held: usize) -> Got
+    requires { ⌜ held ≤ length (now room) ⌝ }
+    ensures { λ r. ⌜ Behind held (length (now (room .entry))) r ⌝ }
+{
+    let got = libc::read(0, &mut room[held..]);
+    if got < 0 {
+        return Got::Failed;
+    }
+    let n = io::count(got, &room[held..]);
+    if n == 0 {
+        return Got::Ended;
+    }
+    Got::Bytes(n)
+}
+
+// One read, and the answers to the lines that it finished.
+fn turn(
+    state: State,
+    room: &mut [u8; 1_048_576],
+    recording: &mut [u8; 65536],
+    out: &mut [u8; 65536],
+) -> State
+    requires { ⌜ Roomy state ⌝ }
+    ensures { λ r. ⌜ Roomy r ⌝ }
+{
+    let held = state.held;
+    match read_more(room, held) {
+        Got::Failed => {
+            io::write_all(2, b"ask: standard input can't be read\n");
+            ended()
+        }
+        Got::Ended => {
+            answer_last(state, room, recording, out);
+            ended()
+        }
+        Got::Bytes(n) => {
+            let filled = held + n;
+            answer_some(filled, state, room, recording, out)
+        }
+    }
+}
+
+// Nothing is held, and nothing follows.
+fn ended() -> State
+    ensures { λ r. ⌜ Roomy r ⌝ }
+{
+    State {
+        held: 0,
+        too_long: false,
+        more: false,
+    }
+}
+
+// Answers the lines that the last read finished, and keeps the unfinished one.
+fn answer_some(
+    filled: usize,
+    state: State,
+    room: &mut [u8; 1_048_576],
+    recording: &mut [u8; 65536],
+    out: &mut [u8; 65536],
+) -> State
+    requires { ⌜ (state .held ≤ filled) × (filled ≤ 1048576) ⌝ }
+    ensures { λ r. ⌜ Roomy r ⌝ }
+{
+    let whole: &[u8] = room;
+    let answered = answer_lines(&whole[..filled], state.held, state.too_long, recording, out);
+    let written = out::flush(out, answered.gathered);
+    let from = answered.from;
+    let left = filled - from;
+    keep(room, from, left);
+    if left == ROOM {
+        return State {
+            held: 0,
+            too_long: true,
+            more: written,
+        };
+    }
+    State {
+        held: left,
+        too_long: answered.too_long,
+        more: written,
+    }
+}
+
+// Answers a last line that no line feed ends.
+fn answer_last(
+    state: State,
+    room: &[u8; 1_048_576],
+    recording: &mut [u8; 65536],
+    out: &mut [u8; 65536],
+)
+    requires { ⌜ Roomy state ⌝ }
+{
+    let held = state.held;
+    if held == 0 {
+        if !state.too_long {
+            return;
+        }
+    }
+    let whole: &[u8] = room;
+    let gathered = answers::answer(&whole[..held], state.too_long, recording, out, 0);
+    out::flush(out, gathered);
+}
+
+// Answers the finished lines of what was read. The first `old` bytes hold no line feed.
+fn answer_lines(
+    read: &[u8],
+    old: usize,
+    too_long: bool,
+    recording: &mut [u8; 65536],
+    out: &mut [u8; 65536],
+) -> Answered
+    requires { ⌜ old ≤ length (now read) ⌝ }
+    ensures { λ r. ⌜ Within (length (now (read .entry))) r ⌝ }
+{
+    let mut from: usize = 0;
+    let mut scanned = old;
+    let mut cut = too_long;
+    let mut gathered: usize = 0;
+    while scanned < read.len() {
+        let end = line_end(read, scanned);
+        if end == read.len() {
+            return Answered {
+                from,
+                gathered,
+                too_long: cut,
+            };
+        }
+        gathered = answers::answer(&read[from..end], cut, recording, out, gathered);
+        cut = false;
+        from = end + 1;
+        scanned = end + 1;
+    }
+    Answered {
+        from,
+        gathered,
+        too_long: cut,
+    }
+}
+
+// The place of the next line feed, or the end.
+fn line_end(read: &[u8], from: usize) -> usize
+    requires { ⌜ from ≤ length (now read) ⌝ }
+    ensures { λ r. ⌜ (from ≤ r) × (r ≤ length (now (read .entry))) ⌝ }
+{
+    let mut i = from;
+    while i < read.len() {
+        if read[i] == b'\n' {
+            return i;
+        }
+        i += 1;
+    }
+    i
+}
+
+// Moves the n bytes from `from` on to the start of the room.
+fn keep(room: &mut [u8; 1_048_576], from: usize, n: usize)
+    requires { ⌜ (from ≤ 1048576) × (n ≤ 1048576 - from) ⌝ }
+{
+    if from == 0 {
+        return;
+    }
+    let mut i: usize = 0;
+    while i < n {
+        room[i] = room[from + i];
+        i += 1;
+    }
+}
