@@ -1,0 +1,432 @@
+//! The records, built by the crate from trees in which every text and every
+//! run of bytes is replaced by its own address and length.
+
+use super::read::{read, Row};
+use super::{call, float, Failed, Outcome, Reader};
+use crate::ebml::{Element, ElementType};
+use crate::{ids, Parseable};
+use crate::{
+    Attachment, Audio, Chapter, ChapterDisplay, ChapterEdition, Language, SimpleTag, Tag, TagValue,
+    Target, TargetTypeValue,
+};
+use question::{List, Payload};
+use std::convert::TryFrom;
+
+/// What stands in a retold tree for each number. The crate shows an unset
+/// number or flag as 0 or no; one that is set differs between `True` and
+/// `Other`, one that is unset does not.
+#[derive(Clone, Copy)]
+enum Numbers {
+    /// The number as it was read.
+    True,
+    /// Another number, which also is another truth value.
+    Other,
+    /// The number that the crate reads as the target level `Collection`.
+    Collection,
+}
+
+impl Numbers {
+    fn unsigned(self, number: u64) -> u64 {
+        match self {
+            Numbers::True => number,
+            Numbers::Other => u64::from(number == 0),
+            Numbers::Collection => 70,
+        }
+    }
+
+    fn float(self, number: f64) -> f64 {
+        match self {
+            Numbers::Other if number.to_bits() == 0 => 1.0,
+            Numbers::Other => 0.0,
+            _ => number,
+        }
+    }
+}
+
+/// A payload that was read, of which the same record can be built again with
+/// other numbers in it.
+struct Source<'a> {
+    payload: &'a Payload,
+    elements: Vec<Element>,
+    rows: Vec<Row>,
+}
+
+impl Source<'_> {
+    fn read(payload: &Payload, parent: u32) -> Outcome<Source<'_>> {
+        let (elements, rows) = read(payload.start, payload.size, parent, &payload.bytes)?;
+        Ok(Source {
+            payload,
+            elements,
+            rows,
+        })
+    }
+
+    /// The tree with ranges in place of texts and bytes. The rows stand in
+    /// the order in which the tree is walked.
+    fn retell(&self, numbers: Numbers) -> Vec<Element> {
+        retell(&self.elements, &mut self.rows.iter(), numbers)
+    }
+
+    /// The children of the k-th master of that id, as the crate's `parse`
+    /// picks them.
+    fn entry(&self, id: u32, k: u64, numbers: Numbers) -> Outcome<Vec<Element>> {
+        let entries = self
+            .retell(numbers)
+            .into_iter()
+            .filter_map(|e| match e.val {
+                ElementType::Master(children) if e.id == id => Some(children),
+                _ => None,
+            });
+        nth(entries, k)
+    }
+
+    /// The k-th record as the crate's `parse` builds it from the bytes.
+    fn own<T, P: Parseable<Output = Vec<T>>>(&self, k: u64) -> Outcome<T> {
+        let mut reader = Reader::at(&self.payload.bytes, self.payload.start);
+        let records = call(|| P::parse(&mut reader, self.payload.size))?;
+        nth(records.into_iter(), k)
+    }
+
+    /// The end of every accepted answer: the rows are counted, not told.
+    fn rows(&self) -> String {
+        format!("rows {} rest 0", self.rows.len())
+    }
+
+    /// The bytes that a range stands for; none for an unset one.
+    fn bytes(&self, range: &[u8]) -> Vec<u8> {
+        let range = std::str::from_utf8(range).expect("a range is ASCII");
+        match range.split_once('+') {
+            None => Vec::new(),
+            Some((address, length)) => {
+                let address: usize = address.parse().expect("an address");
+                let length: usize = length.parse().expect("a length");
+                self.payload.bytes[address..address + length].to_vec()
+            }
+        }
+    }
+
+    /// The text that a range stands for.
+    fn text(&self, range: &str) -> String {
+        String::from_utf8(self.bytes(range.as_bytes())).expect("the crate took it as text")
+    }
+
+    fn language(&self, language: &Language) -> Language {
+        match language {
+            Language::ISO639(range) => Language::ISO639(self.text(range)),
+            Language::IETF(range) => Language::IETF(self.text(range)),
+        }
+    }
+}
+
+fn retell<'r>(
+    elements: &[Element],
+    rows: &mut impl Iterator<Item = &'r Row>,
+    numbers: Numbers,
+) -> Vec<Element> {
+    let retold = elements.iter().map(|element| {
+        let row = rows.next().expect("a row for each element");
+        let range = format!("{}+{}", row.address + row.header, row.payload);
+        Element {
+            id: element.id,
+            size: element.size,
+            val: match &element.val {
+                ElementType::Master(children) => {
+                    ElementType::Master(retell(children, &mut *rows, numbers))
+                }
+                ElementType::Int(number) => ElementType::Int(*number),
+                ElementType::UInt(number) => ElementType::UInt(numbers.unsigned(*number)),
+                ElementType::Float(number) => ElementType::Float(numbers.float(*number)),
+                ElementType::Date(date) => ElementType::Date(date.clone()),
+                ElementType::String(_) => ElementType::String(range),
+                ElementType::UTF8(_) => ElementType::UTF8(range),
+                ElementType::Binary(_) => ElementType::Binary(range.into_bytes()),
+            },
+        }
+    });
+    retold.collect()
+}
+
+/// The k-th record or list member, or 15.
+fn nth<T>(mut items: impl Iterator<Item = T>, k: u64) -> Outcome<T> {
+    usize::try_from(k)
+        .ok()
+        .and_then(|k| items.nth(k))
+        .ok_or_else(|| Failed::Refused("15".to_string()))
+}
+
+fn agree(same: bool) -> Outcome<()> {
+    if same {
+        Ok(())
+    } else {
+        Err(Failed::Fault)
+    }
+}
+
+/// An empty range is one that the crate never set.
+fn range(range: &str) -> &str {
+    if range.is_empty() {
+        "unset"
+    } else {
+        range
+    }
+}
+
+fn byte_range(bytes: &[u8]) -> &str {
+    range(std::str::from_utf8(bytes).expect("a range is ASCII"))
+}
+
+/// A flag, from its value in the true tree and in the other.
+fn flag(now: bool, other: bool) -> &'static str {
+    match (now, other) {
+        _ if now == other => "unset",
+        (true, _) => "yes",
+        (false, _) => "no",
+    }
+}
+
+fn number(number: Option<u64>) -> String {
+    number.map_or("unset".to_string(), |number| number.to_string())
+}
+
+/// A number that the crate doesn't hold as an option.
+fn bare_number(now: u64, other: u64) -> String {
+    number(Some(now).filter(|now| *now != other))
+}
+
+fn nanoseconds(time: std::time::Duration) -> u64 {
+    u64::try_from(time.as_nanos()).expect("it was made from 64 bits")
+}
+
+fn language(language: Option<&Language>) -> String {
+    match language {
+        None => "unset".to_string(),
+        Some(Language::ISO639(range)) if range.is_empty() => "unset".to_string(),
+        Some(Language::ISO639(range)) => format!("iso {}", range),
+        Some(Language::IETF(range)) => format!("ietf {}", range),
+    }
+}
+
+pub(crate) fn attachment(payload: &Payload, k: u64) -> Outcome<String> {
+    let source = Source::read(payload, ids::ATTACHEDFILE)?;
+    let built = Attachment::build_entry(source.entry(ids::ATTACHEDFILE, k, Numbers::True)?);
+    let own = source.own::<_, Attachment>(k)?;
+    agree(
+        own == Attachment {
+            description: built.description.as_deref().map(|text| source.text(text)),
+            name: source.text(&built.name),
+            mime_type: source.text(&built.mime_type),
+            data: source.bytes(&built.data),
+        },
+    )?;
+    Ok(format!(
+        "description {} name {} mime {} data {} {}",
+        built.description.as_deref().unwrap_or("unset"),
+        range(&built.name),
+        range(&built.mime_type),
+        byte_range(&built.data),
+        source.rows()
+    ))
+}
+
+/// The k-th edition twice, with the true numbers and with others.
+fn editions(source: &Source, k: u64) -> Outcome<(ChapterEdition, ChapterEdition)> {
+    let build = |numbers| {
+        source
+            .entry(ids::EDITIONENTRY, k, numbers)
+            .map(ChapterEdition::build_entry)
+    };
+    let now = build(Numbers::True)?;
+    let display = |display: &ChapterDisplay| ChapterDisplay {
+        string: source.text(&display.string),
+        language: source.language(&display.language),
+    };
+    let chapter = |chapter: &Chapter| Chapter {
+        segment_uid: chapter.segment_uid.as_deref().map(|uid| source.bytes(uid)),
+        display: chapter.display.iter().map(display).collect(),
+        ..chapter.clone()
+    };
+    let own = source.own::<_, ChapterEdition>(k)?;
+    agree(
+        own == ChapterEdition {
+            chapters: now.chapters.iter().map(chapter).collect(),
+            ..now.clone()
+        },
+    )?;
+    Ok((now, build(Numbers::Other)?))
+}
+
+pub(crate) fn edition(payload: &Payload, k: u64) -> Outcome<String> {
+    let source = Source::read(payload, ids::EDITIONENTRY)?;
+    let (now, other) = editions(&source, k)?;
+    Ok(format!(
+        "uid {} hidden {} default {} ordered {} chapters {} {}",
+        number(now.uid),
+        flag(now.hidden, other.hidden),
+        flag(now.default, other.default),
+        flag(now.ordered, other.ordered),
+        now.chapters.len(),
+        source.rows()
+    ))
+}
+
+/// The i-th chapter of the k-th edition, with the true numbers and with others.
+fn chapters(source: &Source, k: u64, i: u64) -> Outcome<(Chapter, Chapter)> {
+    let (now, other) = editions(source, k)?;
+    let now = nth(now.chapters.into_iter(), i)?;
+    let other = nth(other.chapters.into_iter(), i)?;
+    Ok((now, other))
+}
+
+pub(crate) fn chapter(payload: &Payload, k: u64, i: u64) -> Outcome<String> {
+    let source = Source::read(payload, ids::EDITIONENTRY)?;
+    let (now, other) = chapters(&source, k, i)?;
+    Ok(format!(
+        "uid {} start {} end {} hidden {} enabled {} segment {} edition {} displays {} {}",
+        bare_number(now.uid, other.uid),
+        bare_number(nanoseconds(now.time_start), nanoseconds(other.time_start)),
+        number(now.time_end.map(nanoseconds)),
+        flag(now.hidden, other.hidden),
+        flag(now.enabled, other.enabled),
+        now.segment_uid.as_deref().map_or("unset", byte_range),
+        number(now.segment_edition_uid),
+        now.display.len(),
+        source.rows()
+    ))
+}
+
+pub(crate) fn display(payload: &Payload, k: u64, i: u64, j: u64) -> Outcome<String> {
+    let source = Source::read(payload, ids::EDITIONENTRY)?;
+    let (chapter, _) = chapters(&source, k, i)?;
+    let display = nth(chapter.display.into_iter(), j)?;
+    Ok(format!(
+        "string {} language {} {}",
+        range(&display.string),
+        language(Some(&display.language)),
+        source.rows()
+    ))
+}
+
+/// The k-th tag as the crate builds it, checked against its own reading.
+fn built_tag(source: &Source, k: u64, numbers: Numbers) -> Outcome<Tag> {
+    let tag = Tag::build_entry(source.entry(ids::TAG, k, numbers)?);
+    let own = source.own::<_, Tag>(k)?;
+    if let Numbers::True = numbers {
+        let simple = |tag: &SimpleTag| SimpleTag {
+            name: source.text(&tag.name),
+            language: tag.language.as_ref().map(|l| source.language(l)),
+            default: tag.default,
+            value: tag.value.as_ref().map(|value| match value {
+                TagValue::String(range) => TagValue::String(source.text(range)),
+                TagValue::Binary(range) => TagValue::Binary(source.bytes(range)),
+            }),
+        };
+        agree(own.simple == tag.simple.iter().map(simple).collect::<Vec<_>>())?;
+        agree(match (&own.targets, &tag.targets) {
+            (None, None) => true,
+            (Some(own), Some(target)) => {
+                own.target_type_value == target.target_type_value
+                    && own.target_type == target.target_type.as_deref().map(|t| source.text(t))
+                    && own.track_uids == target.track_uids
+                    && own.edition_uids == target.edition_uids
+                    && own.chapter_uids == target.chapter_uids
+                    && own.attachment_uids == target.attachment_uids
+            }
+            _ => false,
+        })?;
+    }
+    Ok(tag)
+}
+
+/// The raw target number: the crate keeps only its level. It is the last
+/// unsigned 68CA of the last Targets; that it is there and which level it
+/// makes must be what the crate built.
+fn target_number(source: &Source, k: u64, target: &Target) -> Outcome<Option<u64>> {
+    let mut raw = None;
+    for element in source.entry(ids::TAG, k, Numbers::True)? {
+        if let (ids::TARGETS, ElementType::Master(children)) = (element.id, element.val) {
+            raw = children.iter().rev().find_map(|child| match child.val {
+                ElementType::UInt(number) if child.id == ids::TARGETTYPEVALUE => Some(number),
+                _ => None,
+            });
+        }
+    }
+    let level = |target: &Target| target.target_type_value;
+    let probe = built_tag(source, k, Numbers::Collection)?.targets;
+    let set = probe.as_ref().and_then(level) == Some(TargetTypeValue::Collection);
+    agree(set == raw.is_some())?;
+    if let Some(raw) = raw {
+        agree(level(target) == Some(TargetTypeValue::from(raw)))?;
+    }
+    Ok(raw)
+}
+
+pub(crate) fn tag(payload: &Payload, k: u64) -> Outcome<String> {
+    let source = Source::read(payload, ids::TAG)?;
+    let tag = built_tag(&source, k, Numbers::True)?;
+    let simple = format!("simple {} {}", tag.simple.len(), source.rows());
+    Ok(match &tag.targets {
+        None => format!("target no {}", simple),
+        Some(target) => format!(
+            "target yes value {} type {} tracks {} editions {} chapters {} attachments {} {}",
+            number(target_number(&source, k, target)?),
+            target.target_type.as_deref().unwrap_or("unset"),
+            target.track_uids.len(),
+            target.edition_uids.len(),
+            target.chapter_uids.len(),
+            target.attachment_uids.len(),
+            simple
+        ),
+    })
+}
+
+pub(crate) fn uid(payload: &Payload, k: u64, list: List, i: u64) -> Outcome<String> {
+    let source = Source::read(payload, ids::TAG)?;
+    let target = nth(built_tag(&source, k, Numbers::True)?.targets.into_iter(), 0)?;
+    let uids = match list {
+        List::Track => target.track_uids,
+        List::Edition => target.edition_uids,
+        List::Chapter => target.chapter_uids,
+        List::Attachment => target.attachment_uids,
+    };
+    let uid = nth(uids.into_iter(), i)?;
+    Ok(format!("uid {} {}", uid, source.rows()))
+}
+
+pub(crate) fn simple(payload: &Payload, k: u64, i: u64) -> Outcome<String> {
+    let source = Source::read(payload, ids::TAG)?;
+    let build = |numbers| nth(built_tag(&source, k, numbers)?.simple.into_iter(), i);
+    let (now, other) = (build(Numbers::True)?, build(Numbers::Other)?);
+    let value = match &now.value {
+        None => "unset".to_string(),
+        Some(TagValue::String(text)) => format!("text {}", range(text)),
+        Some(TagValue::Binary(bytes)) => format!("binary {}", byte_range(bytes)),
+    };
+    Ok(format!(
+        "name {} language {} default {} value {} {}",
+        range(&now.name),
+        language(now.language.as_ref()),
+        flag(now.default, other.default),
+        value,
+        source.rows()
+    ))
+}
+
+/// An audio payload is itself the record, so there is only the 0th.
+pub(crate) fn audio(payload: &Payload, k: u64) -> Outcome<String> {
+    let source = Source::read(payload, ids::AUDIO)?;
+    nth(std::iter::once(()), k)?;
+    let now = Audio::build(source.retell(Numbers::True));
+    let other = Audio::build(source.retell(Numbers::Other));
+    let rate = if now.sample_rate.to_bits() == other.sample_rate.to_bits() {
+        "unset".to_string()
+    } else {
+        float(now.sample_rate)
+    };
+    Ok(format!(
+        "rate {} channels {} depth {} {}",
+        rate,
+        bare_number(now.channels, other.channels),
+        number(now.bit_depth),
+        source.rows()
+    ))
+}

@@ -1,0 +1,187 @@
+//! Judges answers: ours against the oracle's, a stored list, the worked cases.
+
+mod files;
+mod rules;
+
+use files::Lines;
+use rules::{verdict, Case, Verdict, RULES};
+use std::fs;
+use std::io::{self, Write};
+
+const USAGE: &str = "usage: judge verdict QUESTIONS OURS CHECKED WRAPPING
+       judge split TO_QUESTIONS TO_ANSWERS FILE..
+       judge store QUESTIONS GIVEN CHECKED WRAPPING
+       judge cases QUESTIONS EXPECTED CHECKED WRAPPING";
+
+fn main() {
+    let arguments: Vec<String> = std::env::args().skip(1).collect();
+    let words: Vec<&str> = arguments.iter().map(String::as_str).collect();
+    let good = match words[..] {
+        ["verdict", questions, ours, checked, wrapping] => {
+            four(questions, ours, checked, wrapping, compare)
+        }
+        ["split", questions, answers, ref files @ ..] => split(questions, answers, files),
+        ["store", questions, given, checked, wrapping] => {
+            four(questions, given, checked, wrapping, store)
+        }
+        ["cases", questions, expected, checked, wrapping] => {
+            four(questions, expected, checked, wrapping, cases)
+        }
+        _ => {
+            eprintln!("{USAGE}");
+            std::process::exit(2);
+        }
+    };
+    match good {
+        Ok(true) => {}
+        Ok(false) => std::process::exit(1),
+        Err(error) => {
+            eprintln!("judge: {error}");
+            std::process::exit(1);
+        }
+    }
+}
+
+/// Reads four files of as many lines and puts them to a judgement.
+fn four(
+    questions: &str,
+    ours: &str,
+    checked: &str,
+    wrapping: &str,
+    judgement: fn(&[Case]) -> Result<bool, String>,
+) -> Result<bool, String> {
+    let names = [questions, ours, checked, wrapping];
+    let files: Vec<Lines> = names
+        .map(Lines::read)
+        .into_iter()
+        .collect::<Result<_, _>>()?;
+    let lines: Vec<Vec<&[u8]>> = files.iter().map(Lines::all).collect();
+    for (name, answers) in names.iter().zip(&lines).skip(1) {
+        if answers.len() != lines[0].len() {
+            let (asked, told) = (lines[0].len(), answers.len());
+            return Err(format!("{asked} questions, but {told} answers in {name}"));
+        }
+    }
+    let cases: Vec<Case> = (0..lines[0].len())
+        .map(|i| Case {
+            question: lines[0][i],
+            ours: lines[1][i],
+            checked: lines[2][i],
+            wrapping: lines[3][i],
+        })
+        .collect();
+    judgement(&cases)
+}
+
+/// Counts the verdicts, and shows the shortest question that is unexplained.
+fn compare(cases: &[Case]) -> Result<bool, String> {
+    let verdicts: Vec<Verdict> = cases.iter().map(verdict).collect();
+    let count = |wanted: Verdict| verdicts.iter().filter(|v| **v == wanted).count();
+    let (equal, one) = (count(Verdict::Equal), count(Verdict::EqualToOne));
+    println!("questions {}", cases.len());
+    println!("equal {}", equal + one);
+    if one > 0 {
+        println!("equal to one of two unlike builds {one}");
+    }
+    for (place, (name, _)) in RULES.iter().enumerate() {
+        println!("exception {name} {}", count(Verdict::Exception(place)));
+    }
+    println!("unexplained {}", count(Verdict::Unexplained));
+    let unexplained = cases.iter().zip(&verdicts);
+    let smallest = unexplained
+        .filter(|(_, verdict)| **verdict == Verdict::Unexplained)
+        .map(|(case, _)| case)
+        .min_by_key(|case| case.question.len());
+    if let Some(case) = smallest {
+        show(case, "ours");
+    }
+    Ok(smallest.is_none())
+}
+
+fn show(case: &Case, ours: &str) {
+    let lines = [
+        ("question", case.question),
+        (ours, case.ours),
+        ("checked", case.checked),
+        ("wrapping", case.wrapping),
+    ];
+    for (name, line) in lines {
+        println!("{name}: {}", line.escape_ascii());
+    }
+}
+
+/// Parts stored lines into questions and what is given for them. Where nothing
+/// is given the line is empty.
+fn split(questions: &str, answers: &str, names: &[&str]) -> Result<bool, String> {
+    let (mut asked, mut given) = (Vec::new(), Vec::new());
+    for name in names {
+        for line in Lines::read(name)?.all() {
+            let stored = files::stored(line).map_err(|error| format!("{name}: {error}"))?;
+            if let Some(stored) = stored {
+                asked.extend(stored.question);
+                asked.push(b'\n');
+                given.extend(stored.answer);
+                given.push(b'\n');
+            }
+        }
+    }
+    fs::write(questions, asked).map_err(|error| format!("{questions}: {error}"))?;
+    fs::write(answers, given).map_err(|error| format!("{answers}: {error}"))?;
+    Ok(true)
+}
+
+/// Prints the answers of a stored list: the checked oracle's, or the given one
+/// where the crate has none or the difference is a listed exception.
+fn store(cases: &[Case]) -> Result<bool, String> {
+    let mut answers = Vec::new();
+    for case in cases {
+        let given = !case.ours.is_empty();
+        let fits = if given {
+            // What the oracle says need not be given.
+            case.checked == b"no answer" || matches!(verdict(case), Verdict::Exception(_))
+        } else {
+            let theirs = Case {
+                ours: case.checked,
+                ..*case
+            };
+            case.checked != b"no answer" && verdict(&theirs) != Verdict::Unexplained
+        };
+        if !fits {
+            let question = case.question.escape_ascii();
+            let (ours, theirs) = (case.ours.escape_ascii(), case.checked.escape_ascii());
+            return Err(format!(
+                "no listed exception: {question} | {ours} (oracle: {theirs})"
+            ));
+        }
+        answers.extend_from_slice(if given { case.ours } else { case.checked });
+        answers.push(b'\n');
+    }
+    let written = io::stdout().write_all(&answers);
+    written.map_err(|error| error.to_string())?;
+    Ok(true)
+}
+
+/// Compares both builds with what is expected, shows every difference.
+/// `checked: ANSWER | wrapping: ANSWER` is expected where the builds differ.
+fn cases(cases: &[Case]) -> Result<bool, String> {
+    let mut wrong = 0;
+    for case in cases {
+        let (checked, wrapping) = expected(case.ours);
+        if case.checked != checked || case.wrapping != wrapping {
+            wrong += 1;
+            show(case, "expected");
+        }
+    }
+    println!("cases {} wrong {wrong}", cases.len());
+    Ok(wrong == 0)
+}
+
+/// What each build is to answer.
+fn expected(text: &[u8]) -> (&[u8], &[u8]) {
+    let unlike = text.strip_prefix(b"checked: ").and_then(|rest| {
+        let bar = b" | wrapping: ";
+        let place = rest.windows(bar.len()).position(|part| part == bar)?;
+        Some((&rest[..place], &rest[place + bar.len()..]))
+    });
+    unlike.unwrap_or((text, text))
+}

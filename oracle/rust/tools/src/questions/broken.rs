@@ -1,0 +1,157 @@
+//! Broken lines: a good question with one rule of a well-formed line broken.
+//! A few stay good, to stand beside those that are not.
+
+use crate::random::{hex, Random};
+
+/// The longest recording that a line may carry, in bytes.
+const MOST_BYTES: u64 = 65_536;
+
+/// Breaks a question whose words are given: the name first, the recording
+/// last.
+pub fn broken(words: &[&str], random: &mut Random) -> Vec<u8> {
+    // Long lines are rare, for they are long.
+    if random.once_in(500) {
+        return long(words, random);
+    }
+    match random.below(6) {
+        0 => spaces(words, random),
+        1 => count(words, random),
+        2 => name(words, random),
+        3 => recording(words, random),
+        4 => number(words, random),
+        _ => bytes(words, random),
+    }
+}
+
+fn joined(words: &[&str]) -> Vec<u8> {
+    words.join(" ").into_bytes()
+}
+
+/// The words with one of them replaced.
+fn with(words: &[&str], place: usize, word: &str) -> Vec<u8> {
+    let mut words = words.to_vec();
+    words[place] = word;
+    joined(&words)
+}
+
+/// Words not parted by exactly one space.
+fn spaces(words: &[&str], random: &mut Random) -> Vec<u8> {
+    let line = words.join(" ");
+    let text = match random.below(7) {
+        0 => format!(" {line}"),
+        1 => format!("{line} "),
+        2 => line.replacen(' ', "  ", 1),
+        3 => words.join("  "),
+        4 => line.replacen(' ', "\t", 1),
+        5 => words.join("\t"),
+        _ => line.replacen(' ', "", 1),
+    };
+    text.into_bytes()
+}
+
+/// A word too few or too many, or none at all.
+fn count(words: &[&str], random: &mut Random) -> Vec<u8> {
+    let last = words.len() - 1;
+    match random.below(6) {
+        0 => Vec::new(),
+        1 => b" ".to_vec(),
+        2 => joined(&words[..last]),
+        3 => joined(&words[..1]),
+        4 => [joined(words), b" 0".to_vec()].concat(),
+        _ => joined(&words[1..]),
+    }
+}
+
+/// A word that names no question.
+fn name(words: &[&str], random: &mut Random) -> Vec<u8> {
+    let name = words[0];
+    let word = match random.below(6) {
+        0 => name.to_uppercase(),
+        1 => name[..name.len() - 1].to_string(),
+        2 => format!("{name}s"),
+        3 => format!("{}{}", name[..1].to_uppercase(), &name[1..]),
+        4 => "-".to_string(),
+        _ => "unknown".to_string(),
+    };
+    with(words, 0, &word)
+}
+
+/// A recording that is no run of pairs of hex digits.
+fn recording(words: &[&str], random: &mut Random) -> Vec<u8> {
+    let last = words.len() - 1;
+    let good = if words[last] == "-" {
+        "AE80"
+    } else {
+        words[last]
+    };
+    let cut = &good[..good.len() - 1];
+    let word = match random.below(10) {
+        0 => cut.to_string(),
+        1 => format!("{good}0"),
+        2 => format!("0x{good}"),
+        3 => format!("{cut}G"),
+        4 => format!("{good}-"),
+        5 => format!("-{good}"),
+        6 => "--".to_string(),
+        7 => format!("{good},{good}"),
+        // These two are good.
+        8 => good.to_lowercase(),
+        _ => "-".to_string(),
+    };
+    with(words, last, &word)
+}
+
+/// A number that is none, or none of 64 bits.
+fn number(words: &[&str], random: &mut Random) -> Vec<u8> {
+    let numbers: Vec<usize> = (1..words.len() - 1).collect();
+    if numbers.is_empty() {
+        return count(words, random);
+    }
+    let place = random.one_of(&numbers);
+    let good = words[place];
+    let word = match random.below(13) {
+        0 => "18446744073709551616".to_string(),
+        1 => "99999999999999999999".to_string(),
+        2 => "000000000000000000000".to_string(),
+        3 => "100000000000000000000".to_string(),
+        4 => format!("+{good}"),
+        5 => format!("-{good}"),
+        6 => format!("0x{good}"),
+        7 => format!("{good}.0"),
+        8 => format!("{good}A"),
+        9 => "-".to_string(),
+        10 => format!("{good},0"),
+        // These two are good.
+        11 => "18446744073709551615".to_string(),
+        _ => format!("{good:0>20}"),
+    };
+    with(words, place, &word)
+}
+
+/// A byte that belongs to no word.
+fn bytes(words: &[&str], random: &mut Random) -> Vec<u8> {
+    let mut line = joined(words);
+    let byte = random.one_of(b"\r\r\r\x00\t\x0B\x0C\x7F\x80\xC3\xFF\"'#/");
+    let length = line.len();
+    let place = match random.below(4) {
+        0 => 0,
+        1 => random.below(length as u64) as usize,
+        _ => length,
+    };
+    line.insert(place, byte);
+    line
+}
+
+/// Recordings of the greatest length and a little more, and endless words.
+fn long(words: &[&str], random: &mut Random) -> Vec<u8> {
+    let last = words.len() - 1;
+    let word = match random.below(6) {
+        0 => hex(&random.bytes(MOST_BYTES)),
+        1 => hex(&random.bytes(MOST_BYTES + 1)),
+        2 => "00".repeat(MOST_BYTES as usize),
+        3 => format!("{}8", "0".repeat(2 * MOST_BYTES as usize)),
+        4 => "A".repeat(1_500_000),
+        _ => return vec![b' '; 300_000],
+    };
+    with(words, last, &word)
+}
