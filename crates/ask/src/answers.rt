@@ -1,6 +1,7 @@
 // The questions, and how each answer is told.
-ghost use Prim.Native.Nat.{_≤_};
+ghost use Rattle.ask.specs.Bounds.{Fits};
 use crate::out;
+use crate::out::Held;
 use crate::words;
 use crate::words::Count;
 use crate::words::Spelt;
@@ -13,10 +14,10 @@ pub fn answer(
     too_long: bool,
     recording: &mut [u8; 65536],
     out: &mut [u8; 65536],
-    held: usize,
-) -> usize
-    requires { ⌜ held ≤ 65536 ⌝ }
-    ensures { λ r. ⌜ r ≤ 65536 ⌝ }
+    held: Held,
+) -> Held
+    requires { ⌜ Fits held ⌝ }
+    ensures { λ r. ⌜ Fits r ⌝ }
 {
     if too_long {
         return bad(out, held);
@@ -32,17 +33,17 @@ pub fn answer(
 }
 
 // The answer to a line that is no question.
-fn bad(out: &mut [u8; 65536], held: usize) -> usize
-    requires { ⌜ held ≤ 65536 ⌝ }
-    ensures { λ r. ⌜ r ≤ 65536 ⌝ }
+fn bad(out: &mut [u8; 65536], held: Held) -> Held
+    requires { ⌜ Fits held ⌝ }
+    ensures { λ r. ⌜ Fits r ⌝ }
 {
     out::put(out, held, b"bad question\n")
 }
 
 // `refused N`, and for 8 the id.
-fn refused(refusal: Refusal, out: &mut [u8; 65536], held: usize) -> usize
-    requires { ⌜ held ≤ 65536 ⌝ }
-    ensures { λ r. ⌜ r ≤ 65536 ⌝ }
+fn refused(refusal: Refusal, out: &mut [u8; 65536], held: Held) -> Held
+    requires { ⌜ Fits held ⌝ }
+    ensures { λ r. ⌜ Fits r ⌝ }
 {
     let n = out::put(out, held, b"refused ");
     let n = out::put_decimal(out, n, refusal.number as u64);
@@ -54,9 +55,9 @@ fn refused(refusal: Refusal, out: &mut [u8; 65536], held: usize) -> usize
 }
 
 // `header AT BYTES`
-fn header(line: &[u8], recording: &mut [u8; 65536], out: &mut [u8; 65536], held: usize) -> usize
-    requires { ⌜ held ≤ 65536 ⌝ }
-    ensures { λ r. ⌜ r ≤ 65536 ⌝ }
+fn header(line: &[u8], recording: &mut [u8; 65536], out: &mut [u8; 65536], held: Held) -> Held
+    requires { ⌜ Fits held ⌝ }
+    ensures { λ r. ⌜ Fits r ⌝ }
 {
     match words::decimal(words::word(line, 1)) {
         Count::Bad => bad(out, held),
@@ -71,9 +72,10 @@ fn header(line: &[u8], recording: &mut [u8; 65536], out: &mut [u8; 65536], held:
     }
 }
 
-fn header_told(reply: HeaderReply, out: &mut [u8; 65536], held: usize) -> usize
-    requires { ⌜ held ≤ 65536 ⌝ }
-    ensures { λ r. ⌜ r ≤ 65536 ⌝ }
+// `id ID size N length N`, or the refusal.
+fn header_told(reply: HeaderReply, out: &mut [u8; 65536], held: Held) -> Held
+    requires { ⌜ Fits held ⌝ }
+    ensures { λ r. ⌜ Fits r ⌝ }
 {
     match reply {
         HeaderReply::Refused(refusal) => {

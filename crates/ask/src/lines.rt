@@ -4,6 +4,8 @@ ghost use lib.ListN.{length};
 ghost use Rattle.ask.specs.Bounds.{Behind, Roomy, Within};
 use crate::answers;
 use crate::out;
+use crate::out::Held;
+use crate::words;
 
 // Room for the longest line that is a question, and more. A longer line is none.
 const ROOM: usize = 1_048_576;
@@ -16,14 +18,15 @@ struct State {
     more: bool,
 }
 
-// After the finished lines were answered: where the unfinished one begins, how many bytes of answers
-// are gathered, and whether the unfinished line began before the room.
+// After the finished lines were answered: where the unfinished one begins, the answers that are gathered,
+// and whether the unfinished line began before the room.
 struct Answered {
     from: usize,
-    gathered: usize,
+    gathered: Held,
     too_long: bool,
 }
 
+// Answers every line, until the input ends or an answer can't be written.
 pub fn answer_all() {
     let mut room = [0u8; 1_048_576];
     let mut recording = [0u8; 65536];
@@ -117,7 +120,8 @@ fn answer_some(
 {
     let whole: &[u8] = room;
     let answered = answer_lines(&whole[..filled], state.held, state.too_long, recording, out);
-    let written = out::flush(out, answered.gathered);
+    let gathered = answered.gathered;
+    let written = out::flush(out, gathered);
     let from = answered.from;
     let left = filled - from;
     keep(room, from, left);
@@ -151,7 +155,13 @@ fn answer_last(
         }
     }
     let whole: &[u8] = room;
-    let gathered = answers::answer(&whole[..held], state.too_long, recording, out, 0);
+    let gathered = answers::answer(
+        &whole[..held],
+        state.too_long,
+        recording,
+        out,
+        out::nothing(),
+    );
     out::flush(out, gathered);
 }
 
@@ -169,9 +179,9 @@ fn answer_lines(
     let mut from: usize = 0;
     let mut scanned = old;
     let mut cut = too_long;
-    let mut gathered: usize = 0;
+    let mut gathered = out::nothing();
     while scanned < read.len() {
-        let end = line_end(read, scanned);
+        let end = words::find(read, scanned, b'\n');
         if end == read.len() {
             return Answered {
                 from,
@@ -189,21 +199,6 @@ fn answer_lines(
         gathered,
         too_long: cut,
     }
-}
-
-// The place of the next line feed, or the end.
-fn line_end(read: &[u8], from: usize) -> usize
-    requires { ⌜ from ≤ length (now read) ⌝ }
-    ensures { λ r. ⌜ (from ≤ r) × (r ≤ length (now (read .entry))) ⌝ }
-{
-    let mut i = from;
-    while i < read.len() {
-        if read[i] == b'\n' {
-            return i;
-        }
-        i += 1;
-    }
-    i
 }
 
 // Moves the n bytes from `from` on to the start of the room.

@@ -1,73 +1,108 @@
-// Gathers what the program writes, and hands it on in large pieces. Each function takes how many bytes
-// the buffer holds and answers how many it holds then.
-ghost use Prim.Native.Nat.{_≤_, _<_};
+// Gathers what the program writes, and hands it on in large pieces.
+ghost use mathlib.Core.Path.{_≡_};
+ghost use Prim.Native.Nat.{_<_};
+ghost use lib.ListN.{length};
+ghost use Rattle.ask.specs.Bounds.{Fits};
 
 pub const ROOM: usize = 65536;
 
-// Room for one byte more: a full buffer is written away.
-fn room_for_one(out: &mut [u8; 65536], held: usize) -> usize
-    requires { ⌜ held ≤ 65536 ⌝ }
-    ensures { λ r. ⌜ r < 65536 ⌝ }
+// How many bytes the buffer holds, and whether a write failed: then nothing more is written.
+pub struct Held {
+    pub count: usize,
+    pub lost: bool,
+}
+
+// An empty buffer.
+pub fn nothing() -> Held
+    ensures { λ r. ⌜ Fits r ⌝ }
 {
-    if held < ROOM {
+    Held {
+        count: 0,
+        lost: false,
+    }
+}
+
+// Room for one byte more: a full buffer is written away.
+fn room_for_one(out: &mut [u8; 65536], held: Held) -> Held
+    requires { ⌜ Fits held ⌝ }
+    ensures { λ r. ⌜ r .count < 65536 ⌝ }
+{
+    if held.count < ROOM {
         return held;
     }
-    io::write_all(1, out);
-    0
+    if held.lost {
+        return Held {
+            count: 0,
+            lost: true,
+        };
+    }
+    let written = io::write_all(1, out);
+    Held {
+        count: 0,
+        lost: !written,
+    }
 }
 
-fn put_one(out: &mut [u8; 65536], held: usize, byte: u8) -> usize
-    requires { ⌜ held ≤ 65536 ⌝ }
-    ensures { λ r. ⌜ r ≤ 65536 ⌝ }
+fn put_one(out: &mut [u8; 65536], held: Held, byte: u8) -> Held
+    requires { ⌜ Fits held ⌝ }
+    ensures { λ r. ⌜ Fits r ⌝ }
 {
-    let at = room_for_one(out, held);
+    let room = room_for_one(out, held);
+    let at = room.count;
     out[at] = byte;
-    at + 1
+    let next = at + 1;
+    Held {
+        count: next,
+        lost: room.lost,
+    }
 }
 
-pub fn put(out: &mut [u8; 65536], held: usize, bytes: &[u8]) -> usize
-    requires { ⌜ held ≤ 65536 ⌝ }
-    ensures { λ r. ⌜ r ≤ 65536 ⌝ }
+// Bytes as they are.
+pub fn put(out: &mut [u8; 65536], held: Held, bytes: &[u8]) -> Held
+    requires { ⌜ Fits held ⌝ }
+    ensures { λ r. ⌜ Fits r ⌝ }
 {
-    let mut n = held;
+    let mut now = held;
     let mut i: usize = 0;
     while i < bytes.len() {
-        n = put_one(out, n, bytes[i]);
+        now = put_one(out, now, bytes[i]);
         i += 1;
     }
-    n
+    now
 }
 
-pub fn put_decimal(out: &mut [u8; 65536], held: usize, value: u64) -> usize
-    requires { ⌜ held ≤ 65536 ⌝ }
-    ensures { λ r. ⌜ r ≤ 65536 ⌝ }
+// A number in decimal digits.
+pub fn put_decimal(out: &mut [u8; 65536], held: Held, value: u64) -> Held
+    requires { ⌜ Fits held ⌝ }
+    ensures { λ r. ⌜ Fits r ⌝ }
 {
     let mut text = [0u8; 20];
     let k = io::decimal(value, &mut text);
     put(out, held, &text[..k])
 }
 
-// Hexadecimal digits in upper case, with no zeros in front.
-pub fn put_hex(out: &mut [u8; 65536], held: usize, value: u64) -> usize
-    requires { ⌜ held ≤ 65536 ⌝ }
-    ensures { λ r. ⌜ r ≤ 65536 ⌝ }
+// A number in hexadecimal digits, upper case, with no zeros in front.
+pub fn put_hex(out: &mut [u8; 65536], held: Held, value: u64) -> Held
+    requires { ⌜ Fits held ⌝ }
+    ensures { λ r. ⌜ Fits r ⌝ }
 {
     let mut text = [0u8; 16];
     let k = io::hex(value, 1, &mut text);
-    put_capitals(out, held, &text[..k])
+    let raised = capitals(text);
+    put(out, held, &raised[..k])
 }
 
-fn put_capitals(out: &mut [u8; 65536], held: usize, bytes: &[u8]) -> usize
-    requires { ⌜ held ≤ 65536 ⌝ }
-    ensures { λ r. ⌜ r ≤ 65536 ⌝ }
+// The same text with capitals for its small letters.
+fn capitals(text: [u8; 16]) -> [u8; 16]
+    ensures { λ r. ⌜ length r ≡ length text ⌝ }
 {
-    let mut n = held;
+    let mut raised = text;
     let mut i: usize = 0;
-    while i < bytes.len() {
-        n = put_one(out, n, capital(bytes[i]));
+    while i < 16 {
+        raised[i] = capital(raised[i]);
         i += 1;
     }
-    n
+    raised
 }
 
 fn capital(b: u8) -> u8 {
@@ -77,10 +112,17 @@ fn capital(b: u8) -> u8 {
     }
 }
 
-// Writes away what the buffer holds.
-pub fn flush(out: &[u8; 65536], held: usize) -> bool
-    requires { ⌜ held ≤ 65536 ⌝ }
+// Writes away what the buffer holds, and answers whether all was written. A failure is told.
+pub fn flush(out: &[u8; 65536], held: Held) -> bool
+    requires { ⌜ Fits held ⌝ }
 {
     let whole: &[u8] = out;
-    io::write_all(1, &whole[..held])
+    let count = held.count;
+    if !held.lost {
+        if io::write_all(1, &whole[..count]) {
+            return true;
+        }
+    }
+    io::write_all(2, b"ask: standard output can't be written\n");
+    false
 }

@@ -18,14 +18,14 @@ pub enum Spelt {
     Bad,
 }
 
-// Where the word that begins at `from` ends: at the next space, or with the line.
-fn word_end(line: &[u8], from: usize) -> usize
-    requires { ⌜ from ≤ length (now line) ⌝ }
-    ensures { λ r. ⌜ (from ≤ r) × (r ≤ length (now (line .entry))) ⌝ }
+// The place of the next byte of that value from `from` on, or the end.
+pub fn find(bytes: &[u8], from: usize, byte: u8) -> usize
+    requires { ⌜ from ≤ length (now bytes) ⌝ }
+    ensures { λ r. ⌜ (from ≤ r) × (r ≤ length (now (bytes .entry))) ⌝ }
 {
     let mut i = from;
-    while i < line.len() {
-        if line[i] == b' ' {
+    while i < bytes.len() {
+        if bytes[i] == byte {
             return i;
         }
         i += 1;
@@ -38,7 +38,7 @@ pub fn word_count(line: &[u8]) -> usize {
     let mut words: usize = 1;
     let mut at: usize = 0;
     while at < line.len() {
-        let end = word_end(line, at);
+        let end = find(line, at, b' ');
         if end == line.len() {
             return words;
         }
@@ -53,14 +53,14 @@ pub fn word(line: &[u8], k: usize) -> &[u8] {
     let mut at: usize = 0;
     let mut i: usize = 0;
     while i < k {
-        let space = word_end(line, at);
+        let space = find(line, at, b' ');
         if space == line.len() {
             return &line[space..];
         }
         at = space + 1;
         i += 1;
     }
-    let end = word_end(line, at);
+    let end = find(line, at, b' ');
     &line[at..end]
 }
 
@@ -79,12 +79,9 @@ pub fn same(a: &[u8], b: &[u8]) -> bool {
     true
 }
 
-// A decimal number of 1 to 20 digits that fits 64 bits.
+// A decimal number that fits 64 bits.
 pub fn decimal(word: &[u8]) -> Count {
     if word.len() == 0 {
-        return Count::Bad;
-    }
-    if 20 < word.len() {
         return Count::Bad;
     }
     let mut value: u64 = 0;

@@ -12,6 +12,7 @@ use lib.Dec.{ltb}
 use borrow.Author.Tests.{ltb-true, ltb-false}
 use lib.Pow.{pow-add, pow-mono}
 use Rattle.header.specs.Vint.{bigEndian, bigEndianFrom}
+use Rattle.header.specs.Theorems.{Octets}
 
 from-last : (a : ℕ) (xs : List ℕ) (b : ℕ) → bigEndianFrom a (xs ++ (b ∷ [])) ≡ bigEndianFrom a xs * 256 + b
 unfolding bigEndianFrom
@@ -39,10 +40,6 @@ fits-in n m v h k =
     omega arith
 
 -- ---- octets and the numbers that they are
-
--- each number of the list is an octet
-abbrev pub Octets : List ℕ → Type 0
-Octets s = (i : ℕ) → getD s i 0 < 256
 
 pub octets-drop : (s : List ℕ) → Octets s → (n : ℕ) → Octets (drop n s)
 octets-drop s o n i = rw (getD-drop n s i 0) (o (n + i))

@@ -1,8 +1,9 @@
--- The octets of an accepted header are determined by its id, its size and its length. Assumes nothing.
+-- The octets of an accepted header are determined by its id, its size and its length (`Determined`).
+-- Assumes nothing.
 use Prim.Native.Nat.{ℕ, suc, _+_, _-_, _*_, _%_, _^_, _≤_, _<_}
 use mathlib.Core.Path.{_≡_, refl, sym, ap, _∙_, subst}
 use mathlib.Core.List.{List, [], _∷_}
-use mathlib.Core.Bool.{Bool, true, false}
+use mathlib.Core.Bool.{Bool, true, false, cond}
 use native.Mathlib.Omega.{arith}
 use native.Mathlib.Numerals.{add-one}
 use native.Mathlib.Nat.{mul-le-mul-right}
@@ -14,13 +15,14 @@ use lib.Seq.{length-take-le, take-add}
 use lib.Dec.{ltb, leb, eqb}
 use borrow.Author.Tests.{ltb-true, leb-true, eqb-true, eqb-false}
 use Rattle.header.specs.Vint.{Width, unmarked, zeros, oneMore, widthOf, bits, bigEndian, bigEndianFrom}
-use Rattle.header.specs.Vint.{Vint, vint, ends, long, pickVint, ofWidth, vintOf, vintData}
+use Rattle.header.specs.Vint.{Vint, vint, ends, long, ofWidth, vintOf, vintData}
 use Rattle.header.specs.Header.{Heading, heading, refused, sized, named, headerOf}
 use Rattle.header.specs.Reads.{headerRead, headerAt}
+use Rattle.header.specs.Theorems.{Octets, Determined}
 use Rattle.header.specs.declared.cursor.Cursor.{Cursor}
 use Rattle.header.specs.declared.cursor.Header.{Header}
 use Rattle.header.specs.declared.cursor.HeaderRead.the-variants.{Read}
-use Rattle.header.proofs.BigEndian.{Octets, octets-drop, octets-take, from-same, from-range}
+use Rattle.header.proofs.BigEndian.{octets-drop, octets-take, from-same, from-range}
 use Rattle.header.proofs.Widths.{eight, width-end, width-zero, width-one}
 
 -- ---- a VINT that was read
@@ -40,7 +42,7 @@ made most n v s unmarked q = let x : _≡_ {A = ℕ} 0 1 = cc in absurd (omega a
 made most n v s (zeros z) q = go (ltb z most) refl (leb (z + 1) (length s)) refl q
   where
     go : (b : Bool) → ltb z most ≡ b → (c : Bool) → leb (z + 1) (length s) ≡ c
-        → pickVint b (pickVint c (vint (z + 1) (bigEndian (take (z + 1) s))) ends) long ≡ vint n v
+        → cond b (cond c (vint (z + 1) (bigEndian (take (z + 1) s))) ends) long ≡ vint n v
         → Made most s (zeros z) n v
     go true d true e w =
         let some = ltb-true z most d in
@@ -84,12 +86,12 @@ first (b ∷ bs) z o l q = go (eqb b 0) refl
         record { octet = b; rest = bs; is = refl; lo = rw c lo; hi = rw d hi }
 
 -- a VINT of n octets and value v at the head of s: its marker is the highest bit of 7 * n + 1
-pub record Number (s : List ℕ) (n v : ℕ) : Type 0 where
-  pub some-octets : 1 ≤ n
-  pub there : n ≤ length s
-  pub value : v ≡ bigEndian (take n s)
-  pub low : 2 ^ (7 * n) ≤ v
-  pub high : v < 2 ^ (7 * n + 1)
+record Number (s : List ℕ) (n v : ℕ) : Type 0 where
+  some-octets : 1 ≤ n
+  there : n ≤ length s
+  value : v ≡ bigEndian (take n s)
+  low : 2 ^ (7 * n) ≤ v
+  high : v < 2 ^ (7 * n + 1)
 
 marker : (b z : ℕ) (bs : List ℕ) → Octets bs → z < 8 → z ≤ length bs → 2 ^ (7 - z) ≤ b → b < 2 ^ (8 - z)
     → (2 ^ (7 * (z + 1)) ≤ bigEndian (take (suc z) (b ∷ bs)))
@@ -202,10 +204,10 @@ joined s t f g id n m v a b c d =
     )
     (sym (take-add n m t))
 
-pub header-determined : (s t : List ℕ) → Octets s → Octets t → (h : Header)
+same-octets : (s t : List ℕ) → Octets s → Octets t → (h : Header)
     → headerOf s ≡ heading h → headerOf t ≡ heading h
     → take (h .length) s ≡ take (h .length) t
-header-determined s t f g h q r =
+same-octets s t f g h q r =
     let a = parts s f h q in
     let b = parts t g h r in
     let e : b .n ≡ a .n = number-length t s (b .n) (a .n) (h .id) (b .named) (a .named) in
@@ -228,11 +230,9 @@ unfolding headerRead
 read-heading at h next (heading k) q = cc
 read-heading at h next (refused e) q = let x : _≡_ {A = ℕ} 0 1 = cc in absurd (omega arith)
 
-pub header-at-determined : (s t : List ℕ) → Octets s → Octets t → (a b : ℕ) (h : Header) (next next′ : Cursor)
-    → headerAt s a ≡ Read h next → headerAt t b ≡ Read h next′
-    → take (h .length) (drop a s) ≡ take (h .length) (drop b t)
+pub header-determined : Determined
 unfolding headerAt
-header-at-determined s t f g a b h next next′ q r =
-    header-determined (drop a s) (drop b t) (octets-drop s f a) (octets-drop t g b) h
+header-determined s t f g a b h next next′ q r =
+    same-octets (drop a s) (drop b t) (octets-drop s f a) (octets-drop t g b) h
     (read-heading a h next (headerOf (drop a s)) q)
     (read-heading b h next′ (headerOf (drop b t)) r)

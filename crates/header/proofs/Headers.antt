@@ -3,7 +3,7 @@ use mathlib.Core.Path.{_≡_, refl, ap, _∙_, sym}
 use mathlib.Core.List.{List}
 use Prim.Native.Nat.{ℕ, _+_}
 use native.Mathlib.Nat.{add-assoc}
-use lib.ListN.{length, drop}
+use lib.ListN.{drop}
 use lib.Seq.{drop-drop}
 use Rattle.header.specs.Vint.{Vint, vint, ends, long, vintOf, vintData}
 use Rattle.header.specs.Refusals.{pastEnd, invalidId, invalidSize}

@@ -1,10 +1,9 @@
--- Any two replies that `header_at` may give to the same question are equal. Assumes nothing.
+-- Any two replies that `header_at` may give to one question are equal (`OneReply`). Assumes nothing.
 use mathlib.Core.Path.{_≡_, ap, _∙_, sym}
-use mathlib.Core.List.{List}
 use Prim.Native.Nat.{ℕ}
 use native.Mathlib.Omega.{arith}
 use Rattle.header.specs.Reply.{told}
-use Rattle.header.specs.Promise.{HeaderPromise}
+use Rattle.header.specs.Theorems.{OneReply}
 use Rattle.header.specs.declared.cursor.Header.{Header}
 use Rattle.header.specs.declared.refusal.Refusal.{Refusal}
 use Rattle.header.specs.declared.reply.HeaderReply.{HeaderReply}
@@ -27,5 +26,5 @@ told-once (HeaderIs h) (Refused e) q = let x : _≡_ {A = ℕ} 0 1 = cc in absur
 told-once (Refused e) (HeaderIs h) q = let x : _≡_ {A = ℕ} 0 1 = cc in absurd (omega arith)
 told-once (Refused e) (Refused e′) q = ap Refused (same-refusal e e′ (cc) (cc))
 
-pub header-unique : (s : List ℕ) (at : ℕ) (r r′ : HeaderReply) → HeaderPromise s at r → HeaderPromise s at r′ → r ≡ r′
+pub header-unique : OneReply
 header-unique s at r r′ p q = told-once r r′ (p .reply ∙ sym (q .reply))

@@ -6,3 +6,4 @@ pub mod Reads
 pub mod Reply
 pub mod Promise
 pub mod Cases
+pub mod Theorems

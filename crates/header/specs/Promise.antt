@@ -2,7 +2,7 @@
 use Prim.Native.Nat.{ℕ}
 use mathlib.Core.Path.{_≡_}
 use mathlib.Core.List.{List}
-use mathlib.Core.Bool.{Bool, true, false, _&&_}
+use mathlib.Core.Bool.{_&&_, cond}
 use lib.ListN.{length, drop}
 use lib.Dec.{leb}
 use Rattle.header.specs.Header.{Heading, heading, refused, headerOf}
@@ -18,14 +18,11 @@ abbrev pub replyOf : Heading → Reply
 replyOf (heading h) = accepted (valuesOf h)
 replyOf (refused e) = refusalOf e
 
-abbrev pub unless14 : Bool → Reply → Reply
-unless14 true r = r
-unless14 false r = refusalOf badArgument
-
 -- The reply to the question for a header at a place: 14 for a recording that is too long or a place past its
 -- end, else what stands there.
 unfoldable pub headerReply : List ℕ → ℕ → Reply
-headerReply s at = unless14 (leb (length s) mostBytes && leb at (length s)) (replyOf (headerOf (drop at s)))
+headerReply s at =
+    cond (leb (length s) mostBytes && leb at (length s)) (replyOf (headerOf (drop at s))) (refusalOf badArgument)
 
 pub record HeaderPromise (s : List ℕ) (at : ℕ) (r : HeaderReply) : Type 0 where
   pub reply : told r ≡ headerReply s at

@@ -1,7 +1,7 @@
 -- What each read of a `Cursor` answers: the definition at the octets from its place on, with the next place.
 use Prim.Native.Nat.{ℕ, _+_, _*_, _^_, _≤_, _<_, min}
 use mathlib.Core.List.{List}
-use mathlib.Core.Bool.{Bool, true, false}
+use mathlib.Core.Bool.{Bool, true, false, cond}
 use lib.ListN.{length, take, drop}
 use lib.Dec.{leb}
 use Rattle.header.specs.Vint.{Width, unmarked, zeros, widthOf, bits, Vint, vint, ends, long, vintOf, bigEndian}
@@ -27,13 +27,9 @@ unfoldable pub octetsOf : Width → ℕ
 octetsOf unmarked = 0
 octetsOf (zeros z) = min (z + 1) 9
 
-abbrev pub pickNumber : Bool → NumberRead → NumberRead → NumberRead
-pickNumber true a b = a
-pickNumber false a b = b
-
 unfoldable pub numberAt : List ℕ → ℕ → ℕ → NumberRead
 numberAt s at n =
-    pickNumber (leb (at + n) (length s)) (Number (bigEndian (take n (drop at s))) (record { at = at + n })) NumberEnds
+    cond (leb (at + n) (length s)) (Number (bigEndian (take n (drop at s))) (record { at = at + n })) NumberEnds
 
 unfoldable pub vintRead : ℕ → Vint → VintRead
 vintRead at (vint n value) = VintIs n value (record { at = at + n })

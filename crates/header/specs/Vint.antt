@@ -1,7 +1,7 @@
 -- The variable-size integer (VINT) of RFC 8794, section 4, at the head of some octets.
 use Prim.Native.Nat.{ℕ, suc, _+_, _*_, _/_, _%_, _^_}
 use mathlib.Core.List.{List, [], _∷_, _++_}
-use mathlib.Core.Bool.{Bool, true, false}
+use mathlib.Core.Bool.{Bool, true, false, cond}
 use lib.ListN.{length, take}
 use lib.Dec.{ltb, leb, eqb}
 
@@ -50,16 +50,12 @@ pub data Vint : Type 0 where
   -- the marker stands too far back: the VINT has more octets than it may
   long : Vint
 
-abbrev pub pickVint : Bool → Vint → Vint → Vint
-pickVint true a b = a
-pickVint false a b = b
-
 -- VINT_WIDTH and VINT_MARKER have together as many bits as the VINT has octets (4.1).
 unfoldable pub ofWidth : ℕ → List ℕ → Width → Vint
 ofWidth most s unmarked = ends
 ofWidth most s (zeros z) =
-    pickVint (ltb z most)
-    (pickVint (leb (z + 1) (length s)) (vint (z + 1) (bigEndian (take (z + 1) s))) ends)
+    cond (ltb z most)
+    (cond (leb (z + 1) (length s)) (vint (z + 1) (bigEndian (take (z + 1) s))) ends)
     long
 
 -- The VINT of at most `most` octets at the head of the octets s.

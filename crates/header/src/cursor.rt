@@ -44,6 +44,7 @@ pub enum HeaderRead {
     Refused(Refusal),
 }
 
+// A byte as a wider number; apart, so that a byte that was read asks for no proof that it fits.
 fn wide(x: u8) -> u64
     ensures { λ r. ⌜ r ≡ x ⌝ }
 {

@@ -231,9 +231,9 @@ pub fn parse(line: &[u8]) -> Option<Question> {
     })
 }
 
-/// A decimal number of 1 to 20 digits that fits in 64 bits.
+/// A decimal number that fits in 64 bits, zeros in front or not.
 fn number(word: &[u8]) -> Option<u64> {
-    if word.is_empty() || word.len() > 20 {
+    if word.is_empty() {
         return None;
     }
     word.iter().try_fold(0u64, |sum, digit| match digit {
@@ -247,13 +247,14 @@ fn numbers(word: &[u8]) -> Option<u64> {
     number(word).filter(|count| *count <= MOST_NUMBERS)
 }
 
-/// An id or a parent: 1 to 8 hex digits.
+/// An id or a parent: hex digits of a number of at most four bytes.
 fn id(word: &[u8]) -> Option<u32> {
-    if word.is_empty() || word.len() > 8 {
+    if word.is_empty() {
         return None;
     }
-    word.iter()
-        .try_fold(0, |sum, digit| Some(sum << 4 | u32::from(hex(*digit)?)))
+    word.iter().try_fold(0u32, |sum, digit| {
+        sum.checked_mul(16)?.checked_add(u32::from(hex(*digit)?))
+    })
 }
 
 fn hex(digit: u8) -> Option<u8> {

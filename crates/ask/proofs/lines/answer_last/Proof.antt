@@ -14,6 +14,9 @@ slice-aggregate-answer c =
     let a = c .before .before .before .args in
     sym (length-take-le (a .state .held) (a .room .now) (omega arith))
 
+nothing-requires : tie.Need-nothing-requires
+nothing-requires c κs = search needs
+
 answer-requires : tie.Need-answer-requires
 answer-requires c κs = search needs
 
@@ -25,4 +28,11 @@ returns-2 c = search needs
 
 pub answer-last-spec : {M : Type 1} → statement M
 answer-last-spec =
-    tie.close (tie.spec returns slice-aggregate-answer answer-requires flush-requires returns-2)
+    tie.close
+    (tie.spec
+    returns
+    slice-aggregate-answer
+    nothing-requires
+    answer-requires
+    flush-requires
+    returns-2)

@@ -2,22 +2,26 @@
 use borrow.Author.Needs.{needs}
 use Prim.Native.Nat.{_≤_, _-_}
 use lib.ListN.{length}
+use Rattle.ask.specs.Bounds.{Fits}
 use Rattle.ask.proofs.lines.answer_lines.Statement.{statement}
 use Rattle.ask.proofs.lines.answer_lines.Tie as tie
 
 abbrev Inv-loop : tie.InvT-loop
 Inv-loop read old too-long recording₀ out₀ from₀ scanned₀ cut₀ gathered₀ recording out from scanned cut gathered =
-    (from ≤ scanned) × (scanned ≤ length read) × (gathered ≤ 65536)
+    (from ≤ scanned) × (scanned ≤ length read) × Fits gathered
 
 abbrev μ-loop : tie.MeasureT-loop
 μ-loop read old too-long recording₀ out₀ from₀ scanned₀ cut₀ gathered₀ recording out from scanned cut gathered =
     length read - scanned
 
+nothing-requires : tie.Need-nothing-requires Inv-loop μ-loop
+nothing-requires c κs = search needs
+
 loop-holds : tie.Need-loop-holds Inv-loop μ-loop
 loop-holds c = search needs
 
-line-end-requires : tie.Need-line-end-requires Inv-loop μ-loop
-line-end-requires c κs = search needs
+find-requires : tie.Need-find-requires Inv-loop μ-loop
+find-requires c κs = search needs
 
 returns : tie.Need-returns Inv-loop μ-loop
 returns c = search needs
@@ -55,8 +59,9 @@ answer-lines-spec =
     (tie.spec
     Inv-loop
     μ-loop
+    nothing-requires
     loop-holds
-    line-end-requires
+    find-requires
     returns
     sub-answer
     part-answer-start

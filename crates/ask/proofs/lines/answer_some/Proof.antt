@@ -28,10 +28,10 @@ flush-requires : tie.Need-flush-requires
 flush-requires c κs = search needs
 
 sub-left : tie.Need-sub-left
-sub-left c = begun (c .before .before)
+sub-left c = begun (c .before .before .before)
 
 keep-requires : tie.Need-keep-requires
-keep-requires c κs = let b = begun (c .before .before .before) in (omega arith, omega arith)
+keep-requires c κs = let b = begun (c .before .before .before .before) in (omega arith, omega arith)
 
 returns : tie.Need-returns
 returns c = search needs

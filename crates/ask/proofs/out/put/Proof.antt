@@ -6,10 +6,10 @@ use Rattle.ask.proofs.out.put.Statement.{statement}
 use Rattle.ask.proofs.out.put.Tie as tie
 
 abbrev Inv-loop : tie.InvT-loop
-Inv-loop out₀ held bytes n₀ i₀ out n i = (n ≤ 65536) × (i ≤ length bytes)
+Inv-loop out₀ bytes now₀ i₀ out now i = (now .count ≤ 65536) × (i ≤ length bytes)
 
 abbrev μ-loop : tie.MeasureT-loop
-μ-loop out₀ held bytes n₀ i₀ out n i = length bytes - i
+μ-loop out₀ bytes now₀ i₀ out now i = length bytes - i
 
 loop-holds : tie.Need-loop-holds Inv-loop μ-loop
 loop-holds c = search needs

@@ -14,9 +14,6 @@ abbrev μ-loop : tie.MeasureT-loop
 returns : tie.Need-returns Inv-loop μ-loop
 returns c = search needs
 
-returns-2 : tie.Need-returns-2 Inv-loop μ-loop
-returns-2 c = search needs
-
 loop-holds : tie.Need-loop-holds Inv-loop μ-loop
 loop-holds c = search needs
 
@@ -26,20 +23,20 @@ shared-slice-read-decimal-digit c = search needs
 decimal-digit-requires : tie.Need-decimal-digit-requires Inv-loop μ-loop
 decimal-digit-requires c κs = search needs
 
+returns-2 : tie.Need-returns-2 Inv-loop μ-loop
+returns-2 c = search needs
+
 returns-3 : tie.Need-returns-3 Inv-loop μ-loop
 returns-3 c = search needs
-
-returns-4 : tie.Need-returns-4 Inv-loop μ-loop
-returns-4 c = search needs
 
 mul-tens : tie.Need-mul-tens Inv-loop μ-loop
 mul-tens c = search needs
 
-sub-if5 : tie.Need-sub-if5 Inv-loop μ-loop
-sub-if5 c = search needs
+sub-if4 : tie.Need-sub-if4 Inv-loop μ-loop
+sub-if4 c = search needs
 
-returns-5 : tie.Need-returns-5 Inv-loop μ-loop
-returns-5 c = search needs
+returns-4 : tie.Need-returns-4 Inv-loop μ-loop
+returns-4 c = search needs
 
 add-value : tie.Need-add-value Inv-loop μ-loop
 add-value c = search needs
@@ -53,8 +50,8 @@ loop-less c = search needs
 loop-again : tie.Need-loop-again Inv-loop μ-loop
 loop-again c = search needs
 
-returns-6 : tie.Need-returns-6 Inv-loop μ-loop
-returns-6 c = search needs
+returns-5 : tie.Need-returns-5 Inv-loop μ-loop
+returns-5 c = search needs
 
 pub decimal-spec : {M : Type 1} → statement M
 decimal-spec =
@@ -63,17 +60,16 @@ decimal-spec =
     Inv-loop
     μ-loop
     returns
-    returns-2
     loop-holds
     shared-slice-read-decimal-digit
     decimal-digit-requires
+    returns-2
     returns-3
-    returns-4
     mul-tens
-    sub-if5
-    returns-5
+    sub-if4
+    returns-4
     add-value
     add-i
     loop-less
     loop-again
-    returns-6)
+    returns-5)

@@ -14,8 +14,8 @@ abbrev μ-loop : tie.MeasureT-loop
 loop-holds : tie.Need-loop-holds Inv-loop μ-loop
 loop-holds c = search needs
 
-word-end-requires : tie.Need-word-end-requires Inv-loop μ-loop
-word-end-requires c κs = search needs
+find-requires : tie.Need-find-requires Inv-loop μ-loop
+find-requires c κs = search needs
 
 sub-result : tie.Need-sub-result Inv-loop μ-loop
 sub-result c = search needs
@@ -41,8 +41,8 @@ loop-less c = search needs
 loop-again : tie.Need-loop-again Inv-loop μ-loop
 loop-again c = search needs
 
-word-end-requires-2 : tie.Need-word-end-requires-2 Inv-loop μ-loop
-word-end-requires-2 c κs = search needs
+find-requires-2 : tie.Need-find-requires-2 Inv-loop μ-loop
+find-requires-2 c κs = search needs
 
 sub-result-2 : tie.Need-sub-result-2 Inv-loop μ-loop
 sub-result-2 c = search needs
@@ -63,7 +63,7 @@ word-spec =
     Inv-loop
     μ-loop
     loop-holds
-    word-end-requires
+    find-requires
     sub-result
     part-result-start
     part-result-end
@@ -72,7 +72,7 @@ word-spec =
     add-i
     loop-less
     loop-again
-    word-end-requires-2
+    find-requires-2
     sub-result-2
     part-result-start-2
     part-result-end-2

@@ -112,7 +112,7 @@ fn number(words: &[&str], random: &mut Random) -> Vec<u8> {
     let word = match random.below(13) {
         0 => "18446744073709551616".to_string(),
         1 => "99999999999999999999".to_string(),
-        2 => "000000000000000000000".to_string(),
+        2 => "000000000000000000018446744073709551616".to_string(),
         3 => "100000000000000000000".to_string(),
         4 => format!("+{good}"),
         5 => format!("-{good}"),
@@ -123,7 +123,7 @@ fn number(words: &[&str], random: &mut Random) -> Vec<u8> {
         10 => format!("{good},0"),
         // These two are good.
         11 => "18446744073709551615".to_string(),
-        _ => format!("{good:0>20}"),
+        _ => format!("{good:0>40}"),
     };
     with(words, place, &word)
 }

@@ -1,15 +1,15 @@
--- `line_end` meets its contract: the place stays between where it began and the end. Assumes nothing.
+-- `find` meets its contract: the place stays between where it began and the end. Assumes nothing.
 use borrow.Author.Needs.{needs}
 use Prim.Native.Nat.{_≤_, _-_}
 use lib.ListN.{length}
-use Rattle.ask.proofs.lines.line_end.Statement.{statement}
-use Rattle.ask.proofs.lines.line_end.Tie as tie
+use Rattle.ask.proofs.words.find.Statement.{statement}
+use Rattle.ask.proofs.words.find.Tie as tie
 
 abbrev Inv-loop : tie.InvT-loop
-Inv-loop read from i₀ i = (from ≤ i) × (i ≤ length read)
+Inv-loop bytes from byte i₀ i = (from ≤ i) × (i ≤ length bytes)
 
 abbrev μ-loop : tie.MeasureT-loop
-μ-loop read from i₀ i = length read - i
+μ-loop bytes from byte i₀ i = length bytes - i
 
 loop-holds : tie.Need-loop-holds Inv-loop μ-loop
 loop-holds c = search needs
@@ -32,8 +32,8 @@ loop-again c = search needs
 returns-2 : tie.Need-returns-2 Inv-loop μ-loop
 returns-2 c = search needs
 
-pub line-end-spec : {M : Type 1} → statement M
-line-end-spec =
+pub find-spec : {M : Type 1} → statement M
+find-spec =
     tie.close
     (tie.spec
     Inv-loop

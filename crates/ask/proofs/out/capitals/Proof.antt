@@ -1,27 +1,28 @@
--- `put_capitals` meets its contract: the buffer never holds more than it has room for. Assumes nothing.
+-- `capitals` meets its contract: a text keeps its length. Assumes nothing.
 use borrow.Author.Needs.{needs}
+use mathlib.Core.Path.{_≡_}
 use Prim.Native.Nat.{_≤_, _-_}
 use lib.ListN.{length}
-use Rattle.ask.proofs.out.put_capitals.Statement.{statement}
-use Rattle.ask.proofs.out.put_capitals.Tie as tie
+use Rattle.ask.proofs.out.capitals.Statement.{statement}
+use Rattle.ask.proofs.out.capitals.Tie as tie
 
 abbrev Inv-loop : tie.InvT-loop
-Inv-loop out₀ held bytes n₀ i₀ out n i = (n ≤ 65536) × (i ≤ length bytes)
+Inv-loop raised₀ i₀ raised i = (i ≤ 16) × (length raised ≡ length raised₀)
 
 abbrev μ-loop : tie.MeasureT-loop
-μ-loop out₀ held bytes n₀ i₀ out n i = length bytes - i
+μ-loop raised₀ i₀ raised i = 16 - i
 
 loop-holds : tie.Need-loop-holds Inv-loop μ-loop
 loop-holds c = search needs
 
-shared-slice-read-capital : tie.Need-shared-slice-read-capital Inv-loop μ-loop
-shared-slice-read-capital c = search needs
+array-read-capital : tie.Need-array-read-capital Inv-loop μ-loop
+array-read-capital c = search needs
 
 capital-requires : tie.Need-capital-requires Inv-loop μ-loop
 capital-requires c κs = search needs
 
-put-one-requires : tie.Need-put-one-requires Inv-loop μ-loop
-put-one-requires c κs = search needs
+array-write-raised : tie.Need-array-write-raised Inv-loop μ-loop
+array-write-raised c = search needs
 
 add-i : tie.Need-add-i Inv-loop μ-loop
 add-i c = search needs
@@ -35,16 +36,16 @@ loop-again c = search needs
 returns : tie.Need-returns Inv-loop μ-loop
 returns c = search needs
 
-pub put-capitals-spec : {M : Type 1} → statement M
-put-capitals-spec =
+pub capitals-spec : {M : Type 1} → statement M
+capitals-spec =
     tie.close
     (tie.spec
     Inv-loop
     μ-loop
     loop-holds
-    shared-slice-read-capital
+    array-read-capital
     capital-requires
-    put-one-requires
+    array-write-raised
     add-i
     loop-less
     loop-again

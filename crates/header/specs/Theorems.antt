@@ -1,0 +1,27 @@
+-- What is proved of the definitions beside the contracts: the statements of the theorems.
+use Prim.Native.Nat.{ℕ, _<_}
+use mathlib.Core.Path.{_≡_}
+use mathlib.Core.List.{List}
+use lib.ListN.{take, drop, getD}
+use Rattle.header.specs.Reads.{headerAt}
+use Rattle.header.specs.Promise.{HeaderPromise}
+use Rattle.header.specs.declared.cursor.Cursor.{Cursor}
+use Rattle.header.specs.declared.cursor.Header.{Header}
+use Rattle.header.specs.declared.cursor.HeaderRead.the-variants.{Read}
+use Rattle.header.specs.declared.reply.HeaderReply.{HeaderReply}
+
+-- Any two replies that the promise permits to one question are equal (document 01, Strength of the promises).
+abbrev pub OneReply : Type 0
+OneReply = (s : List ℕ) (at : ℕ) (r r′ : HeaderReply) → HeaderPromise s at r → HeaderPromise s at r′ → r ≡ r′
+
+-- Each number of the list is an octet, as in every recording.
+abbrev pub Octets : List ℕ → Type 0
+Octets s = (i : ℕ) → getD s i 0 < 256
+
+-- Id, size and length determine a header's octets: two accepted headers that agree in the three, at any places of
+-- any two recordings, are equal octet for octet.
+abbrev pub Determined : Type 0
+Determined =
+    (s t : List ℕ) → Octets s → Octets t → (a b : ℕ) (h : Header) (next next′ : Cursor)
+    → headerAt s a ≡ Read h next → headerAt t b ≡ Read h next′
+    → take (h .length) (drop a s) ≡ take (h .length) (drop b t)
