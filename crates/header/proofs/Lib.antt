@@ -7,4 +7,3 @@ pub mod Headers
 pub mod Replies
 pub mod Unique
 pub mod Determined
-pub mod Cases

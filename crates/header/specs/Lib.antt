@@ -5,5 +5,4 @@ pub mod Header
 pub mod Reads
 pub mod Reply
 pub mod Promise
-pub mod Cases
 pub mod Theorems

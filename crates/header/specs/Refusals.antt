@@ -10,5 +10,17 @@ invalidId = record { number = 2; id = 0 }
 abbrev pub invalidSize : Refusal
 invalidSize = record { number = 3; id = 0 }
 
+abbrev pub invalidUint : Refusal
+invalidUint = record { number = 4; id = 0 }
+
+abbrev pub invalidFloat : Refusal
+invalidFloat = record { number = 5; id = 0 }
+
+abbrev pub invalidDate : Refusal
+invalidDate = record { number = 6; id = 0 }
+
+abbrev pub notUtf8 : Refusal
+notUtf8 = record { number = 7; id = 0 }
+
 abbrev pub badArgument : Refusal
 badArgument = record { number = 14; id = 0 }

@@ -1,6 +1,7 @@
 // A refusal and its numbers (document 01, Numbers that bound a call).
 ghost use mathlib.Core.Path.{_≡_};
 ghost use Rattle.header.specs.Refusals.{pastEnd, invalidId, invalidSize, badArgument};
+ghost use Rattle.header.specs.Refusals.{invalidUint, invalidFloat, invalidDate, notUtf8};
 
 // Why a call refuses: document 01's number, and for number 8 the id, else 0.
 pub struct Refusal {
@@ -29,6 +30,34 @@ impl Refusal {
         ensures { λ r. ⌜ r ≡ invalidSize ⌝ }
     {
         Refusal { number: 3, id: 0 }
+    }
+
+    // 4: an integer body, signed or not, of more than eight bytes.
+    pub fn invalid_uint() -> Refusal
+        ensures { λ r. ⌜ r ≡ invalidUint ⌝ }
+    {
+        Refusal { number: 4, id: 0 }
+    }
+
+    // 5: a float body of other than four or eight bytes.
+    pub fn invalid_float() -> Refusal
+        ensures { λ r. ⌜ r ≡ invalidFloat ⌝ }
+    {
+        Refusal { number: 5, id: 0 }
+    }
+
+    // 6: a date body of other than eight bytes.
+    pub fn invalid_date() -> Refusal
+        ensures { λ r. ⌜ r ≡ invalidDate ⌝ }
+    {
+        Refusal { number: 6, id: 0 }
+    }
+
+    // 7: a text that is not UTF-8.
+    pub fn not_utf8() -> Refusal
+        ensures { λ r. ⌜ r ≡ notUtf8 ⌝ }
+    {
+        Refusal { number: 7, id: 0 }
     }
 
     // 14: a length or a place that the caller gave is out of bounds.
