@@ -1,0 +1,69 @@
+-- What one comparison says of rising numbers, and the order of a list by one computed test. Assumes nothing.
+use mathlib.Core.Path.{_≡_, refl, ap}
+use mathlib.Core.List.{List, [], _∷_}
+use mathlib.Core.Logic.{_⊎_, inl, inr, ⊎-elim}
+use mathlib.Core.Bool.{Bool, true, false, _&&_}
+use Prim.Native.Nat.{ℕ, zero, suc, _+_, _≤_, _<_}
+use native.Mathlib.Nat.{eq-or-lt-of-le, le-of-suc-le-suc, not-suc-le-zero}
+use native.Mathlib.Omega.{arith}
+use lib.ListN.{length, getD}
+use lib.Dec.{T, ltb, ltb→lt}
+use borrow.Author.Tests.{ltb-true, ltb-false}
+use Rattle.kinds.specs.Entries.{Rising}
+
+pub lt-or-le : (a b : ℕ) → (a < b) ⊎ (b ≤ a)
+lt-or-le a b = by (ltb a b) refl
+  where
+    by : (t : Bool) → ltb a b ≡ t → (a < b) ⊎ (b ≤ a)
+    by true e = inl (ltb-true a b e)
+    by false e = inr (ltb-false a b e)
+
+module _ (xs : List ℕ) (r : Rising xs) (x m : ℕ) where
+  -- A number below x: so is every one before it.
+  pub lower : m < length xs → getD xs m 0 < x → (k : ℕ) → k < m + 1 → getD xs k 0 < x
+  lower h t k l =
+      ⊎-elim
+      (λ e. omega (arith, ap (λ (j : ℕ). getD xs j 0) e))
+      (λ s. omega (arith, r .rises k m s h))
+      (eq-or-lt-of-le {n = k} {m = m} (omega arith))
+
+  -- A number that is x or more: so is every one after it.
+  pub upper : x ≤ getD xs m 0 → (k : ℕ) → m ≤ k → k < length xs → x ≤ getD xs k 0
+  upper t k l h =
+      ⊎-elim
+      (λ e. omega (arith, ap (λ (j : ℕ). getD xs j 0) e))
+      (λ s. omega (arith, r .rises m k s h))
+      (eq-or-lt-of-le l)
+
+pub both-left : (a b : Bool) → T (a && b) → T a
+both-left true b t = tt
+both-left false b t = t
+
+pub both-right : (a b : Bool) → T (a && b) → T b
+both-right true b t = t
+both-right false b t = absurd t
+
+-- The test: the first number is above a, and each other above the one before it.
+abbrev pub rises : ℕ → List ℕ → Bool
+rises a [] = true
+rises a (x ∷ xs) = ltb a x && rises x xs
+
+pub above : (a : ℕ) (xs : List ℕ) → T (rises a xs) → (j : ℕ) → j < length xs → a < getD xs j 0
+above a [] t j h = absurd (not-suc-le-zero h)
+above a (x ∷ xs) t zero h = ltb→lt a x (both-left (ltb a x) (rises x xs) t)
+above a (x ∷ xs) t (suc j) h =
+    let here = ltb→lt a x (both-left (ltb a x) (rises x xs) t) in
+    let there = above x xs (both-right (ltb a x) (rises x xs) t) j (le-of-suc-le-suc h) in
+    omega (arith, here, there)
+
+pub ordered :
+    (a : ℕ) (xs : List ℕ) → T (rises a xs) → (i j : ℕ) → i < j → j < length xs → getD xs i 0 < getD xs j 0
+ordered a [] t i j l h = absurd (not-suc-le-zero h)
+ordered a (x ∷ xs) t i zero l h = absurd (not-suc-le-zero l)
+ordered a (x ∷ xs) t zero (suc j) l h =
+    above x xs (both-right (ltb a x) (rises x xs) t) j (le-of-suc-le-suc h)
+ordered a (x ∷ xs) t (suc i) (suc j) l h =
+    ordered x xs (both-right (ltb a x) (rises x xs) t) i j (le-of-suc-le-suc l) (le-of-suc-le-suc h)
+
+pub rising : (xs : List ℕ) → T (rises 0 xs) → Rising xs
+rising xs t = record { rises = ordered 0 xs t }

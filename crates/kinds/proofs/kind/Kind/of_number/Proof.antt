@@ -1,0 +1,45 @@
+-- `Kind::of_number` meets its contract: each number of a kind is an arm of its own. Assumes nothing.
+use mathlib.Core.Path.{ap, sym}
+use borrow.Author.Tests.{ne-eqb}
+use Rattle.kinds.specs.Entries.{kindOf}
+use Rattle.kinds.proofs.kind.Kind.of_number.Statement.{statement}
+use Rattle.kinds.proofs.kind.Kind.of_number.Tie as tie
+
+returns : tie.Need-returns
+returns c = ap kindOf (sym (c .match .keys1))
+
+returns-2 : tie.Need-returns-2
+returns-2 c = ap kindOf (sym (c .match .keys2))
+
+returns-3 : tie.Need-returns-3
+returns-3 c = ap kindOf (sym (c .match .keys3))
+
+returns-4 : tie.Need-returns-4
+returns-4 c = ap kindOf (sym (c .match .keys4))
+
+returns-5 : tie.Need-returns-5
+returns-5 c = ap kindOf (sym (c .match .keys5))
+
+returns-6 : tie.Need-returns-6
+returns-6 c = ap kindOf (sym (c .match .keys6))
+
+returns-7 : tie.Need-returns-7
+returns-7 c = ap kindOf (sym (c .match .keys7))
+
+returns-8 : tie.Need-returns-8
+returns-8 c =
+    let other = c .match .rest in
+    rw (
+      ne-eqb _ _ (other .0 .0 .0 .0 .0 .0 .1),
+      ne-eqb _ _ (other .0 .0 .0 .0 .0 .1),
+      ne-eqb _ _ (other .0 .0 .0 .0 .1),
+      ne-eqb _ _ (other .0 .0 .0 .1),
+      ne-eqb _ _ (other .0 .0 .1),
+      ne-eqb _ _ (other .0 .1),
+      ne-eqb _ _ (other .1),
+    )
+
+pub of-number-spec : {M : Type 1} → statement M
+of-number-spec =
+    tie.close
+    (tie.spec returns returns-2 returns-3 returns-4 returns-5 returns-6 returns-7 returns-8)

@@ -1,0 +1,68 @@
+-- The kind of an element by its id and its parent's (document 01, Kinds).
+use Prim.Native.Nat.{ℕ}
+use mathlib.Core.List.{List, [], _∷_}
+use mathlib.Core.Bool.{Bool, true, false, cond, _||_}
+use lib.Dec.{eqb}
+use Rattle.kinds.specs.Elements.{Row, row, elements}
+use Rattle.kinds.specs.declared.kind.Kind.{Kind}
+use Rattle.kinds.specs.declared.kind.Kind.the-variants.{Master, Int, Uint, String, Utf8, Binary, Float, Date}
+
+-- Document 01's number of each kind, as a row of the element table holds it.
+abbrev pub numberOf : Kind → ℕ
+numberOf Master = 1
+numberOf Int = 2
+numberOf Uint = 3
+numberOf String = 4
+numberOf Utf8 = 5
+numberOf Binary = 6
+numberOf Float = 7
+numberOf Date = 8
+
+-- The kind of the first row with the id; an id in no row is binary.
+unfoldable pub kindIn : List Row → ℕ → Kind
+kindIn [] id = Binary
+kindIn (row i k ∷ rows) id = cond (eqb i id) k (kindIn rows id)
+
+-- The small master sets: a parent, and the only ids that are masters under it.
+pub data Small : Type 0 where
+  under : ℕ → List ℕ → Small
+
+abbrev pub smallSets : List Small
+smallSets =
+    -- Info
+    under 0x1549A966 (0x6924 ∷ [])
+    -- Tracks
+    ∷ under 0x1654AE6B (0x6924 ∷ 0xAE ∷ [])
+    -- Attachments
+    ∷ under 0x1941A469 (0x61A7 ∷ [])
+    -- Chapters
+    ∷ under 0x1043A770 (0x45B9 ∷ [])
+    -- Tags
+    ∷ under 0x1254C367 (0x7373 ∷ [])
+    ∷ []
+
+unfoldable pub member : List ℕ → ℕ → Bool
+member [] id = false
+member (i ∷ is) id = eqb id i || member is id
+
+-- Whether a set of masters that applies under the parent has the id; a parent without a small set has all.
+unfoldable pub masterIn : List Small → ℕ → ℕ → Bool
+masterIn [] parent id = true
+masterIn (under p is ∷ sets) parent id = cond (eqb parent p) (member is id) (masterIn sets parent id)
+
+abbrev pub isMasterUnder : ℕ → ℕ → Bool
+isMasterUnder parent id = masterIn smallSets parent id
+
+-- An id that loses its master kind is binary.
+unfoldable pub demoted : Kind → Kind
+demoted Master = Binary
+demoted Int = Int
+demoted Uint = Uint
+demoted String = String
+demoted Utf8 = Utf8
+demoted Binary = Binary
+demoted Float = Float
+demoted Date = Date
+
+unfoldable pub kindUnder : ℕ → ℕ → Kind
+kindUnder parent id = cond (isMasterUnder parent id) (kindIn elements id) (demoted (kindIn elements id))

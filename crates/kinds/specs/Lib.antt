@@ -1,0 +1,6 @@
+-- The definitions that the contracts of `kinds` cite.
+pub mod Elements
+pub mod Kinds
+pub mod Entries
+pub mod Promise
+pub mod Theorems

@@ -1,0 +1,33 @@
+// The eight kinds of an element, and their numbers (document 01, Kinds).
+ghost use mathlib.Core.Path.{_≡_};
+ghost use Rattle.kinds.specs.Entries.{kindOf};
+
+// What the body of an element holds.
+pub enum Kind {
+    Master,
+    Int,
+    Uint,
+    String,
+    Utf8,
+    Binary,
+    Float,
+    Date,
+}
+
+impl Kind {
+    // The kind with a number; what is no number of a kind is taken as binary.
+    pub fn of_number(number: u64) -> Kind
+        ensures { λ r. ⌜ r ≡ kindOf number ⌝ }
+    {
+        match number {
+            1 => Kind::Master,
+            2 => Kind::Int,
+            3 => Kind::Uint,
+            4 => Kind::String,
+            5 => Kind::Utf8,
+            7 => Kind::Float,
+            8 => Kind::Date,
+            _ => Kind::Binary,
+        }
+    }
+}
