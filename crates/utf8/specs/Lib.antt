@@ -1,0 +1,6 @@
+-- The definitions that the contracts of `utf8` cite.
+pub mod Utf8
+pub mod Leads
+pub mod Promise
+pub mod Grammar
+pub mod Theorems
