@@ -1,0 +1,45 @@
+-- A body that was read, in document 01's terms, is what the public definition has. Assumes nothing.
+use mathlib.Core.Path.{_≡_, refl}
+use mathlib.Core.List.{List}
+use Prim.Native.Nat.{ℕ, _≤_, _<_}
+use lib.ListN.{length}
+use borrow.Author.Tests.{le-leb, lt-leb}
+use Rattle.header.specs.Promise.{mostBytes}
+use Rattle.header.specs.Refusals.{badArgument}
+use Rattle.kinds.specs.Kinds.{kindUnder}
+use Rattle.bodies.specs.Bodies.{Told, integer, unsigned, float, date, text, bytes, master, refusal}
+use Rattle.bodies.specs.Bodies.{refuses, bodyOf}
+use Rattle.bodies.specs.Reads.{readOf, bodyRead}
+use Rattle.bodies.specs.Promise.{valuesOf, bodyReply}
+use Rattle.bodies.specs.declared.body.BodyRead.{BodyRead}
+use Rattle.bodies.specs.declared.body.BodyRead.the-variants.{Read, Refused}
+
+abbrev pub readReply : BodyRead → Told
+readReply (Read body next) = valuesOf body
+readReply (Refused e) = refuses e
+
+told-back : (at n : ℕ) (t : Told) → readReply (readOf at n t) ≡ t
+told-back at n (integer z) = refl
+told-back at n (unsigned v) = refl
+told-back at n (float x) = refl
+told-back at n (date z) = refl
+told-back at n (text a l) = refl
+told-back at n (bytes a l) = refl
+told-back at n master = refl
+told-back at n (refusal number id) = refl
+
+module _ (s : List ℕ) (id parent at n : ℕ) where
+  pub reply-too-long : mostBytes < length s → refuses badArgument ≡ bodyReply s id parent at n
+  unfolding bodyReply
+  reply-too-long h = rw (lt-leb (length s) mostBytes h)
+
+  pub reply-past-end : length s ≤ mostBytes → length s < at → refuses badArgument ≡ bodyReply s id parent at n
+  unfolding bodyReply
+  reply-past-end h l = rw (le-leb (length s) mostBytes h, lt-leb at (length s) l)
+
+  pub reply-read :
+      length s ≤ mostBytes → at ≤ length s
+      → readReply (bodyRead (kindUnder parent id) s at n) ≡ bodyReply s id parent at n
+  unfolding bodyRead bodyReply
+  reply-read h l =
+      rw (le-leb (length s) mostBytes h, le-leb at (length s) l) (told-back at n (bodyOf s at n (kindUnder parent id)))

@@ -1,0 +1,52 @@
+-- `read_uint` meets its contract: over 8 bytes, the bytes missing, or a value. Assumes nothing.
+use borrow.Author.Needs.{needs}
+use mathlib.Core.Path.{ap, sym, _∙_}
+use native.Mathlib.Omega.{arith}
+use Rattle.bodies.specs.declared.body.BodyRead.the-variants.{Refused}
+use Rattle.bodies.proofs.Found.{found, ended}
+use Rattle.bodies.proofs.ByKind.{uint-long, uint-ends, uint-there}
+use Rattle.bodies.proofs.integer.read_uint.Statement.{statement}
+use Rattle.bodies.proofs.integer.read_uint.Tie as tie
+
+invalid-uint-requires : tie.Need-invalid-uint-requires
+invalid-uint-requires c κs = search needs
+
+returns : tie.Need-returns
+returns c = ap Refused (c .invalid-uint .ensures) ∙ uint-long _ _ _ (c .before .if1 .taken)
+
+number-requires : tie.Need-number-requires
+number-requires c κs = search needs
+
+enum-told : tie.Need-enum-told
+enum-told c = search needs
+
+past-end-requires : tie.Need-past-end-requires
+past-end-requires c κs = search needs
+
+enum-known-value : tie.Need-enum-known-value
+enum-known-value c = search needs
+
+returns-2 : tie.Need-returns-2
+returns-2 c =
+    let read = c .before .before .before .number .ensures .0 in
+    let missing = ended _ _ _ (sym read ∙ c .before .enum-told .given .1) in
+    ap Refused (c .past-end .ensures) ∙ uint-ends _ _ _ missing (omega arith)
+
+returns-3 : tie.Need-returns-3
+returns-3 c =
+    let told = c .before .value .given .1 in
+    let read = c .before .before .before .number .ensures .0 in
+    uint-there _ _ _ _ _ (found _ _ _ _ _ (sym read ∙ told)) (omega arith)
+
+pub read-uint-spec : {M : Type 1} → statement M
+read-uint-spec =
+    tie.close
+    (tie.spec
+    invalid-uint-requires
+    returns
+    number-requires
+    enum-told
+    past-end-requires
+    enum-known-value
+    returns-2
+    returns-3)

@@ -1,0 +1,35 @@
+-- `read_bytes` meets its contract: the bytes missing, or their range. Assumes nothing.
+use borrow.Author.Needs.{needs}
+use mathlib.Core.Path.{ap, _∙_}
+use native.Mathlib.Omega.{arith}
+use borrow.Author.Tests.{leb-true}
+use Rattle.bodies.specs.declared.body.BodyRead.the-variants.{Refused}
+use Rattle.bodies.proofs.Ends.{absent, present}
+use Rattle.bodies.proofs.ByKind.{bytes-ends, bytes-there}
+use Prim.Native.Nat.{_+_}
+use Rattle.bodies.proofs.part.read_bytes.Statement.{statement}
+use Rattle.bodies.proofs.part.read_bytes.Tie as tie
+
+is-there-requires : tie.Need-is-there-requires
+is-there-requires c κs = search needs
+
+past-end-requires : tie.Need-past-end-requires
+past-end-requires c κs = search needs
+
+returns : tie.Need-returns
+returns c =
+    let missing = absent _ _ (c .before .before .is-there .ensures) (c .before .if1 .taken) in
+    ap Refused (c .past-end .ensures) ∙ bytes-ends _ _ _ missing
+
+add-end : tie.Need-add-end
+add-end c =
+    let a = c .before .before .before .args in
+    let there = leb-true (a .place .at + a .size) _ (present _ _ (c .before .is-there .ensures) (c .if1 .left)) in
+    omega (arith, there)
+
+returns-2 : tie.Need-returns-2
+returns-2 c = bytes-there _ _ _ (present _ _ (c .before .is-there .ensures) (c .if1 .left))
+
+pub read-bytes-spec : {M : Type 1} → statement M
+read-bytes-spec =
+    tie.close (tie.spec is-there-requires past-end-requires returns add-end returns-2)

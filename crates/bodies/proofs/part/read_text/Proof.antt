@@ -1,0 +1,77 @@
+-- `read_text` meets its contract: the bytes missing, no UTF-8, or their range. Assumes nothing.
+use borrow.Author.Needs.{needs}
+use mathlib.Core.Path.{ap, sym, _∙_}
+use native.Mathlib.Omega.{arith}
+use native.Mathlib.Nat.{add-sub-cancel-left}
+use borrow.Author.Tests.{leb-true}
+use Rattle.bodies.specs.declared.body.BodyRead.the-variants.{Refused}
+use Rattle.bodies.proofs.Ends.{absent, present}
+use Rattle.bodies.proofs.ByKind.{text-ends, text-bad, text-there}
+use Prim.Native.Nat.{_+_}
+use Rattle.bodies.proofs.part.read_text.Statement.{statement}
+use Rattle.bodies.proofs.part.read_text.Tie as tie
+
+is-there-requires : tie.Need-is-there-requires
+is-there-requires c κs = search needs
+
+past-end-requires : tie.Need-past-end-requires
+past-end-requires c κs = search needs
+
+returns : tie.Need-returns
+returns c =
+    let missing = absent _ _ (c .before .before .is-there .ensures) (c .before .if1 .taken) in
+    ap Refused (c .past-end .ensures) ∙ text-ends _ _ _ missing
+
+add-end : tie.Need-add-end
+add-end c =
+    let a = c .before .before .before .args in
+    let there = leb-true (a .place .at + a .size) _ (present _ _ (c .before .is-there .ensures) (c .if1 .left)) in
+    omega (arith, there)
+
+sub-is-utf8 : tie.Need-sub-is-utf8
+sub-is-utf8 c = search needs
+
+part-is-utf8-start : tie.Need-part-is-utf8-start
+part-is-utf8-start c = search needs
+
+part-is-utf8-end : tie.Need-part-is-utf8-end
+part-is-utf8-end c =
+    let a = c .before .before .before .args in
+    let there = leb-true (a .place .at + a .size) _ (present _ _ (c .before .is-there .ensures) (c .if1 .left)) in
+    omega (arith, there)
+
+is-utf8-requires : tie.Need-is-utf8-requires
+is-utf8-requires c κs = search needs
+
+not-utf8-requires : tie.Need-not-utf8-requires
+not-utf8-requires c κs = search needs
+
+returns-2 : tie.Need-returns-2
+returns-2 c =
+    let d = c .before .before .before .before in
+    let there = present _ _ (d .before .is-there .ensures) (d .if1 .left) in
+    let bad = absent _ _ (c .before .before .is-utf8 .ensures .answer) (c .before .if2 .taken) in
+    ap Refused (c .not-utf8 .ensures) ∙ text-bad _ _ _ there (sym (simp add-sub-cancel-left) ∙ bad)
+
+returns-3 : tie.Need-returns-3
+returns-3 c =
+    let d = c .before .before .before in
+    let there = present _ _ (d .before .is-there .ensures) (d .if1 .left) in
+    let good = present _ _ (c .before .is-utf8 .ensures .answer) (c .if2 .left) in
+    text-there _ _ _ there (sym (simp add-sub-cancel-left) ∙ good)
+
+pub read-text-spec : {M : Type 1} → statement M
+read-text-spec =
+    tie.close
+    (tie.spec
+    is-there-requires
+    past-end-requires
+    returns
+    add-end
+    sub-is-utf8
+    part-is-utf8-start
+    part-is-utf8-end
+    is-utf8-requires
+    not-utf8-requires
+    returns-2
+    returns-3)

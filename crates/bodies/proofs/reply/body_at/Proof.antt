@@ -1,0 +1,77 @@
+-- `body_at` meets its promise: 14 for an argument out of bounds, else the body by its kind. Assumes nothing.
+use borrow.Author.Needs.{needs}
+use mathlib.Core.Path.{_≡_, ap, sym, _∙_}
+use native.Mathlib.Omega.{arith}
+use Rattle.kinds.specs.declared.kind.Kind.{Kind}
+use Rattle.kinds.proofs.Numbers.{number-tells}
+use Rattle.bodies.specs.Bodies.{refuses}
+use Rattle.bodies.specs.Reads.{bodyRead}
+use Rattle.bodies.specs.Promise.{bodyReply}
+use Rattle.bodies.proofs.Replies.{readReply, reply-too-long, reply-past-end, reply-read}
+use Rattle.bodies.proofs.reply.body_at.Statement.{statement}
+use Rattle.bodies.proofs.reply.body_at.Tie as tie
+
+-- What was read by the kind that `kind_of` gave is the reply.
+as-replied : (c : tie.After-read-body) →
+    let a = c .before .before .before .before .before .args in
+    readReply (c .read-body .result) ≡ bodyReply (a .recording .now) (a .id) (a .parent) (a .at) (a .size)
+as-replied c =
+    let a = c .before .before .before .before .before .args in
+    let kind = number-tells _ _ (c .before .kind-of .ensures .reply) in
+    ap readReply (c .read-body .ensures ∙ ap (λ (k : Kind). bodyRead k (a .recording .now) (a .at) (a .size)) kind)
+    ∙ reply-read (a .recording .now) (a .id) (a .parent) (a .at) (a .size) (omega arith) (omega arith)
+
+bad-argument-requires : tie.Need-bad-argument-requires
+bad-argument-requires c κs = search needs
+
+returns : tie.Need-returns
+returns c =
+    let a = c .before .before .before .args in
+    let long = reply-too-long (a .recording .now) (a .id) (a .parent) (a .at) (a .size) (omega arith) in
+    record { reply = ap refuses (c .bad-argument .ensures) ∙ long }
+
+bad-argument-requires-2 : tie.Need-bad-argument-requires-2
+bad-argument-requires-2 c κs = search needs
+
+returns-2 : tie.Need-returns-2
+returns-2 c =
+    let a = c .before .before .before .before .args in
+    let past = reply-past-end (a .recording .now) (a .id) (a .parent) (a .at) (a .size) (omega arith) (omega arith) in
+    record { reply = ap refuses (c .bad-argument2 .ensures) ∙ past }
+
+kind-of-requires : tie.Need-kind-of-requires
+kind-of-requires c κs = search needs
+
+read-body-requires : tie.Need-read-body-requires
+read-body-requires c κs = search needs
+
+enum-known-body : tie.Need-enum-known-body
+enum-known-body c = search needs
+
+enum-known-refusal : tie.Need-enum-known-refusal
+enum-known-refusal c = search needs
+
+returns-3 : tie.Need-returns-3
+returns-3 c =
+    let d = c .before .before .before in
+    record { reply = ap readReply (sym (c .before .body .given .1)) ∙ as-replied d }
+
+returns-4 : tie.Need-returns-4
+returns-4 c =
+    let d = c .before .before .before in
+    record { reply = ap readReply (sym (c .before .refusal .given .1)) ∙ as-replied d }
+
+pub body-at-spec : {M : Type 1} → statement M
+body-at-spec =
+    tie.close
+    (tie.spec
+    bad-argument-requires
+    returns
+    bad-argument-requires-2
+    returns-2
+    kind-of-requires
+    read-body-requires
+    enum-known-body
+    enum-known-refusal
+    returns-3
+    returns-4)

@@ -1,0 +1,124 @@
+-- `read_body` meets its contract: an arm for each kind, which hands the answer on. Assumes nothing.
+use borrow.Author.Needs.{needs}
+use mathlib.Core.Path.{_≡_, refl, ap, sym, _∙_}
+use mathlib.Core.List.{List}
+use Prim.Native.Nat.{ℕ}
+use Rattle.kinds.specs.declared.kind.Kind.{Kind}
+use Rattle.kinds.specs.declared.kind.Kind.the-variants as K
+use Rattle.bodies.specs.Bodies.{bodyOf}
+use Rattle.bodies.specs.Reads.{bodyRead}
+use Rattle.bodies.specs.declared.body.Body.the-variants as B
+use Rattle.bodies.specs.declared.body.BodyRead.the-variants.{Read}
+use Rattle.bodies.proofs.typed.read_body.Statement.{statement}
+use Rattle.bodies.proofs.typed.read_body.Tie as tie
+
+module _ (s : List ℕ) (at n : ℕ) where
+  -- The kind that was told apart is the kind.
+  as-kind : {kind k : Kind} → kind ≡ k → bodyRead k s at n ≡ bodyRead kind s at n
+  as-kind e = ap (λ (k : Kind). bodyRead k s at n) (sym e)
+
+  master-read : Read B.Master (record { at = at }) ≡ bodyRead K.Master s at n
+  unfolding bodyRead bodyOf
+  master-read = refl
+
+  -- Both text kinds are read as UTF-8.
+  string-is-utf8 : bodyRead K.Utf8 s at n ≡ bodyRead K.String s at n
+  unfolding bodyRead bodyOf
+  string-is-utf8 = refl
+
+enum-told : tie.Need-enum-told
+enum-told c = search needs
+
+enum-told-2 : tie.Need-enum-told-2
+enum-told-2 c = search needs
+
+read-int-requires : tie.Need-read-int-requires
+read-int-requires c κs = search needs
+
+enum-told-3 : tie.Need-enum-told-3
+enum-told-3 c = search needs
+
+read-uint-requires : tie.Need-read-uint-requires
+read-uint-requires c κs = search needs
+
+enum-told-4 : tie.Need-enum-told-4
+enum-told-4 c = search needs
+
+read-text-requires : tie.Need-read-text-requires
+read-text-requires c κs = search needs
+
+enum-told-5 : tie.Need-enum-told-5
+enum-told-5 c = search needs
+
+read-text-requires-2 : tie.Need-read-text-requires-2
+read-text-requires-2 c κs = search needs
+
+enum-told-6 : tie.Need-enum-told-6
+enum-told-6 c = search needs
+
+read-bytes-requires : tie.Need-read-bytes-requires
+read-bytes-requires c κs = search needs
+
+enum-told-7 : tie.Need-enum-told-7
+enum-told-7 c = search needs
+
+read-float-requires : tie.Need-read-float-requires
+read-float-requires c κs = search needs
+
+enum-told-8 : tie.Need-enum-told-8
+enum-told-8 c = search needs
+
+read-date-requires : tie.Need-read-date-requires
+read-date-requires c κs = search needs
+
+returns : tie.Need-returns
+returns c = master-read _ _ _ ∙ as-kind _ _ _ (c .enum-told .given .1)
+
+returns-2 : tie.Need-returns-2
+returns-2 c = c .read-int .ensures ∙ as-kind _ _ _ (c .before .enum-told2 .given .1)
+
+returns-3 : tie.Need-returns-3
+returns-3 c = c .read-uint .ensures ∙ as-kind _ _ _ (c .before .enum-told3 .given .1)
+
+returns-4 : tie.Need-returns-4
+returns-4 c = c .read-text .ensures ∙ string-is-utf8 _ _ _ ∙ as-kind _ _ _ (c .before .enum-told4 .given .1)
+
+returns-5 : tie.Need-returns-5
+returns-5 c = c .read-text2 .ensures ∙ as-kind _ _ _ (c .before .enum-told5 .given .1)
+
+returns-6 : tie.Need-returns-6
+returns-6 c = c .read-bytes .ensures ∙ as-kind _ _ _ (c .before .enum-told6 .given .1)
+
+returns-7 : tie.Need-returns-7
+returns-7 c = c .read-float .ensures ∙ as-kind _ _ _ (c .before .enum-told7 .given .1)
+
+returns-8 : tie.Need-returns-8
+returns-8 c = c .read-date .ensures ∙ as-kind _ _ _ (c .before .enum-told8 .given .1)
+
+pub read-body-spec : {M : Type 1} → statement M
+read-body-spec =
+    tie.close
+    (tie.spec
+    enum-told
+    enum-told-2
+    read-int-requires
+    enum-told-3
+    read-uint-requires
+    enum-told-4
+    read-text-requires
+    enum-told-5
+    read-text-requires-2
+    enum-told-6
+    read-bytes-requires
+    enum-told-7
+    read-float-requires
+    enum-told-8
+    read-date-requires
+    returns
+    returns-2
+    returns-3
+    returns-4
+    returns-5
+    returns-6
+    returns-7
+    returns-8)

@@ -1,0 +1,41 @@
+// The public call: the body of an id under a parent id, at a place of a recording.
+ghost use Rattle.bodies.specs.Promise.{BodyPromise};
+use crate::body::Body;
+use crate::body::BodyRead;
+use crate::typed::read_body;
+use header::Cursor;
+use header::Header;
+use header::MOST_BYTES;
+use header::Refusal;
+use kinds::kind_of;
+
+// The body, or a refusal.
+pub enum BodyReply {
+    Body(Body),
+    Refused(Refusal),
+}
+
+// The body of `size` bytes at a place. 14: the recording is too long, or the place is past its end.
+pub fn body_at(recording: &[u8], id: u32, parent: u32, at: u64, size: u64) -> BodyReply
+    ensures { λ r. ⌜ BodyPromise (now (recording .entry)) id parent at size r ⌝ }
+{
+    let length = recording.len() as u64;
+    if MOST_BYTES < length {
+        return BodyReply::Refused(Refusal::bad_argument());
+    }
+    if length < at {
+        return BodyReply::Refused(Refusal::bad_argument());
+    }
+    let kind = kind_of(id, parent);
+    // The caller names the payload, so that no byte is a header's.
+    let named = Header {
+        id,
+        size,
+        length: 0,
+    };
+    let place = Cursor { at };
+    match read_body(place, recording, named, kind) {
+        BodyRead::Read(body, _) => BodyReply::Body(body),
+        BodyRead::Refused(refusal) => BodyReply::Refused(refusal),
+    }
+}

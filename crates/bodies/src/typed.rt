@@ -1,0 +1,31 @@
+// The body of an element by its kind.
+ghost use mathlib.Core.Path.{_≡_};
+ghost use Rattle.bodies.specs.Reads.{bodyRead};
+use crate::body::Body;
+use crate::body::BodyRead;
+use crate::float::read_float;
+use crate::integer::read_date;
+use crate::integer::read_int;
+use crate::integer::read_uint;
+use crate::part::read_bytes;
+use crate::part::read_text;
+use header::Cursor;
+use header::Header;
+use kinds::Kind;
+
+// The body after a header that was read, at the place where its payload begins. Of a master nothing is tested here.
+pub fn read_body(place: Cursor, recording: &[u8], header: Header, kind: Kind) -> BodyRead
+    ensures { λ r. ⌜ r ≡ bodyRead kind (now (recording .entry)) (place .at) (header .size) ⌝ }
+{
+    let size = header.size;
+    match kind {
+        Kind::Master => BodyRead::Read(Body::Master, place),
+        Kind::Int => read_int(place, recording, size),
+        Kind::Uint => read_uint(place, recording, size),
+        Kind::String => read_text(place, recording, size),
+        Kind::Utf8 => read_text(place, recording, size),
+        Kind::Binary => read_bytes(place, recording, size),
+        Kind::Float => read_float(place, recording, size),
+        Kind::Date => read_date(place, recording, size),
+    }
+}
