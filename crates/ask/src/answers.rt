@@ -1,12 +1,12 @@
-// The questions, and how each answer is told.
+// The questions by their first word, and how many words each has.
 ghost use Rattle.ask.specs.Bounds.{Fits};
-use crate::out;
+use crate::ask_body::body;
+use crate::ask_header::header;
+use crate::ask_kind::kind;
+use crate::ask_utf8::utf8;
 use crate::out::Held;
+use crate::told::bad;
 use crate::words;
-use crate::words::Count;
-use crate::words::Spelt;
-use header::HeaderReply;
-use header::Refusal;
 
 // Answers one line. A line that was too long to hold is no question.
 pub fn answer(
@@ -29,67 +29,20 @@ pub fn answer(
             return header(line, recording, out, held);
         }
     }
+    if words::same(name, b"kind") {
+        if count == 3 {
+            return kind(line, out, held);
+        }
+    }
+    if words::same(name, b"utf8") {
+        if count == 2 {
+            return utf8(line, recording, out, held);
+        }
+    }
+    if words::same(name, b"body") {
+        if count == 6 {
+            return body(line, recording, out, held);
+        }
+    }
     bad(out, held)
-}
-
-// The answer to a line that is no question.
-fn bad(out: &mut [u8; 65536], held: Held) -> Held
-    requires { ⌜ Fits held ⌝ }
-    ensures { λ r. ⌜ Fits r ⌝ }
-{
-    out::put(out, held, b"bad question\n")
-}
-
-// `refused N`, and for 8 the id.
-fn refused(refusal: Refusal, out: &mut [u8; 65536], held: Held) -> Held
-    requires { ⌜ Fits held ⌝ }
-    ensures { λ r. ⌜ Fits r ⌝ }
-{
-    let n = out::put(out, held, b"refused ");
-    let n = out::put_decimal(out, n, refusal.number as u64);
-    if refusal.number == 8 {
-        let n = out::put(out, n, b" ");
-        return out::put_hex(out, n, refusal.id as u64);
-    }
-    n
-}
-
-// `header AT BYTES`
-fn header(line: &[u8], recording: &mut [u8; 65536], out: &mut [u8; 65536], held: Held) -> Held
-    requires { ⌜ Fits held ⌝ }
-    ensures { λ r. ⌜ Fits r ⌝ }
-{
-    match words::decimal(words::word(line, 1)) {
-        Count::Bad => bad(out, held),
-        Count::Is(at) => match words::spell(words::word(line, 2), recording) {
-            Spelt::Bad => bad(out, held),
-            Spelt::Bytes(length) => {
-                let whole: &[u8] = recording;
-                let reply = header::header_at(&whole[..length], at);
-                header_told(reply, out, held)
-            }
-        },
-    }
-}
-
-// `id ID size N length N`, or the refusal.
-fn header_told(reply: HeaderReply, out: &mut [u8; 65536], held: Held) -> Held
-    requires { ⌜ Fits held ⌝ }
-    ensures { λ r. ⌜ Fits r ⌝ }
-{
-    match reply {
-        HeaderReply::Refused(refusal) => {
-            let n = refused(refusal, out, held);
-            out::put(out, n, b"\n")
-        }
-        HeaderReply::Header(header) => {
-            let n = out::put(out, held, b"id ");
-            let n = out::put_hex(out, n, header.id as u64);
-            let n = out::put(out, n, b" size ");
-            let n = out::put_decimal(out, n, header.size);
-            let n = out::put(out, n, b" length ");
-            let n = out::put_decimal(out, n, header.length);
-            out::put(out, n, b"\n")
-        }
-    }
 }

@@ -81,13 +81,13 @@ pub fn put_decimal(out: &mut [u8; 65536], held: Held, value: u64) -> Held
     put(out, held, &text[..k])
 }
 
-// A number in hexadecimal digits, upper case, with no zeros in front.
-pub fn put_hex(out: &mut [u8; 65536], held: Held, value: u64) -> Held
+// A number in hexadecimal digits, upper case, with zeros in front up to `width` digits.
+pub fn put_hex(out: &mut [u8; 65536], held: Held, value: u64, width: usize) -> Held
     requires { ⌜ Fits held ⌝ }
     ensures { λ r. ⌜ Fits r ⌝ }
 {
     let mut text = [0u8; 16];
-    let k = io::hex(value, 1, &mut text);
+    let k = io::hex(value, width, &mut text);
     let raised = capitals(text);
     put(out, held, &raised[..k])
 }

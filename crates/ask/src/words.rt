@@ -12,6 +12,12 @@ pub enum Count {
     Bad,
 }
 
+// What a word spells, where it is an id in hexadecimal digits.
+pub enum Named {
+    Is(u32),
+    Bad,
+}
+
 // How many bytes a word spells, where it is hexadecimal digits or `-`.
 pub enum Spelt {
     Bytes(usize),
@@ -124,6 +130,27 @@ fn hex_digit(b: u8) -> u8
         97..=102 => b - 87,
         _ => 16,
     }
+}
+
+// An id in hexadecimal digits, of at most 32 bits; zeros in front count for nothing.
+pub fn id(word: &[u8]) -> Named {
+    if word.len() == 0 {
+        return Named::Bad;
+    }
+    let mut value: u32 = 0;
+    let mut i: usize = 0;
+    while i < word.len() {
+        let digit = hex_digit(word[i]);
+        if digit == 16 {
+            return Named::Bad;
+        }
+        if 0xFFF_FFFF < value {
+            return Named::Bad;
+        }
+        value = value * 16 + digit as u32;
+        i += 1;
+    }
+    Named::Is(value)
 }
 
 // Puts the bytes that the word spells at the start of `bytes`.

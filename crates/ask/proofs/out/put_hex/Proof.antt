@@ -23,7 +23,8 @@ array-share-prefix-raised c = digits c
 
 slice-aggregate-put : tie.Need-slice-aggregate-put
 slice-aggregate-put c =
-    sym (length-take-le (c .before .before .before .hex .result) (c .before .before .capitals .result) (digits (c .before)))
+    let d = c .before in
+    sym (length-take-le (d .before .before .hex .result) (d .before .capitals .result) (digits d))
 
 put-requires : tie.Need-put-requires
 put-requires c κs = search needs

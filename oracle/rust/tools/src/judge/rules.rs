@@ -11,6 +11,18 @@ pub struct Case<'a> {
     pub wrapping: &'a [u8],
 }
 
+impl Case<'_> {
+    /// Whether both builds of the oracle give the same answer.
+    fn agree(&self) -> bool {
+        self.checked == self.wrapping
+    }
+
+    /// Whether one of them gives this answer.
+    fn either(&self, answer: &[u8]) -> bool {
+        self.checked == answer || self.wrapping == answer
+    }
+}
+
 /// What is said of a case.
 #[derive(Clone, Copy, PartialEq)]
 pub enum Verdict {
@@ -24,49 +36,97 @@ pub enum Verdict {
     Unexplained,
 }
 
-type Rule = fn(&Question, &Case) -> bool;
+/// What a rule says of a case: nothing, or whether the answers are as they have
+/// to be where the rule holds.
+type Rule = fn(&Question, &Case) -> Option<bool>;
 
 /// The listed exceptions by name.
-pub const RULES: [(&str, Rule); 1] = [("argument", argument)];
+pub const RULES: [(&str, Rule); 3] = [
+    ("argument", argument),
+    ("signed", signed),
+    ("allocation", allocation),
+];
 
-/// Whether an argument is out of bounds, for which our reader has 14 and the
-/// crate has nothing: a header is asked for at a place past the end.
-fn out_of_bounds(question: &Question) -> bool {
-    match question {
-        Question::Header { at, bytes } => *at > bytes.len() as u64,
-        _ => false,
+/// The largest single request for memory that the oracle grants.
+const MOST_AT_ONCE: u64 = 1 << 32;
+
+/// An argument is out of bounds, for which our reader has 14 and the crate has
+/// nothing: a header or a body is asked for at a place past the end.
+fn argument(question: &Question, case: &Case) -> Option<bool> {
+    let (at, bytes) = match question {
+        Question::Header { at, bytes } | Question::Body { at, bytes, .. } => (*at, bytes),
+        _ => return None,
+    };
+    if at <= bytes.len() as u64 {
+        return None;
+    }
+    Some(case.ours == b"refused 14" && case.agree() && without_bytes(question, case.checked))
+}
+
+/// Whether the crate can answer so where there is no byte to read.
+fn without_bytes(question: &Question, answer: &[u8]) -> bool {
+    let Question::Body { at, size, .. } = question else {
+        return answer == b"refused 1";
+    };
+    match answer {
+        // Its children are not read.
+        b"master" => true,
+        // An integer, signed ones of length 0 too, a float, a date, a text or
+        // bytes.
+        b"refused 1" => *size <= MOST_AT_ONCE,
+        b"refused 4" => *size > 8,
+        b"refused 5" => *size != 4 && *size != 8,
+        b"refused 6" => *size != 8,
+        b"memory" => *size > MOST_AT_ONCE,
+        b"uint 0" => *size == 0,
+        _ => {
+            let empty = [format!("text {at}+0"), format!("bytes {at}+0")];
+            *size == 0 && empty.iter().any(|text| text.as_bytes() == answer)
+        }
     }
 }
 
-/// Ours tells a broken argument from a byte that is missing; the crate has
-/// only the latter.
-fn argument(question: &Question, case: &Case) -> bool {
-    out_of_bounds(question)
-        && case.ours == b"refused 14"
-        && case.checked == b"refused 1"
-        && case.wrapping == b"refused 1"
+/// A signed integer of length 0 is 0; the crate says that a byte is missing,
+/// and says so of no other body of length 0.
+fn signed(question: &Question, case: &Case) -> Option<bool> {
+    match question {
+        Question::Body { size: 0, .. } if case.either(b"refused 1") => {
+            Some(case.ours == b"int 0" && case.agree())
+        }
+        _ => None,
+    }
+}
+
+/// The crate asks for all of a text's or a run's memory before it reads. Where
+/// that fails the bytes can't be there.
+fn allocation(question: &Question, case: &Case) -> Option<bool> {
+    match question {
+        Question::Body { size, .. } if case.either(b"memory") => {
+            Some(case.ours == b"refused 1" && case.agree() && *size > MOST_AT_ONCE)
+        }
+        _ => None,
+    }
 }
 
 /// Judges one case.
 pub fn verdict(case: &Case) -> Verdict {
-    let question = parse(case.question);
-    // Agreeing with the crate is no excuse where 14 is due.
-    if question.as_ref().is_some_and(out_of_bounds) && case.ours != b"refused 14" {
-        return Verdict::Unexplained;
+    // Agreeing with the crate is no excuse where a rule holds.
+    if let Some(question) = parse(case.question) {
+        for (place, (_, rule)) in RULES.iter().enumerate() {
+            match rule(&question, case) {
+                Some(true) => return Verdict::Exception(place),
+                Some(false) => return Verdict::Unexplained,
+                None => {}
+            }
+        }
     }
     let checked = case.ours == case.checked;
     let wrapping = case.ours == case.wrapping;
     if checked && wrapping {
-        return Verdict::Equal;
-    }
-    if checked || wrapping {
-        return Verdict::EqualToOne;
-    }
-    let Some(question) = question else {
-        return Verdict::Unexplained;
-    };
-    match RULES.iter().position(|(_, rule)| rule(&question, case)) {
-        Some(place) => Verdict::Exception(place),
-        None => Verdict::Unexplained,
+        Verdict::Equal
+    } else if checked || wrapping {
+        Verdict::EqualToOne
+    } else {
+        Verdict::Unexplained
     }
 }

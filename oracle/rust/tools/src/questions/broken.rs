@@ -6,9 +6,17 @@ use crate::random::{hex, Random};
 /// The longest recording that a line may carry, in bytes.
 const MOST_BYTES: u64 = 65_536;
 
-/// Breaks a question whose words are given: the name first, the recording
-/// last.
-pub fn broken(words: &[&str], random: &mut Random) -> Vec<u8> {
+/// What a word of a question is.
+#[derive(Clone, Copy, PartialEq)]
+pub enum Sort {
+    Id,
+    Number,
+    Recording,
+}
+
+/// Breaks a question whose words are given, the name first. The sorts are those
+/// of the words behind the name; a recording stands last.
+pub fn broken(words: &[&str], sorts: &[Sort], random: &mut Random) -> Vec<u8> {
     // Long lines are rare, for they are long.
     if random.once_in(500) {
         return long(words, random);
@@ -17,8 +25,8 @@ pub fn broken(words: &[&str], random: &mut Random) -> Vec<u8> {
         0 => spaces(words, random),
         1 => count(words, random),
         2 => name(words, random),
-        3 => recording(words, random),
-        4 => number(words, random),
+        3 if sorts.last() == Some(&Sort::Recording) => recording(words, random),
+        3..=4 => number(words, sorts, random),
         _ => bytes(words, random),
     }
 }
@@ -101,15 +109,26 @@ fn recording(words: &[&str], random: &mut Random) -> Vec<u8> {
     with(words, last, &word)
 }
 
-/// A number that is none, or none of 64 bits.
-fn number(words: &[&str], random: &mut Random) -> Vec<u8> {
-    let numbers: Vec<usize> = (1..words.len() - 1).collect();
+/// A number that is none, or one too large.
+fn number(words: &[&str], sorts: &[Sort], random: &mut Random) -> Vec<u8> {
+    let numbers: Vec<usize> = (1..words.len())
+        .filter(|place| sorts[place - 1] != Sort::Recording)
+        .collect();
     if numbers.is_empty() {
         return count(words, random);
     }
     let place = random.one_of(&numbers);
-    let good = words[place];
-    let word = match random.below(13) {
+    let word = if sorts[place - 1] == Sort::Id {
+        id(words[place], random)
+    } else {
+        decimal(words[place], random)
+    };
+    with(words, place, &word)
+}
+
+/// A decimal number that is none, or none of 64 bits.
+fn decimal(good: &str, random: &mut Random) -> String {
+    match random.below(13) {
         0 => "18446744073709551616".to_string(),
         1 => "99999999999999999999".to_string(),
         2 => "000000000000000000018446744073709551616".to_string(),
@@ -124,8 +143,31 @@ fn number(words: &[&str], random: &mut Random) -> Vec<u8> {
         // These two are good.
         11 => "18446744073709551615".to_string(),
         _ => format!("{good:0>40}"),
-    };
-    with(words, place, &word)
+    }
+}
+
+/// An id that is none, or none of 32 bits.
+fn id(good: &str, random: &mut Random) -> String {
+    match random.below(17) {
+        0 => "100000000".to_string(),
+        1 => "FFFFFFFFF".to_string(),
+        2 => format!("1{good:0>8}"),
+        3 => format!("1{good:0>16}"),
+        4 => format!("1{good:0>32}"),
+        5 => String::new(),
+        6 => format!("0x{good}"),
+        7 => format!("+{good}"),
+        8 => format!("-{good}"),
+        9 => "-".to_string(),
+        10 => format!("{good}G"),
+        11 => format!("{good}h"),
+        12 => format!("{good},0"),
+        // These four are good.
+        13 => "FFFFFFFF".to_string(),
+        14 => good.to_lowercase(),
+        15 => format!("{good:0>8}"),
+        _ => format!("{good:0>40}"),
+    }
 }
 
 /// A byte that belongs to no word.

@@ -1,7 +1,7 @@
 //! Questions about one header: every short recording, random ones around each
 //! boundary, damaged copies of good ones, and broken lines.
 
-use crate::broken;
+use crate::broken::{self, Sort};
 use crate::random::{hex, Random};
 
 /// Ids that the crate knows, of every width.
@@ -43,7 +43,8 @@ pub fn question(seed: u64, j: u64, random: &mut Random) -> Vec<u8> {
         16..=18 => damaged(random),
         _ => {
             let (at, bytes) = good(random);
-            broken::broken(&["header", &at.to_string(), &hex(&bytes)], random)
+            let words = ["header", &at.to_string(), &hex(&bytes)];
+            broken::broken(&words, &[Sort::Number, Sort::Recording], random)
         }
     }
 }
@@ -156,7 +157,7 @@ fn zeros(bytes: &mut Vec<u8>, random: &mut Random) {
 }
 
 /// A place to ask at, in the recording, at its end, behind it, or too large.
-fn place(length: u64, random: &mut Random) -> String {
+pub fn place(length: u64, random: &mut Random) -> String {
     let place = match random.below(10) {
         0 => 0,
         1 => length / 2,

@@ -1,10 +1,18 @@
 //! Prints questions: `questions SEED COUNT WORD..` gives COUNT questions of the
 //! named kinds in turn, always the same for the same arguments.
+//! `questions whole WORD FROM COUNT` gives a piece of a kind's whole list, which
+//! has fewer questions where the list ends.
 
+mod body;
 mod broken;
 mod header;
+mod ids;
+mod kind;
+mod list;
 mod random;
+mod utf8;
 
+use list::List;
 use random::Random;
 use std::io::{self, BufWriter, Write};
 
@@ -12,22 +20,54 @@ use std::io::{self, BufWriter, Write};
 type Kind = fn(seed: u64, j: u64, random: &mut Random) -> Vec<u8>;
 
 /// The kinds that can be asked for, by their word.
-const KINDS: [(&str, Kind); 1] = [("header", header::question)];
+const KINDS: [(&str, Kind); 4] = [
+    ("header", header::question),
+    ("kind", kind::question),
+    ("utf8", utf8::question),
+    ("body", body::question),
+];
+
+/// The kinds that have a whole list.
+const WHOLE: [(&str, List); 2] = [("kind", kind::WHOLE), ("utf8", utf8::WHOLE)];
 
 fn main() {
     let arguments: Vec<String> = std::env::args().skip(1).collect();
-    let Some((seed, count, kinds)) = understand(&arguments) else {
-        let words: Vec<&str> = KINDS.iter().map(|(word, _)| *word).collect();
+    let printed = if let Some((list, from, count)) = piece(&arguments) {
+        print_piece(&list, from, count)
+    } else if let Some((seed, count, kinds)) = understand(&arguments) {
+        print(seed, count, &kinds)
+    } else {
         eprintln!(
-            "usage: questions SEED COUNT WORD.., words: {}",
-            words.join(" ")
+            "usage: questions SEED COUNT WORD.., words: {}
+       questions whole WORD FROM COUNT, words: {}",
+            KINDS.map(|(word, _)| word).join(" "),
+            WHOLE.map(|(word, _)| word).join(" ")
         );
         std::process::exit(2);
     };
-    if let Err(error) = print(seed, count, &kinds) {
+    if let Err(error) = printed {
         eprintln!("questions: {error}");
         std::process::exit(1);
     }
+}
+
+/// The list that is named, and the piece of it.
+fn piece(arguments: &[String]) -> Option<(List, u64, u64)> {
+    let [whole, word, from, count] = arguments else {
+        return None;
+    };
+    let named = WHOLE.into_iter().find(|(known, _)| known == word);
+    let (_, list) = named.filter(|_| whole == "whole")?;
+    Some((list, from.parse().ok()?, count.parse().ok()?))
+}
+
+fn print_piece(list: &List, from: u64, count: u64) -> io::Result<()> {
+    let mut output = BufWriter::new(io::stdout().lock());
+    for place in from..list.length.min(from.saturating_add(count)) {
+        output.write_all(&(list.at)(place))?;
+        output.write_all(b"\n")?;
+    }
+    output.flush()
 }
 
 /// A kind with its place in the list.

@@ -4,8 +4,8 @@ use mathlib.Core.Path.{sym}
 use native.Mathlib.Omega.{arith}
 use Prim.Native.Nat.{_≤_}
 use lib.Seq.{length-take-le}
-use Rattle.ask.proofs.answers.header.Statement.{statement}
-use Rattle.ask.proofs.answers.header.Tie as tie
+use Rattle.ask.proofs.ask_header.header.Statement.{statement}
+use Rattle.ask.proofs.ask_header.header.Tie as tie
 
 word-requires : tie.Need-word-requires
 word-requires c κs = search needs

@@ -1,0 +1,49 @@
+// `header AT BYTES`: the header at a place of a recording.
+ghost use Rattle.ask.specs.Bounds.{Fits};
+use crate::out;
+use crate::out::Held;
+use crate::told::bad;
+use crate::told::refused;
+use crate::words;
+use crate::words::Count;
+use crate::words::Spelt;
+use header::HeaderReply;
+
+pub fn header(line: &[u8], recording: &mut [u8; 65536], out: &mut [u8; 65536], held: Held) -> Held
+    requires { ⌜ Fits held ⌝ }
+    ensures { λ r. ⌜ Fits r ⌝ }
+{
+    match words::decimal(words::word(line, 1)) {
+        Count::Bad => bad(out, held),
+        Count::Is(at) => match words::spell(words::word(line, 2), recording) {
+            Spelt::Bad => bad(out, held),
+            Spelt::Bytes(length) => {
+                let whole: &[u8] = recording;
+                let reply = header::header_at(&whole[..length], at);
+                header_told(reply, out, held)
+            }
+        },
+    }
+}
+
+// `id ID size N length N`, or the refusal.
+fn header_told(reply: HeaderReply, out: &mut [u8; 65536], held: Held) -> Held
+    requires { ⌜ Fits held ⌝ }
+    ensures { λ r. ⌜ Fits r ⌝ }
+{
+    match reply {
+        HeaderReply::Refused(refusal) => {
+            let n = refused(refusal, out, held);
+            out::put(out, n, b"\n")
+        }
+        HeaderReply::Header(header) => {
+            let n = out::put(out, held, b"id ");
+            let n = out::put_hex(out, n, header.id as u64, 1);
+            let n = out::put(out, n, b" size ");
+            let n = out::put_decimal(out, n, header.size);
+            let n = out::put(out, n, b" length ");
+            let n = out::put_decimal(out, n, header.length);
+            out::put(out, n, b"\n")
+        }
+    }
+}
