@@ -1,10 +1,8 @@
 -- How VINT_WIDTH goes along octets: at their end, over an octet that is 0, and at one that is not. Assumes nothing.
-use mathlib.Core.Path.{_≡_, refl, ap, _∙_, sym, subst}
+use mathlib.Core.Path.{_≡_, refl, ap, _∙_, sym}
 use mathlib.Core.List.{List, [], _∷_, _++_}
-use mathlib.Core.Bool.{Bool, true, false, _&&_, _||_}
-use mathlib.Core.Logic.{⊎-elim}
-use Prim.Native.Nat.{ℕ, zero, suc, _+_, _≤_, _<_}
-use native.Mathlib.Nat.{not-suc-le-zero, eq-or-lt-of-le, le-of-suc-le-suc}
+use mathlib.Core.Bool.{Bool, true, false, _||_}
+use Prim.Native.Nat.{ℕ, suc, _+_, _≤_, _<_}
 use native.Mathlib.Numerals.{add-one}
 use native.Mathlib.Omega.{arith}
 use lib.ListN.{length, drop, getD, drop-of-length-le}
@@ -12,30 +10,9 @@ use lib.Seq.{drop-cons}
 use lib.Dec.{T, eqb, eqb→eq}
 use lib.Count.{leadingZeros}
 use borrow.Author.Tests.{ne-eqb}
+use Rattle.laws.proofs.Computed.{below, at}
 use Rattle.header.specs.Vint.{Width, unmarked, zeros, oneMore, widthOf, octetBits, bits}
 use Rattle.header.specs.Reads.{widthAt, marked, octetsOf}
-
--- ---- a test of each number below a bound, computed once
-
-both-left : (a b : Bool) → T (a && b) → T a
-both-left true b t = tt
-both-left false b t = t
-
-both-right : (a b : Bool) → T (a && b) → T b
-both-right true b t = t
-both-right false b t = absurd t
-
-abbrev below : (ℕ → Bool) → ℕ → Bool
-below f zero = true
-below f (suc n) = f n && below f n
-
-at : (f : ℕ → Bool) (n : ℕ) → T (below f n) → (k : ℕ) → k < n → T (f k)
-at f zero t k h = absurd (not-suc-le-zero h)
-at f (suc n) t k h =
-    ⊎-elim
-    (λ e. subst (λ (m : ℕ). T (f m)) (sym e) (both-left (f n) (below f n) t))
-    (λ l. at f n (both-right (f n) (below f n) t) k l)
-    (eq-or-lt-of-le (le-of-suc-le-suc h))
 
 -- ---- one octet
 

@@ -10,13 +10,14 @@ use lib.ListN.{length, getD}
 use lib.Arith.{lt-of-le-ne}
 use lib.Dec.{T, ltb, ltb→lt, lit<}
 use borrow.Author.Tests.{eq-eqb, ne-eqb}
+use Rattle.laws.proofs.Computed.{both-left, both-right}
 use Rattle.kinds.specs.Elements.{Row, row, elements}
 use Rattle.kinds.specs.Kinds.{numberOf, kindIn}
 use Rattle.kinds.specs.Entries.{entries, Rising, Place}
 use Rattle.kinds.specs.Theorems.{ids}
 use Rattle.kinds.specs.declared.kind.Kind.{Kind}
 use Rattle.kinds.specs.declared.kind.Kind.the-variants.{Master, Int, Uint, String, Utf8, Binary, Float, Date}
-use Rattle.kinds.proofs.Order.{lt-or-le, both-left, both-right, rises}
+use Rattle.kinds.proofs.Order.{lt-or-le, rises}
 
 -- A kind's number is one hexadecimal digit.
 digit : (k : Kind) → numberOf k < 16

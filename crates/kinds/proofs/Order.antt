@@ -9,6 +9,7 @@ use native.Mathlib.Omega.{arith}
 use lib.ListN.{length, getD}
 use lib.Dec.{T, ltb, ltb→lt}
 use borrow.Author.Tests.{ltb-true, ltb-false}
+use Rattle.laws.proofs.Computed.{both-left, both-right}
 use Rattle.kinds.specs.Entries.{Rising}
 
 pub lt-or-le : (a b : ℕ) → (a < b) ⊎ (b ≤ a)
@@ -34,14 +35,6 @@ module _ (xs : List ℕ) (r : Rising xs) (x m : ℕ) where
       (λ e. omega (arith, ap (λ (j : ℕ). getD xs j 0) e))
       (λ s. omega (arith, r .rises m k s h))
       (eq-or-lt-of-le l)
-
-pub both-left : (a b : Bool) → T (a && b) → T a
-both-left true b t = tt
-both-left false b t = t
-
-pub both-right : (a b : Bool) → T (a && b) → T b
-both-right true b t = t
-both-right false b t = absurd t
 
 -- The test: the first number is above a, and each other above the one before it.
 abbrev pub rises : ℕ → List ℕ → Bool

@@ -1,36 +1,13 @@
 -- What the grammar leaves behind a first octet, by tests that antt computes over all octets of a range.
 -- Assumes nothing.
-use mathlib.Core.Path.{_≡_, refl, ap₂, sym, subst}
+use mathlib.Core.Path.{_≡_, refl, ap₂}
 use mathlib.Core.List.{List, [], _∷_}
 use mathlib.Core.Bool.{Bool, true, false, _&&_}
-use mathlib.Core.Logic.{⊎-elim}
-use Prim.Native.Nat.{ℕ, zero, suc, _+_, _-_, _≤_, _<_}
-use native.Mathlib.Nat.{not-suc-le-zero, eq-or-lt-of-le, le-of-suc-le-suc}
+use Prim.Native.Nat.{ℕ, suc, _+_, _-_, _≤_}
 use native.Mathlib.Omega.{arith}
 use lib.Dec.{T, eqb, eqb→eq}
+use Rattle.laws.proofs.Computed.{both-left, both-right, below, at}
 use Rattle.utf8.specs.Utf8.{Range, range, Alternative, utf8Char, behind}
-
-both-left : (a b : Bool) → T (a && b) → T a
-both-left true b t = tt
-both-left false b t = t
-
-both-right : (a b : Bool) → T (a && b) → T b
-both-right true b t = t
-both-right false b t = absurd t
-
--- ---- a test of each number below a bound
-
-abbrev below : (ℕ → Bool) → ℕ → Bool
-below f zero = true
-below f (suc n) = f n && below f n
-
-at : (f : ℕ → Bool) (n : ℕ) → T (below f n) → (k : ℕ) → k < n → T (f k)
-at f zero t k h = absurd (not-suc-le-zero h)
-at f (suc n) t k h =
-    ⊎-elim
-    (λ e. subst (λ (m : ℕ). T (f m)) (sym e) (both-left (f n) (below f n) t))
-    (λ l. at f n (both-right (f n) (below f n) t) k l)
-    (eq-or-lt-of-le (le-of-suc-le-suc h))
 
 -- ---- a test that two lists of alternatives are equal
 

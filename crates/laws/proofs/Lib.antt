@@ -1,0 +1,2 @@
+-- Laws that the proofs of several crates share.
+pub mod Computed
