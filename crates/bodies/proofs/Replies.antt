@@ -1,12 +1,14 @@
 -- A body that was read, in document 01's terms, is what the public definition has. Assumes nothing.
-use mathlib.Core.Path.{_≡_, refl}
+use mathlib.Core.Path.{_≡_, refl, ap, _∙_}
 use mathlib.Core.List.{List}
 use Prim.Native.Nat.{ℕ, _≤_, _<_}
 use lib.ListN.{length}
 use borrow.Author.Tests.{le-leb, lt-leb}
 use Rattle.header.specs.Promise.{mostBytes}
 use Rattle.header.specs.Refusals.{badArgument}
-use Rattle.kinds.specs.Kinds.{kindUnder}
+use Rattle.kinds.specs.Kinds.{numberOf, kindUnder}
+use Rattle.kinds.specs.declared.kind.Kind.{Kind}
+use Rattle.kinds.proofs.Numbers.{number-tells}
 use Rattle.bodies.specs.Bodies.{Told, integer, unsigned, float, date, text, bytes, master, refusal}
 use Rattle.bodies.specs.Bodies.{refuses, bodyOf}
 use Rattle.bodies.specs.Reads.{readOf, bodyRead}
@@ -37,9 +39,12 @@ module _ (s : List ℕ) (id parent at n : ℕ) where
   unfolding bodyReply
   reply-past-end h l = rw (le-leb (length s) mostBytes h, lt-leb at (length s) l)
 
+  -- What was read by the kind that the id has under the parent.
   pub reply-read :
-      length s ≤ mostBytes → at ≤ length s
-      → readReply (bodyRead (kindUnder parent id) s at n) ≡ bodyReply s id parent at n
+      (k : Kind) (r : BodyRead) → numberOf k ≡ numberOf (kindUnder parent id) → r ≡ bodyRead k s at n
+      → length s ≤ mostBytes → at ≤ length s → readReply r ≡ bodyReply s id parent at n
   unfolding bodyRead bodyReply
-  reply-read h l =
-      rw (le-leb (length s) mostBytes h, le-leb at (length s) l) (told-back at n (bodyOf s at n (kindUnder parent id)))
+  reply-read k r same read h l =
+      let kind = number-tells k (kindUnder parent id) same in
+      ap readReply read ∙ told-back at n (bodyOf s at n k)
+      ∙ rw (le-leb (length s) mostBytes h, le-leb at (length s) l) (ap (bodyOf s at n) kind)

@@ -2,10 +2,7 @@
 use borrow.Author.Needs.{needs}
 use mathlib.Core.Path.{_≡_, ap, sym, _∙_}
 use native.Mathlib.Omega.{arith}
-use Rattle.kinds.specs.declared.kind.Kind.{Kind}
-use Rattle.kinds.proofs.Numbers.{number-tells}
 use Rattle.bodies.specs.Bodies.{refuses}
-use Rattle.bodies.specs.Reads.{bodyRead}
 use Rattle.bodies.specs.Promise.{bodyReply}
 use Rattle.bodies.proofs.Replies.{readReply, reply-too-long, reply-past-end, reply-read}
 use Rattle.bodies.proofs.reply.body_at.Statement.{statement}
@@ -17,9 +14,8 @@ as-replied : (c : tie.After-read-body) →
     readReply (c .read-body .result) ≡ bodyReply (a .recording .now) (a .id) (a .parent) (a .at) (a .size)
 as-replied c =
     let a = c .before .before .before .before .before .args in
-    let kind = number-tells _ _ (c .before .kind-of .ensures .reply) in
-    ap readReply (c .read-body .ensures ∙ ap (λ (k : Kind). bodyRead k (a .recording .now) (a .at) (a .size)) kind)
-    ∙ reply-read (a .recording .now) (a .id) (a .parent) (a .at) (a .size) (omega arith) (omega arith)
+    reply-read (a .recording .now) (a .id) (a .parent) (a .at) (a .size) (c .before .kind-of .result)
+    (c .read-body .result) (c .before .kind-of .ensures .reply) (c .read-body .ensures) (omega arith) (omega arith)
 
 bad-argument-requires : tie.Need-bad-argument-requires
 bad-argument-requires c κs = search needs
