@@ -182,9 +182,21 @@ fn body(id: u32, parent: u32, at: u64, size: u64, bytes: &[u8]) -> Outcome<Strin
         ElementType::UInt(number) => format!("uint {}", number),
         ElementType::Float(number) => format!("float {}", float(number)),
         ElementType::Date(date) => format!("date {}", i64::from(date)),
-        ElementType::String(_) | ElementType::UTF8(_) => format!("text {}+{}", at, size),
-        ElementType::Binary(_) => format!("bytes {}+{}", at, size),
+        ElementType::String(text) | ElementType::UTF8(text) => {
+            format!("text {}", range(at, size, text.as_bytes(), bytes)?)
+        }
+        ElementType::Binary(part) => format!("bytes {}", range(at, size, &part, bytes)?),
     })
+}
+
+/// The crate copies a part of the recording and drops its place. The place is
+/// that of the question, where the bytes are those that stand there.
+fn range(at: u64, size: u64, part: &[u8], bytes: &[u8]) -> Outcome<String> {
+    let from = bytes.len().min(at as usize);
+    if part.len() as u64 != size || !bytes[from..].starts_with(part) {
+        return Err(Failed::Fault);
+    }
+    Ok(format!("{}+{}", at, size))
 }
 
 /// All NaNs are told as one.

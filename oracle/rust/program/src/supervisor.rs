@@ -14,9 +14,9 @@ const PATIENCE: Duration = Duration::from_secs(20);
 /// A batch is handed over when it has this many bytes.
 const BATCH: usize = 1 << 20;
 
-/// Of a longer line nothing more is kept: no question is that long, so what
-/// is kept is a bad question too.
-const LONGEST: usize = 1 << 20;
+/// A line of so many bytes or more is no question. It is handed on as an empty
+/// line, which is none either.
+const TOO_LONG: usize = 1 << 20;
 
 /// Some lines, each ended by a line feed.
 struct Batch {
@@ -208,6 +208,9 @@ fn read_batches(to_answer: &SyncSender<Batch>) -> io::Result<()> {
             starts: Vec::new(),
         };
         let mut add = |line: &mut Vec<u8>| {
+            if line.len() >= TOO_LONG {
+                line.clear();
+            }
             batch.starts.push(batch.bytes.len());
             batch.bytes.append(line);
             batch.bytes.push(b'\n');
@@ -217,7 +220,7 @@ fn read_batches(to_answer: &SyncSender<Batch>) -> io::Result<()> {
                 Some((b'\n', text)) => (text, true),
                 _ => (piece, false),
             };
-            let room = (LONGEST + 1).saturating_sub(open.len());
+            let room = TOO_LONG - open.len();
             open.extend_from_slice(&text[..text.len().min(room)]);
             if whole {
                 add(&mut open);

@@ -98,6 +98,7 @@ fn compare(cases: &[Case]) -> Result<bool, String> {
     Ok(smallest.is_none())
 }
 
+/// Prints a case; of a long line the first bytes, and how many it has.
 fn show(case: &Case, ours: &str) {
     let lines = [
         ("question", case.question),
@@ -106,9 +107,17 @@ fn show(case: &Case, ours: &str) {
         ("wrapping", case.wrapping),
     ];
     for (name, line) in lines {
-        println!("{name}: {}", line.escape_ascii());
+        if line.len() <= SHOWN {
+            println!("{name}: {}", line.escape_ascii());
+        } else {
+            let begin = line[..SHOWN].escape_ascii();
+            println!("{name}: {begin}.. ({} bytes)", line.len());
+        }
     }
 }
+
+/// So much of a line is shown.
+const SHOWN: usize = 2_000;
 
 /// Parts stored lines into questions and what is given for them. Where nothing
 /// is given the line is empty.

@@ -19,7 +19,10 @@ pub enum Sort {
 pub fn broken(words: &[&str], sorts: &[Sort], random: &mut Random) -> Vec<u8> {
     // Long lines are rare, for they are long.
     if random.once_in(500) {
-        return long(words, random);
+        return match sorts.last() {
+            Some(Sort::Id) => endless(words, random),
+            _ => long(words, random),
+        };
     }
     match random.below(6) {
         0 => spaces(words, random),
@@ -196,4 +199,21 @@ fn long(words: &[&str], random: &mut Random) -> Vec<u8> {
         _ => return vec![b' '; 300_000],
     };
     with(words, last, &word)
+}
+
+/// A line of so many bytes is no question any more.
+const TOO_LONG: usize = 1 << 20;
+
+/// Zeros without end in front of the last word, an id: a good line that is as
+/// long as one may be, one byte more, and one that is wrong only far behind.
+fn endless(words: &[&str], random: &mut Random) -> Vec<u8> {
+    let line = joined(words);
+    let id = words[words.len() - 1];
+    let (length, end) = match random.below(3) {
+        0 => (TOO_LONG - 1, ""),
+        1 => (TOO_LONG, ""),
+        _ => (1_500_000, "G"),
+    };
+    let zeros = "0".repeat(length - line.len() - end.len());
+    with(words, words.len() - 1, &format!("{zeros}{id}{end}"))
 }
