@@ -1,4 +1,4 @@
--- What the code does with a signed number that it prints. Assumes nothing.
+-- What the code does with a signed number or a float that it prints. Assumes nothing.
 use mathlib.Core.Path.{_≡_}
 use mathlib.Core.Bool.{true, false, not}
 use Prim.Native.Nat.{ℕ, suc, _+_, _-_, _^_, _<_}

@@ -20,7 +20,8 @@ pub fn header(line: &[u8], recording: &mut [u8; 65536], out: &mut [u8; 65536], h
             Spelt::Bytes(length) => {
                 let whole: &[u8] = recording;
                 let reply = header::header_at(&whole[..length], at);
-                header_told(reply, out, held)
+                let n = header_told(reply, out, held);
+                out::put(out, n, b"\n")
             }
         },
     }
@@ -32,18 +33,14 @@ fn header_told(reply: HeaderReply, out: &mut [u8; 65536], held: Held) -> Held
     ensures { λ r. ⌜ Fits r ⌝ }
 {
     match reply {
-        HeaderReply::Refused(refusal) => {
-            let n = refused(refusal, out, held);
-            out::put(out, n, b"\n")
-        }
+        HeaderReply::Refused(refusal) => refused(refusal, out, held),
         HeaderReply::Header(header) => {
             let n = out::put(out, held, b"id ");
             let n = out::put_hex(out, n, header.id as u64, 1);
             let n = out::put(out, n, b" size ");
             let n = out::put_decimal(out, n, header.size);
             let n = out::put(out, n, b" length ");
-            let n = out::put_decimal(out, n, header.length);
-            out::put(out, n, b"\n")
+            out::put_decimal(out, n, header.length)
         }
     }
 }

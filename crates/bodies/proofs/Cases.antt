@@ -5,7 +5,7 @@ use Rattle.header.specs.Vint.{octetBits, bits, oneMore, widthOf, bigEndianFrom,
 use Rattle.header.specs.Header.{sized, named, headerOf}
 use Rattle.header.specs.Promise.{headerReply}
 use Rattle.kinds.specs.Elements.{elements}
-use Rattle.kinds.specs.Kinds.{kindIn, masterIn, kindUnder}
+use Rattle.kinds.specs.Kinds.{kindIn, keeps, kindUnder}
 use Rattle.utf8.specs.Utf8.{utf8Char, behind, anyOf, goesOn, utf8}
 use Rattle.bodies.specs.Numbers.{signedOf}
 use Rattle.bodies.specs.Bodies.{bodyOf}
@@ -14,7 +14,7 @@ use Rattle.bodies.specs.Cases.{cases, Hold}
 
 pub cases-hold : Hold cases
 unfolding octetBits bits oneMore widthOf bigEndianFrom bigEndian ofWidth vintOf sized named headerOf headerReply
-    elements kindIn masterIn kindUnder utf8Char behind anyOf goesOn utf8 signedOf bodyOf bodyReply
+    elements kindIn keeps kindUnder utf8Char behind anyOf goesOn utf8 signedOf bodyOf bodyReply
 cases-hold =
     let body-cases : Hold (drop 10 cases) = (refl, (refl, (refl, (refl, (refl, (refl, tt)))))) in
     (refl, (refl, (refl, (refl, (refl, (refl, (refl, (refl, (refl, (refl, body-cases))))))))))

@@ -8,16 +8,16 @@ use native.Mathlib.Nat.{le-of-suc-le-suc, not-suc-le-zero, eq-or-lt-of-le}
 use native.Mathlib.Omega.{arith}
 use lib.ListN.{length, getD}
 use lib.Arith.{lt-of-le-ne}
-use lib.Dec.{T, ltb, ltb→lt, lit<}
+use lib.Dec.{T, ltb, lit<}
 use borrow.Author.Tests.{eq-eqb, ne-eqb}
-use Rattle.laws.proofs.Computed.{both-left, both-right}
+use Rattle.laws.proofs.Computed.{both-right}
 use Rattle.kinds.specs.Elements.{Row, row, elements}
 use Rattle.kinds.specs.Kinds.{numberOf, kindIn}
 use Rattle.kinds.specs.Entries.{entries, Rising, Place}
 use Rattle.kinds.specs.Theorems.{ids}
 use Rattle.kinds.specs.declared.kind.Kind.{Kind}
 use Rattle.kinds.specs.declared.kind.Kind.the-variants.{Master, Int, Uint, String, Utf8, Binary, Float, Date}
-use Rattle.kinds.proofs.Order.{lt-or-le, rises}
+use Rattle.kinds.proofs.Order.{lt-or-le, rises, above, ordered}
 
 -- A kind's number is one hexadecimal digit.
 digit : (k : Kind) → numberOf k < 16
@@ -37,27 +37,30 @@ id-part n d h = omega arith
 kind-part : (n d : ℕ) → d < 16 → (n * 16 + d) % 16 ≡ d
 kind-part n d h = omega arith
 
--- Where the ids rise above a, every entry lies above all entries of a.
+same-length : (rows : List Row) → length (entries rows) ≡ length (ids rows)
+same-length [] = refl
+same-length (row n k ∷ rows) = ap suc (same-length rows)
+
+-- An entry holds the id of its row.
+id-of-entry :
+    (rows : List Row) (i : ℕ) → i < length (entries rows) → getD (entries rows) i 0 / 16 ≡ getD (ids rows) i 0
+id-of-entry [] i h = absurd (not-suc-le-zero h)
+id-of-entry (row n k ∷ rows) zero h = id-part n (numberOf k) (digit k)
+id-of-entry (row n k ∷ rows) (suc i) h = id-of-entry rows i (le-of-suc-le-suc h)
+
+-- Where the ids rise above a, so does the id of every entry.
 entries-above :
     (a : ℕ) (rows : List Row) → T (rises a (ids rows))
-    → (j : ℕ) → j < length (entries rows) → a * 16 + 15 < getD (entries rows) j 0
-entries-above a [] t j h = absurd (not-suc-le-zero h)
-entries-above a (row n k ∷ rows) t zero h = omega (arith, ltb→lt a n (both-left (ltb a n) (rises n (ids rows)) t))
-entries-above a (row n k ∷ rows) t (suc j) h =
-    let here = ltb→lt a n (both-left (ltb a n) (rises n (ids rows)) t) in
-    let there = entries-above n rows (both-right (ltb a n) (rises n (ids rows)) t) j (le-of-suc-le-suc h) in
-    omega (arith, here, there)
+    → (i : ℕ) → i < length (entries rows) → a < getD (entries rows) i 0 / 16
+entries-above a rows t i h =
+    omega (arith, id-of-entry rows i h, above a (ids rows) t i (omega (arith, same-length rows)))
 
 entries-ordered :
     (a : ℕ) (rows : List Row) → T (rises a (ids rows))
     → (i j : ℕ) → i < j → j < length (entries rows) → getD (entries rows) i 0 < getD (entries rows) j 0
-entries-ordered a [] t i j l h = absurd (not-suc-le-zero h)
-entries-ordered a (row n k ∷ rows) t i zero l h = absurd (not-suc-le-zero l)
-entries-ordered a (row n k ∷ rows) t zero (suc j) l h =
-    let there = entries-above n rows (both-right (ltb a n) (rises n (ids rows)) t) j (le-of-suc-le-suc h) in
-    omega (arith, digit k, there)
-entries-ordered a (row n k ∷ rows) t (suc i) (suc j) l h =
-    entries-ordered n rows (both-right (ltb a n) (rises n (ids rows)) t) i j (le-of-suc-le-suc l) (le-of-suc-le-suc h)
+entries-ordered a rows t i j l h =
+    let less = ordered a (ids rows) t i j l (omega (arith, same-length rows)) in
+    omega (arith, less, id-of-entry rows i (omega arith), id-of-entry rows j h)
 
 -- The order of the ids, carried to the entries.
 pub entries-rise : (rows : List Row) → T (rises 0 (ids rows)) → Rising (entries rows)

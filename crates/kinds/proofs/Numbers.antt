@@ -1,5 +1,6 @@
 -- A kind's number tells the kind. Assumes nothing.
 use mathlib.Core.Path.{_≡_, refl, ap, sym, _∙_}
+use mathlib.Core.Bool.{Bool, true, false, cond}
 use Rattle.kinds.specs.Kinds.{numberOf, demoted}
 use Rattle.kinds.specs.Entries.{kindOf}
 use Rattle.kinds.specs.declared.kind.Kind.{Kind}
@@ -29,3 +30,8 @@ others-stay Utf8 other = refl
 others-stay Binary other = refl
 others-stay Float other = refl
 others-stay Date other = refl
+
+-- A choice of two that are the same.
+pub either : (b : Bool) (k : Kind) → cond b k k ≡ k
+either true k = refl
+either false k = refl

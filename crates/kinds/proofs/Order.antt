@@ -57,6 +57,3 @@ ordered a (x ∷ xs) t zero (suc j) l h =
     above x xs (both-right (ltb a x) (rises x xs) t) j (le-of-suc-le-suc h)
 ordered a (x ∷ xs) t (suc i) (suc j) l h =
     ordered x xs (both-right (ltb a x) (rises x xs) t) i j (le-of-suc-le-suc l) (le-of-suc-le-suc h)
-
-pub rising : (xs : List ℕ) → T (rises 0 xs) → Rising xs
-rising xs t = record { rises = ordered 0 xs t }

@@ -1,16 +1,12 @@
 -- What a parent makes of a kind. Assumes nothing.
-use mathlib.Core.Path.{_≡_, refl, ap, sym, _∙_}
-use mathlib.Core.Bool.{Bool, true, false, cond}
+use mathlib.Core.Path.{_≡_, ap, sym, _∙_}
+use mathlib.Core.Bool.{true, false}
 use Prim.Native.Nat.{ℕ}
 use Rattle.kinds.specs.Elements.{elements}
-use Rattle.kinds.specs.Kinds.{numberOf, kindIn, kindUnder, isMasterUnder, demoted}
+use Rattle.kinds.specs.Kinds.{numberOf, kindIn, kindUnder, staysMaster, demoted}
 use Rattle.kinds.specs.Entries.{kindOf}
 use Rattle.kinds.specs.declared.kind.Kind.the-variants.{Master, Binary}
-use Rattle.kinds.proofs.Numbers.{kind-back, number-tells, others-stay}
-
-either : {A : Type 0} (b : Bool) (x : A) → cond b x x ≡ x
-either true x = refl
-either false x = refl
+use Rattle.kinds.proofs.Numbers.{kind-back, number-tells, others-stay, either}
 
 module _ (parent id : ℕ) where
   -- Under any parent a kind other than master stays.
@@ -20,16 +16,16 @@ module _ (parent id : ℕ) where
   under-other n e other =
       let k = kindIn elements id in
       let stays : demoted k ≡ k = others-stay k (λ q. other (e ∙ q)) in
-      ap kindOf e ∙ kind-back k ∙ rw stays (sym (either (isMasterUnder parent id) k))
+      ap kindOf e ∙ kind-back k ∙ rw stays (sym (either (staysMaster parent id) k))
 
   master : 1 ≡ numberOf (kindIn elements id) → kindIn elements id ≡ Master
   master e = number-tells (kindIn elements id) Master (sym e)
 
   -- A master stays one where the parent's set has it, and is binary where not.
-  pub under-kept : 1 ≡ numberOf (kindIn elements id) → isMasterUnder parent id ≡ true → Master ≡ kindUnder parent id
+  pub under-kept : 1 ≡ numberOf (kindIn elements id) → staysMaster parent id ≡ true → Master ≡ kindUnder parent id
   unfolding kindUnder
   under-kept e kept = rw (kept, master e)
 
-  pub under-lost : 1 ≡ numberOf (kindIn elements id) → isMasterUnder parent id ≡ false → Binary ≡ kindUnder parent id
+  pub under-lost : 1 ≡ numberOf (kindIn elements id) → staysMaster parent id ≡ false → Binary ≡ kindUnder parent id
   unfolding kindUnder demoted
   under-lost e lost = rw (lost, master e)

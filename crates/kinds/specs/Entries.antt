@@ -13,16 +13,16 @@ abbrev pub entries : List Row → List ℕ
 entries [] = []
 entries (row id kind ∷ rows) = (id * 16 + numberOf kind) ∷ entries rows
 
+abbrev pub kinds : List Kind
+kinds = Master ∷ Int ∷ Uint ∷ String ∷ Utf8 ∷ Binary ∷ Float ∷ Date ∷ []
+
 -- The kind with a number; what is no number of a kind is taken as binary.
+abbrev pub numbered : List Kind → ℕ → Kind
+numbered [] n = Binary
+numbered (k ∷ ks) n = cond (eqb n (numberOf k)) k (numbered ks n)
+
 abbrev pub kindOf : ℕ → Kind
-kindOf n =
-    cond (eqb n 1) Master
-    (cond (eqb n 2) Int
-    (cond (eqb n 3) Uint
-    (cond (eqb n 4) String
-    (cond (eqb n 5) Utf8
-    (cond (eqb n 7) Float
-    (cond (eqb n 8) Date Binary))))))
+kindOf n = numbered kinds n
 
 -- Each number is above all before it.
 pub record Rising (xs : List ℕ) : Type 0 where

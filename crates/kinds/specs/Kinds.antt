@@ -45,13 +45,14 @@ unfoldable pub member : List ℕ → ℕ → Bool
 member [] id = false
 member (i ∷ is) id = eqb id i || member is id
 
--- Whether a set of masters that applies under the parent has the id; a parent without a small set has all.
-unfoldable pub masterIn : List Small → ℕ → ℕ → Bool
-masterIn [] parent id = true
-masterIn (under p is ∷ sets) parent id = cond (eqb parent p) (member is id) (masterIn sets parent id)
+-- Whether an id that is a master stays one under the parent: of a parent with a small set only that set's ids do, of
+-- any other parent all do.
+unfoldable pub keeps : List Small → ℕ → ℕ → Bool
+keeps [] parent id = true
+keeps (under p is ∷ sets) parent id = cond (eqb parent p) (member is id) (keeps sets parent id)
 
-abbrev pub isMasterUnder : ℕ → ℕ → Bool
-isMasterUnder parent id = masterIn smallSets parent id
+abbrev pub staysMaster : ℕ → ℕ → Bool
+staysMaster parent id = keeps smallSets parent id
 
 -- An id that loses its master kind is binary.
 unfoldable pub demoted : Kind → Kind
@@ -65,4 +66,4 @@ demoted Float = Float
 demoted Date = Date
 
 unfoldable pub kindUnder : ℕ → ℕ → Kind
-kindUnder parent id = cond (isMasterUnder parent id) (kindIn elements id) (demoted (kindIn elements id))
+kindUnder parent id = cond (staysMaster parent id) (kindIn elements id) (demoted (kindIn elements id))

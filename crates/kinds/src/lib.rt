@@ -1,7 +1,7 @@
 // The kind of an element by its id and its parent's (document 01, Kinds).
 //
-// `kind_of` is the public call. The crates above name `TABLE` once in their outermost call and lend
-// it to `kind_in`: a constant is built anew on the stack wherever it is named.
+// `kind_of` is the public call. A crate above that asks for many kinds names `TABLE` once, in its
+// outermost call, and lends it to `kind_in`: a constant is built anew wherever it is named.
 pub mod ids;
 mod kind;
 mod lookup;

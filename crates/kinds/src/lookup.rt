@@ -2,7 +2,7 @@
 ghost use mathlib.Core.Path.{_≡_};
 ghost use Rattle.kinds.specs.Elements.{elements};
 ghost use Rattle.kinds.specs.Entries.{entries, Rising, Place};
-ghost use Rattle.kinds.specs.Kinds.{numberOf, kindIn, kindUnder, isMasterUnder};
+ghost use Rattle.kinds.specs.Kinds.{numberOf, kindIn, kindUnder, staysMaster};
 ghost use Rattle.kinds.specs.Promise.{KindPromise};
 use crate::ids;
 use crate::kind::Kind;
@@ -52,8 +52,8 @@ fn listed_number(table: &[u64], id: u32) -> u64
 }
 
 // Whether an id that is a master by the list stays one under this parent.
-fn is_master_under(id: u32, parent: u32) -> bool
-    ensures { λ r. ⌜ r ≡ isMasterUnder parent id ⌝ }
+fn stays_master(id: u32, parent: u32) -> bool
+    ensures { λ r. ⌜ r ≡ staysMaster parent id ⌝ }
 {
     match parent {
         ids::INFO => id == CHAPTERTRANSLATE,
@@ -74,7 +74,7 @@ pub fn kind_in(table: &[u64], id: u32, parent: u32) -> Kind
     if number != MASTER {
         return Kind::of_number(number);
     }
-    if is_master_under(id, parent) {
+    if stays_master(id, parent) {
         return Kind::Master;
     }
     Kind::Binary

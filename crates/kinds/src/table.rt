@@ -1,7 +1,7 @@
 // The one list of ids with their kinds (document 01, Kinds), as it is lent to each lookup.
 
 // How many ids have a kind of their own.
-pub const COUNT: usize = 253;
+const COUNT: usize = 253;
 
 // The ids, rising, each followed by one hexadecimal digit: the number of its kind.
 pub const TABLE: [u64; COUNT] = [

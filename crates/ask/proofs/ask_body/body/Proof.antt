@@ -1,4 +1,4 @@
--- `body` keeps the buffer within its room. Assumes nothing.
+-- `body` keeps the buffer within its room: the recording is a part of its own. Assumes nothing.
 use borrow.Author.Needs.{needs}
 use mathlib.Core.Path.{sym}
 use native.Mathlib.Omega.{arith}

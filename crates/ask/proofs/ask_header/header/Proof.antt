@@ -1,4 +1,4 @@
--- `header` meets its contract: the recording is a part of its buffer. Assumes nothing.
+-- `header` keeps the buffer within its room: the recording is a part of its own. Assumes nothing.
 use borrow.Author.Needs.{needs}
 use mathlib.Core.Path.{sym}
 use native.Mathlib.Omega.{arith}
@@ -49,6 +49,12 @@ header-at-requires c κs = search needs
 header-told-requires : tie.Need-header-told-requires
 header-told-requires c κs = search needs
 
+slice-aggregate-put : tie.Need-slice-aggregate-put
+slice-aggregate-put c = search needs
+
+put-requires : tie.Need-put-requires
+put-requires c κs = search needs
+
 returns : tie.Need-returns
 returns c = search needs
 
@@ -75,6 +81,8 @@ header-spec =
     slice-aggregate-header-at
     header-at-requires
     header-told-requires
+    slice-aggregate-put
+    put-requires
     returns
     returns-2
     returns-3)

@@ -16,20 +16,20 @@ returns c =
     let number = c .before .before .listed-number .ensures in
     c .of-number .ensures ∙ under-other _ _ _ number (c .before .if1 .taken)
 
-is-master-under-requires : tie.Need-is-master-under-requires
-is-master-under-requires c κs = search needs
+stays-master-requires : tie.Need-stays-master-requires
+stays-master-requires c κs = search needs
 
 returns-2 : tie.Need-returns-2
 returns-2 c =
     let number = c .before .before .before .listed-number .ensures in
     let one = c .before .before .if1 .left in
-    under-kept _ _ (sym one ∙ number) (sym (c .before .is-master-under .ensures) ∙ c .if2 .taken)
+    under-kept _ _ (sym one ∙ number) (sym (c .before .stays-master .ensures) ∙ c .if2 .taken)
 
 returns-3 : tie.Need-returns-3
 returns-3 c =
     let number = c .before .before .before .listed-number .ensures in
     let one = c .before .before .if1 .left in
-    under-lost _ _ (sym one ∙ number) (sym (c .before .is-master-under .ensures) ∙ c .if2 .left)
+    under-lost _ _ (sym one ∙ number) (sym (c .before .stays-master .ensures) ∙ c .if2 .left)
 
 pub kind-in-spec : {M : Type 1} → statement M
 kind-in-spec =
@@ -38,6 +38,6 @@ kind-in-spec =
     listed-number-requires
     of-number-requires
     returns
-    is-master-under-requires
+    stays-master-requires
     returns-2
     returns-3)

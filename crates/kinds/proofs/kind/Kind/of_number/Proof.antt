@@ -1,7 +1,10 @@
 -- `Kind::of_number` meets its contract: each number of a kind is an arm of its own. Assumes nothing.
 use mathlib.Core.Path.{ap, sym}
+use lib.Dec.{eqb}
 use borrow.Author.Tests.{ne-eqb}
 use Rattle.kinds.specs.Entries.{kindOf}
+use Rattle.kinds.specs.declared.kind.Kind.the-variants.{Binary}
+use Rattle.kinds.proofs.Numbers.{either}
 use Rattle.kinds.proofs.kind.Kind.of_number.Statement.{statement}
 use Rattle.kinds.proofs.kind.Kind.of_number.Tie as tie
 
@@ -38,6 +41,7 @@ returns-8 c =
       ne-eqb _ _ (other .0 .1),
       ne-eqb _ _ (other .1),
     )
+    (sym (either (eqb (c .before .args .number) 6) Binary))
 
 pub of-number-spec : {M : Type 1} → statement M
 of-number-spec =
