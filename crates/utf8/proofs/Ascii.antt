@@ -1,6 +1,7 @@
 -- Octets joined to one word, and a mask of their high bits that finds none. Assumes nothing.
 use mathlib.Core.Path.{_≡_, ap, _∙_, sym}
 use mathlib.Core.List.{List, []}
+use mathlib.Core.Bool.{Bool}
 use Prim.Native.Nat.{ℕ, zero, suc, _+_, _-_, _*_, _^_, _/_, _%_, _≤_, _<_}
 use native.Mathlib.Omega.{arith}
 use native.Mathlib.Nat.{mod-eq-of-lt}
@@ -9,13 +10,14 @@ use lib.ListN.{length, drop, getD}
 use Rattle.utf8.specs.Utf8.{goesOn}
 use Rattle.utf8.proofs.Steps.{step-ascii}
 
--- the n octets from i on as one word, the first the highest
-abbrev pub word : List ℕ → ℕ → ℕ → ℕ
-word s i zero = 0
-word s i (suc n) = word s i n * 256 + getD s (i + n) 0
+-- the n octets behind the first k of those from i on as one word, the last the highest
+abbrev pub word : List ℕ → ℕ → ℕ → ℕ → ℕ
+word s i k zero = 0
+word s i k (suc n) = word s i (suc k) n * 256 + getD s (i + k) 0
 
-pub word-more : (s : List ℕ) (i n v w : ℕ) → v ≡ word s i n → w ≡ v * 256 + getD s (i + n) 0 → w ≡ word s i (suc n)
-word-more s i n v w e h = h ∙ ap (λ (x : ℕ). x * 256 + getD s (i + n) 0) e
+pub word-more :
+    (s : List ℕ) (i k n v w : ℕ) → v ≡ word s i (suc k) n → w ≡ v * 256 + getD s (i + k) 0 → w ≡ word s i k (suc n)
+word-more s i k n v w e h = h ∙ ap (λ (x : ℕ). x * 256 + getD s (i + k) 0) e
 
 -- the high bits of n octets
 abbrev pub highs : ℕ → ℕ
@@ -33,10 +35,13 @@ clear a m b h e =
     let z : b / 128 ≡ 0 = sym (mod-eq-of-lt x) ∙ y in
     (omega arith, omega arith)
 
-pub ascii-passed : (s : List ℕ) → ((j : ℕ) → getD s j 0 < 256) → (i n : ℕ) → i + n ≤ length s
-    → bitAnd (word s i n) (highs n) ≡ 0 → goesOn [] (drop i s) ≡ goesOn [] (drop (i + n) s)
-ascii-passed s o i zero h e = let d : i + 0 ≡ i = omega arith in rw d
-ascii-passed s o i (suc n) h e =
-    let (c, l) = clear (word s i n) (highs n) (getD s (i + n) 0) (o (i + n)) e in
-    let d : i + suc n ≡ i + n + 1 = omega arith in
-    ascii-passed s o i n (omega arith) c ∙ rw d (step-ascii s (i + n) (omega arith) l)
+pub ascii-passed : (s : List ℕ) → ((j : ℕ) → getD s j 0 < 256) → (i k n : ℕ) → i + k + n ≤ length s
+    → bitAnd (word s i k n) (highs n) ≡ 0 → goesOn [] (drop (i + k) s) ≡ goesOn [] (drop (i + k + n) s)
+ascii-passed s o i k zero h e = let d : i + k + 0 ≡ i + k = omega arith in rw d
+ascii-passed s o i k (suc n) h e =
+    let (c, l) = clear (word s i (suc k) n) (highs n) (getD s (i + k) 0) (o (i + k)) e in
+    let here : i + suc k ≡ i + k + 1 = omega arith in
+    let there : i + suc k + n ≡ i + k + suc n = omega arith in
+    let from : ℕ → Bool = λ m. goesOn [] (drop m s) in
+    let rest = ascii-passed s o i (suc k) n (omega arith) c in
+    step-ascii s (i + k) (omega arith) l ∙ ap from (sym here) ∙ rest ∙ ap from there

@@ -102,21 +102,21 @@ fn joined(word: u64, b: u8) -> u64
     word * 256 + b as u64
 }
 
-// Whether the eight bytes from `at` on are ASCII: none has its high bit. In `past_ascii`, where nothing
-// else reads them, the compiler makes one load of the eight.
+// Whether the eight bytes from `at` on are ASCII: none has its high bit. The last byte is the highest of
+// the word, so that the compiler makes one load of the eight in `past_ascii`, where nothing else reads them.
 fn are_ascii(bytes: &[u8], at: usize) -> bool
     requires { ⌜ at + 8 ≤ length (now bytes) ⌝ }
     ensures { λ r. ⌜ (r ≡ true
         → goesOn [] (drop at (now (bytes .entry))) ≡ goesOn [] (drop (at + 8) (now (bytes .entry)))) ⌝ }
 {
-    let a = joined(0, bytes[at]);
-    let b = joined(a, bytes[at + 1]);
-    let c = joined(b, bytes[at + 2]);
-    let d = joined(c, bytes[at + 3]);
-    let e = joined(d, bytes[at + 4]);
-    let f = joined(e, bytes[at + 5]);
-    let g = joined(f, bytes[at + 6]);
-    let h = joined(g, bytes[at + 7]);
+    let a = joined(0, bytes[at + 7]);
+    let b = joined(a, bytes[at + 6]);
+    let c = joined(b, bytes[at + 5]);
+    let d = joined(c, bytes[at + 4]);
+    let e = joined(d, bytes[at + 3]);
+    let f = joined(e, bytes[at + 2]);
+    let g = joined(f, bytes[at + 1]);
+    let h = joined(g, bytes[at]);
     h & 0x8080_8080_8080_8080 == 0
 }
 

@@ -1,9 +1,9 @@
 -- `are_ascii` meets its contract: the word is the eight octets, and its high bits are theirs. Assumes nothing.
 use borrow.Author.Needs.{needs}
-use mathlib.Core.Path.{_≡_, _∙_}
+use mathlib.Core.Path.{_≡_, sym}
 use native.Mathlib.Nat.{add-zero}
 use native.Mathlib.Omega.{arith}
-use Prim.Native.Nat.{ℕ, suc, _+_, _*_, _<_}
+use Prim.Native.Nat.{ℕ, _+_, _*_, _<_}
 use lib.ListN.{getD}
 use lib.Bits.{bitAnd}
 use borrow.Author.Tests.{eqb-true}
@@ -11,14 +11,17 @@ use Rattle.utf8.proofs.Ascii.{word, word-more, highs, ascii-passed}
 use Rattle.utf8.proofs.are_ascii.Statement.{statement}
 use Rattle.utf8.proofs.are_ascii.Tie as tie
 
+add-joined : tie.Need-add-joined
+add-joined c = search needs
+
 shared-slice-read-joined : tie.Need-shared-slice-read-joined
 shared-slice-read-joined c = search needs
 
 joined-requires : tie.Need-joined-requires
 joined-requires c κs = search needs
 
-add-joined : tie.Need-add-joined
-add-joined c = search needs
+add-joined-2 : tie.Need-add-joined-2
+add-joined-2 c = search needs
 
 shared-slice-read-joined-2 : tie.Need-shared-slice-read-joined-2
 shared-slice-read-joined-2 c = search needs
@@ -26,8 +29,8 @@ shared-slice-read-joined-2 c = search needs
 joined-requires-2 : tie.Need-joined-requires-2
 joined-requires-2 c κs = search needs
 
-add-joined-2 : tie.Need-add-joined-2
-add-joined-2 c = search needs
+add-joined-3 : tie.Need-add-joined-3
+add-joined-3 c = search needs
 
 shared-slice-read-joined-3 : tie.Need-shared-slice-read-joined-3
 shared-slice-read-joined-3 c = search needs
@@ -35,8 +38,8 @@ shared-slice-read-joined-3 c = search needs
 joined-requires-3 : tie.Need-joined-requires-3
 joined-requires-3 c κs = search needs
 
-add-joined-3 : tie.Need-add-joined-3
-add-joined-3 c = search needs
+add-joined-4 : tie.Need-add-joined-4
+add-joined-4 c = search needs
 
 shared-slice-read-joined-4 : tie.Need-shared-slice-read-joined-4
 shared-slice-read-joined-4 c = search needs
@@ -44,8 +47,8 @@ shared-slice-read-joined-4 c = search needs
 joined-requires-4 : tie.Need-joined-requires-4
 joined-requires-4 c κs = search needs
 
-add-joined-4 : tie.Need-add-joined-4
-add-joined-4 c = search needs
+add-joined-5 : tie.Need-add-joined-5
+add-joined-5 c = search needs
 
 shared-slice-read-joined-5 : tie.Need-shared-slice-read-joined-5
 shared-slice-read-joined-5 c = search needs
@@ -53,8 +56,8 @@ shared-slice-read-joined-5 c = search needs
 joined-requires-5 : tie.Need-joined-requires-5
 joined-requires-5 c κs = search needs
 
-add-joined-5 : tie.Need-add-joined-5
-add-joined-5 c = search needs
+add-joined-6 : tie.Need-add-joined-6
+add-joined-6 c = search needs
 
 shared-slice-read-joined-6 : tie.Need-shared-slice-read-joined-6
 shared-slice-read-joined-6 c = search needs
@@ -62,17 +65,14 @@ shared-slice-read-joined-6 c = search needs
 joined-requires-6 : tie.Need-joined-requires-6
 joined-requires-6 c κs = search needs
 
-add-joined-6 : tie.Need-add-joined-6
-add-joined-6 c = search needs
+add-joined-7 : tie.Need-add-joined-7
+add-joined-7 c = search needs
 
 shared-slice-read-joined-7 : tie.Need-shared-slice-read-joined-7
 shared-slice-read-joined-7 c = search needs
 
 joined-requires-7 : tie.Need-joined-requires-7
 joined-requires-7 c κs = search needs
-
-add-joined-7 : tie.Need-add-joined-7
-add-joined-7 c = search needs
 
 shared-slice-read-joined-8 : tie.Need-shared-slice-read-joined-8
 shared-slice-read-joined-8 c = search needs
@@ -91,45 +91,44 @@ returns c t =
     let c1 = c2 .before .before in
     let a = c1 .before .before .before .args in
     let s = a .bytes .now in
+    let i = a .at in
     let octet : (j : ℕ) → getD s j 0 < 256 = λ j. omega (arith, c1 .before .before .shared-slice-known .given j) in
-    let more : (n v w : ℕ) → v ≡ word s (a .at) n → w ≡ v * 256 + getD s (a .at + n) 0 → w ≡ word s (a .at) (suc n) =
-    word-more s (a .at) in
-    let w1 : c1 .joined .result ≡ word s (a .at) 1 = c1 .joined .ensures .0 ∙ rw (add-zero (a .at)) in
-    let w2 = more 1 _ _ w1 (c2 .joined2 .ensures .0) in
-    let w3 = more 2 _ _ w2 (c3 .joined3 .ensures .0) in
-    let w4 = more 3 _ _ w3 (c4 .joined4 .ensures .0) in
-    let w5 = more 4 _ _ w4 (c5 .joined5 .ensures .0) in
-    let w6 = more 5 _ _ w5 (c6 .joined6 .ensures .0) in
-    let w7 = more 6 _ _ w6 (c7 .joined7 .ensures .0) in
-    let w8 = more 7 _ _ w7 (c .joined8 .ensures .0) in
+    let w1 : c1 .joined .result ≡ word s i 7 1 = c1 .joined .ensures .0 in
+    let w2 = word-more s i 6 1 _ _ w1 (c2 .joined2 .ensures .0) in
+    let w3 = word-more s i 5 2 _ _ w2 (c3 .joined3 .ensures .0) in
+    let w4 = word-more s i 4 3 _ _ w3 (c4 .joined4 .ensures .0) in
+    let w5 = word-more s i 3 4 _ _ w4 (c5 .joined5 .ensures .0) in
+    let w6 = word-more s i 2 5 _ _ w5 (c6 .joined6 .ensures .0) in
+    let w7 = word-more s i 1 6 _ _ w6 (c7 .joined7 .ensures .0) in
+    let w8 = word-more s i 0 7 _ (c .joined8 .result) w7 (rw (add-zero i) (c .joined8 .ensures .0)) in
     let clear = eqb-true (bitAnd (c .joined8 .result) (highs 8)) 0 t in
-    ascii-passed s octet (a .at) 8 (omega arith) (rw w8 at clear)
+    rw (sym (add-zero i)) (ascii-passed s octet i 0 8 (omega arith) (rw w8 at clear))
 
 pub are-ascii-spec : {M : Type 1} → statement M
 are-ascii-spec =
     tie.close
     (tie.spec
+    add-joined
     shared-slice-read-joined
     joined-requires
-    add-joined
+    add-joined-2
     shared-slice-read-joined-2
     joined-requires-2
-    add-joined-2
+    add-joined-3
     shared-slice-read-joined-3
     joined-requires-3
-    add-joined-3
+    add-joined-4
     shared-slice-read-joined-4
     joined-requires-4
-    add-joined-4
+    add-joined-5
     shared-slice-read-joined-5
     joined-requires-5
-    add-joined-5
+    add-joined-6
     shared-slice-read-joined-6
     joined-requires-6
-    add-joined-6
+    add-joined-7
     shared-slice-read-joined-7
     joined-requires-7
-    add-joined-7
     shared-slice-read-joined-8
     joined-requires-8
     returns)
