@@ -37,6 +37,7 @@ module _ (s : List ℕ) (at size : ℕ) where
   abbrev pub payload : List ℕ
   payload = take size (drop at s)
 
+  -- Those octets as one big-endian number.
   abbrev pub number : ℕ
   number = bigEndian payload
 

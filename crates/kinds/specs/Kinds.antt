@@ -41,6 +41,7 @@ smallSets =
     ∷ under 0x1254C367 (0x7373 ∷ [])
     ∷ []
 
+-- Whether the id is one of them.
 unfoldable pub member : List ℕ → ℕ → Bool
 member [] id = false
 member (i ∷ is) id = eqb id i || member is id
@@ -65,5 +66,6 @@ demoted Binary = Binary
 demoted Float = Float
 demoted Date = Date
 
+-- The kind of an id under a parent id; 0 where there is no parent.
 unfoldable pub kindUnder : ℕ → ℕ → Kind
 kindUnder parent id = cond (staysMaster parent id) (kindIn elements id) (demoted (kindIn elements id))
