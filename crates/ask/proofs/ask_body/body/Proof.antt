@@ -1,9 +1,7 @@
 -- `body` keeps the buffer within its room: the recording is a part of its own. Assumes nothing.
 use borrow.Author.Needs.{needs}
-use mathlib.Core.Path.{sym}
 use native.Mathlib.Omega.{arith}
-use Prim.Native.Nat.{_≤_}
-use lib.Seq.{length-take-le}
+use Rattle.ask.proofs.Parts.{spelt-part}
 use Rattle.ask.proofs.ask_body.body.Statement.{statement}
 use Rattle.ask.proofs.ask_body.body.Tie as tie
 
@@ -37,8 +35,8 @@ enum-known-length c = search needs
 slice-aggregate-body-at : tie.Need-slice-aggregate-body-at
 slice-aggregate-body-at c =
     let d = c .before .before .before .before in
-    let few : d .length .given .0 .0 ≤ 65536 = rw (d .length .given .1) at (d .before .before .spell .ensures) in
-    sym (length-take-le (d .length .given .0 .0) (d .before .before .spell .last .1 .0) (omega arith))
+    let spelt = d .before .before .spell in
+    spelt-part (spelt .result) _ (d .length .given .1) (spelt .ensures) (spelt .last .1 .0) (omega arith)
 
 body-at-requires : tie.Need-body-at-requires
 body-at-requires c κs = search needs

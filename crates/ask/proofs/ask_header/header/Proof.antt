@@ -1,9 +1,7 @@
 -- `header` keeps the buffer within its room: the recording is a part of its own. Assumes nothing.
 use borrow.Author.Needs.{needs}
-use mathlib.Core.Path.{sym}
 use native.Mathlib.Omega.{arith}
-use Prim.Native.Nat.{_≤_}
-use lib.Seq.{length-take-le}
+use Rattle.ask.proofs.Parts.{spelt-part}
 use Rattle.ask.proofs.ask_header.header.Statement.{statement}
 use Rattle.ask.proofs.ask_header.header.Tie as tie
 
@@ -40,8 +38,8 @@ enum-known-length c = search needs
 slice-aggregate-header-at : tie.Need-slice-aggregate-header-at
 slice-aggregate-header-at c =
     let d = c .before .before .before .before in
-    let few : d .length .given .0 .0 ≤ 65536 = rw (d .length .given .1) at (d .before .before .spell .ensures) in
-    sym (length-take-le (d .length .given .0 .0) (d .before .before .spell .last .1 .0) (omega arith))
+    let spelt = d .before .before .spell in
+    spelt-part (spelt .result) _ (d .length .given .1) (spelt .ensures) (spelt .last .1 .0) (omega arith)
 
 header-at-requires : tie.Need-header-at-requires
 header-at-requires c κs = search needs

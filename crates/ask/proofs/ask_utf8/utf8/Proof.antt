@@ -1,9 +1,7 @@
 -- `utf8` keeps the buffer within its room: the recording is a part of its own. Assumes nothing.
 use borrow.Author.Needs.{needs}
-use mathlib.Core.Path.{sym}
 use native.Mathlib.Omega.{arith}
-use Prim.Native.Nat.{_≤_}
-use lib.Seq.{length-take-le}
+use Rattle.ask.proofs.Parts.{spelt-part}
 use Rattle.ask.proofs.ask_utf8.utf8.Statement.{statement}
 use Rattle.ask.proofs.ask_utf8.utf8.Tie as tie
 
@@ -25,8 +23,8 @@ enum-known-length c = search needs
 slice-aggregate-is-utf8 : tie.Need-slice-aggregate-is-utf8
 slice-aggregate-is-utf8 c =
     let d = c .before .before .before .before in
-    let few : d .length .given .0 .0 ≤ 65536 = rw (d .length .given .1) at (d .before .before .spell .ensures) in
-    sym (length-take-le (d .length .given .0 .0) (d .before .before .spell .last .1 .0) (omega arith))
+    let spelt = d .before .before .spell in
+    spelt-part (spelt .result) _ (d .length .given .1) (spelt .ensures) (spelt .last .1 .0) (omega arith)
 
 is-utf8-requires : tie.Need-is-utf8-requires
 is-utf8-requires c κs = search needs
