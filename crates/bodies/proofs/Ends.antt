@@ -1,6 +1,6 @@
--- Whether octets are there: tested without a sum, and with its answer turned round. Assumes nothing.
+-- Whether octets are there: tested without a sum. Assumes nothing.
 use mathlib.Core.Path.{_≡_, refl, sym, _∙_}
-use mathlib.Core.Bool.{Bool, true, false, not}
+use mathlib.Core.Bool.{Bool, true, false}
 use Prim.Native.Nat.{ℕ, _+_, _-_, _≤_}
 use native.Mathlib.Omega.{arith}
 use lib.Dec.{leb}
@@ -12,18 +12,3 @@ same-room at size end h = by (leb size (end - at)) refl
     by : (t : Bool) → leb size (end - at) ≡ t → leb size (end - at) ≡ leb (at + size) end
     by true e = e ∙ sym (le-leb (at + size) end (omega (arith, leb-true size (end - at) e)))
     by false e = e ∙ sym (lt-leb (at + size) end (omega (arith, leb-false size (end - at) e)))
-
-module _ (there r : Bool) (e : r ≡ there) where
-  pub absent : not r ≡ true → there ≡ false
-  absent h = sym e ∙ by r h
-    where
-      by : (b : Bool) → not b ≡ true → b ≡ false
-      by true h = sym h
-      by false h = refl
-
-  pub present : not r ≡ false → there ≡ true
-  present h = sym e ∙ by r h
-    where
-      by : (b : Bool) → not b ≡ false → b ≡ true
-      by true h = refl
-      by false h = sym h

@@ -23,33 +23,10 @@ use Rattle.header.specs.declared.cursor.Cursor.{Cursor}
 use Rattle.header.specs.declared.cursor.Header.{Header}
 use Rattle.header.specs.declared.cursor.HeaderRead.the-variants.{Read}
 use Rattle.header.proofs.BigEndian.{octets-drop, octets-take, from-same, from-range}
+use Rattle.header.proofs.Inside.{Made, made}
 use Rattle.header.proofs.Widths.{eight, width-end, width-zero, width-one}
 
 -- ---- a VINT that was read
-
--- what a VINT of z zero bits is made of
-record Made (most : ℕ) (s : List ℕ) (w : Width) (n v : ℕ) : Type 0 where
-  z : ℕ
-  width : w ≡ zeros z
-  few : z < most
-  there : z + 1 ≤ length s
-  octets : n ≡ z + 1
-  value : v ≡ bigEndian (take (z + 1) s)
-
-made : (most n v : ℕ) (s : List ℕ) (w : Width) → ofWidth most s w ≡ vint n v → Made most s w n v
-unfolding ofWidth
-made most n v s unmarked q = let x : _≡_ {A = ℕ} 0 1 = cc in absurd (omega arith)
-made most n v s (zeros z) q = go (ltb z most) refl (leb (z + 1) (length s)) refl q
-  where
-    go : (b : Bool) → ltb z most ≡ b → (c : Bool) → leb (z + 1) (length s) ≡ c
-        → cond b (cond c (vint (z + 1) (bigEndian (take (z + 1) s))) ends) long ≡ vint n v
-        → Made most s (zeros z) n v
-    go true d true e w =
-        let some = ltb-true z most d in
-        let whole = leb-true (z + 1) (length s) e in
-        record { z = z; width = refl; few = some; there = whole; octets = cc; value = cc }
-    go true d false e w = let x : _≡_ {A = ℕ} 0 1 = cc in absurd (omega arith)
-    go false d c e w = let x : _≡_ {A = ℕ} 0 1 = cc in absurd (omega arith)
 
 -- the first octet of a VINT with fewer than 8 zero bits: the marker is its highest one bit
 record First (s : List ℕ) (z : ℕ) : Type 0 where

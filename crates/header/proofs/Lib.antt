@@ -6,4 +6,5 @@ pub mod Data
 pub mod Headers
 pub mod Replies
 pub mod Unique
+pub mod Inside
 pub mod Determined

@@ -10,6 +10,10 @@ invalidId = record { number = 2; id = 0 }
 abbrev pub invalidSize : Refusal
 invalidSize = record { number = 3; id = 0 }
 
+-- An element larger than what its master had left.
+abbrev pub overrun : Refusal
+overrun = record { number = 3; id = 0 }
+
 abbrev pub invalidUint : Refusal
 invalidUint = record { number = 4; id = 0 }
 
@@ -22,5 +26,15 @@ invalidDate = record { number = 6; id = 0 }
 abbrev pub notUtf8 : Refusal
 notUtf8 = record { number = 7; id = 0 }
 
+abbrev pub tooDeep : Refusal
+tooDeep = record { number = 12; id = 0 }
+
+abbrev pub noFreeRow : Refusal
+noFreeRow = record { number = 13; id = 0 }
+
 abbrev pub badArgument : Refusal
 badArgument = record { number = 14; id = 0 }
+
+-- The address is outside the payload.
+abbrev pub outside : Refusal
+outside = record { number = 15; id = 0 }

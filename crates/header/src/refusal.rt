@@ -2,6 +2,7 @@
 ghost use mathlib.Core.Path.{_≡_};
 ghost use Rattle.header.specs.Refusals.{pastEnd, invalidId, invalidSize, badArgument};
 ghost use Rattle.header.specs.Refusals.{invalidUint, invalidFloat, invalidDate, notUtf8};
+ghost use Rattle.header.specs.Refusals.{overrun, tooDeep, noFreeRow, outside};
 
 // Why a call refuses: document 01's number, and for number 8 the id, else 0.
 pub struct Refusal {
@@ -28,6 +29,13 @@ impl Refusal {
     // 3: a size of more than eight bytes.
     pub fn invalid_size() -> Refusal
         ensures { λ r. ⌜ r ≡ invalidSize ⌝ }
+    {
+        Refusal { number: 3, id: 0 }
+    }
+
+    // 3: an element larger than what its master had left.
+    pub fn overrun() -> Refusal
+        ensures { λ r. ⌜ r ≡ overrun ⌝ }
     {
         Refusal { number: 3, id: 0 }
     }
@@ -60,10 +68,31 @@ impl Refusal {
         Refusal { number: 7, id: 0 }
     }
 
+    // 12: a row at depth 16 would be needed.
+    pub fn too_deep() -> Refusal
+        ensures { λ r. ⌜ r ≡ tooDeep ⌝ }
+    {
+        Refusal { number: 12, id: 0 }
+    }
+
+    // 13: the table has no free row.
+    pub fn no_free_row() -> Refusal
+        ensures { λ r. ⌜ r ≡ noFreeRow ⌝ }
+    {
+        Refusal { number: 13, id: 0 }
+    }
+
     // 14: a length or a place that the caller gave is out of bounds.
     pub fn bad_argument() -> Refusal
         ensures { λ r. ⌜ r ≡ badArgument ⌝ }
     {
         Refusal { number: 14, id: 0 }
+    }
+
+    // 15: the address is outside the payload.
+    pub fn outside() -> Refusal
+        ensures { λ r. ⌜ r ≡ outside ⌝ }
+    {
+        Refusal { number: 15, id: 0 }
     }
 }

@@ -1,6 +1,7 @@
 // The eight kinds of an element, and their numbers (document 01, Kinds).
 ghost use mathlib.Core.Path.{_≡_};
 ghost use Rattle.kinds.specs.Entries.{kindOf};
+ghost use Rattle.kinds.specs.Kinds.{numberOf};
 
 // What the body of an element holds.
 pub enum Kind {
@@ -15,6 +16,22 @@ pub enum Kind {
 }
 
 impl Kind {
+    // The kind's number.
+    pub fn number(self) -> u64
+        ensures { λ r. ⌜ r ≡ numberOf self ⌝ }
+    {
+        match self {
+            Kind::Master => 1,
+            Kind::Int => 2,
+            Kind::Uint => 3,
+            Kind::String => 4,
+            Kind::Utf8 => 5,
+            Kind::Binary => 6,
+            Kind::Float => 7,
+            Kind::Date => 8,
+        }
+    }
+
     // The kind with a number; what is no number of a kind is taken as binary.
     pub fn of_number(number: u64) -> Kind
         ensures { λ r. ⌜ r ≡ kindOf number ⌝ }

@@ -1,2 +1,3 @@
 -- Laws that the proofs of several crates share.
 pub mod Computed
+pub mod Turned

@@ -4,7 +4,7 @@ use mathlib.Core.Path.{ap, _∙_}
 use native.Mathlib.Omega.{arith}
 use borrow.Author.Tests.{leb-true}
 use Rattle.bodies.specs.declared.body.BodyRead.the-variants.{Refused}
-use Rattle.bodies.proofs.Ends.{absent, present}
+use Rattle.laws.proofs.Turned.{failed, passed}
 use Rattle.bodies.proofs.ByKind.{bytes-ends, bytes-there}
 use Prim.Native.Nat.{_+_}
 use Rattle.bodies.proofs.part.read_bytes.Statement.{statement}
@@ -18,17 +18,17 @@ past-end-requires c κs = search needs
 
 returns : tie.Need-returns
 returns c =
-    let missing = absent _ _ (c .before .before .is-there .ensures) (c .before .if1 .taken) in
+    let missing = failed _ _ (c .before .before .is-there .ensures) (c .before .if1 .taken) in
     ap Refused (c .past-end .ensures) ∙ bytes-ends _ _ _ missing
 
 add-end : tie.Need-add-end
 add-end c =
     let a = c .before .before .before .args in
-    let there = leb-true (a .place .at + a .size) _ (present _ _ (c .before .is-there .ensures) (c .if1 .left)) in
+    let there = leb-true (a .place .at + a .size) _ (passed _ _ (c .before .is-there .ensures) (c .if1 .left)) in
     omega (arith, there)
 
 returns-2 : tie.Need-returns-2
-returns-2 c = bytes-there _ _ _ (present _ _ (c .before .is-there .ensures) (c .if1 .left))
+returns-2 c = bytes-there _ _ _ (passed _ _ (c .before .is-there .ensures) (c .if1 .left))
 
 pub read-bytes-spec : {M : Type 1} → statement M
 read-bytes-spec =

@@ -5,7 +5,7 @@ use native.Mathlib.Omega.{arith}
 use native.Mathlib.Nat.{add-sub-cancel-left}
 use borrow.Author.Tests.{leb-true}
 use Rattle.bodies.specs.declared.body.BodyRead.the-variants.{Refused}
-use Rattle.bodies.proofs.Ends.{absent, present}
+use Rattle.laws.proofs.Turned.{failed, passed}
 use Rattle.bodies.proofs.ByKind.{text-ends, text-bad, text-there}
 use Prim.Native.Nat.{_+_}
 use Rattle.bodies.proofs.part.read_text.Statement.{statement}
@@ -19,13 +19,13 @@ past-end-requires c κs = search needs
 
 returns : tie.Need-returns
 returns c =
-    let missing = absent _ _ (c .before .before .is-there .ensures) (c .before .if1 .taken) in
+    let missing = failed _ _ (c .before .before .is-there .ensures) (c .before .if1 .taken) in
     ap Refused (c .past-end .ensures) ∙ text-ends _ _ _ missing
 
 add-end : tie.Need-add-end
 add-end c =
     let a = c .before .before .before .args in
-    let there = leb-true (a .place .at + a .size) _ (present _ _ (c .before .is-there .ensures) (c .if1 .left)) in
+    let there = leb-true (a .place .at + a .size) _ (passed _ _ (c .before .is-there .ensures) (c .if1 .left)) in
     omega (arith, there)
 
 sub-is-utf8 : tie.Need-sub-is-utf8
@@ -37,7 +37,7 @@ part-is-utf8-start c = search needs
 part-is-utf8-end : tie.Need-part-is-utf8-end
 part-is-utf8-end c =
     let a = c .before .before .before .args in
-    let there = leb-true (a .place .at + a .size) _ (present _ _ (c .before .is-there .ensures) (c .if1 .left)) in
+    let there = leb-true (a .place .at + a .size) _ (passed _ _ (c .before .is-there .ensures) (c .if1 .left)) in
     omega (arith, there)
 
 is-utf8-requires : tie.Need-is-utf8-requires
@@ -49,15 +49,15 @@ not-utf8-requires c κs = search needs
 returns-2 : tie.Need-returns-2
 returns-2 c =
     let d = c .before .before .before .before in
-    let there = present _ _ (d .before .is-there .ensures) (d .if1 .left) in
-    let bad = absent _ _ (c .before .before .is-utf8 .ensures .answer) (c .before .if2 .taken) in
+    let there = passed _ _ (d .before .is-there .ensures) (d .if1 .left) in
+    let bad = failed _ _ (c .before .before .is-utf8 .ensures .answer) (c .before .if2 .taken) in
     ap Refused (c .not-utf8 .ensures) ∙ text-bad _ _ _ there (sym (simp add-sub-cancel-left) ∙ bad)
 
 returns-3 : tie.Need-returns-3
 returns-3 c =
     let d = c .before .before .before in
-    let there = present _ _ (d .before .is-there .ensures) (d .if1 .left) in
-    let good = present _ _ (c .before .is-utf8 .ensures .answer) (c .if2 .left) in
+    let there = passed _ _ (d .before .is-there .ensures) (d .if1 .left) in
+    let good = passed _ _ (c .before .is-utf8 .ensures .answer) (c .if2 .left) in
     text-there _ _ _ there (sym (simp add-sub-cancel-left) ∙ good)
 
 pub read-text-spec : {M : Type 1} → statement M

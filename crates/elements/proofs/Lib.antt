@@ -1,0 +1,9 @@
+-- The laws that the proofs of `elements` share, and its theorems.
+pub mod Outcomes
+pub mod Bodies
+pub mod Forests
+pub mod Tables
+pub mod Standing
+pub mod Reading
+pub mod Steps
+pub mod Whole

@@ -1,0 +1,135 @@
+-- What was read stands in the recording. Assumes nothing.
+use Prim.Native.Nat.{ℕ, zero, suc, _+_, _-_, _≤_}
+use mathlib.Core.Path.{_≡_, refl, sym, ap, _∙_, subst}
+use mathlib.Core.List.{List}
+use mathlib.Core.Bool.{Bool, true, false}
+use native.Mathlib.Omega.{arith}
+use lib.ListN.{length, drop}
+use lib.Dec.{eqb}
+use borrow.Author.Tests.{eqb-true, eqb-false, ltb-false}
+use Rattle.header.specs.Header.{headerOf}
+use Rattle.header.specs.Refusals.{tooDeep}
+use Rattle.header.specs.declared.cursor.Header.{Header}
+use Rattle.header.proofs.Inside.{header-inside}
+use Rattle.kinds.specs.Kinds.{numberOf, kindUnder}
+use Rattle.kinds.specs.declared.kind.Kind.{Kind}
+use Rattle.bodies.specs.Bodies.{Told, master, bodyOf}
+use Rattle.elements.specs.Forest.{Element, Forest, none, node, whole, span, count, join}
+use Rattle.elements.specs.Reading.{Outcome, done, refused, siblings, element, elementOf, depths, masterBody}
+use Rattle.elements.specs.Stands.{IsMaster, IsValue, StandsAt, Stands}
+use Rattle.elements.specs.declared.row.Mode.{Mode}
+use Rattle.elements.proofs.Outcomes.{never, of-refuse, of-prepend, of-above, of-then, of-headed, of-cond}
+use Rattle.elements.proofs.Bodies.{Leaf, a-refusal, a-value, leaf-body, master-body, of-held}
+use Rattle.elements.proofs.Forests.{span-join}
+
+module _ (s : List ℕ) where
+  -- What stands ends in the recording.
+  pub stands-inside : (parent at : ℕ) (f : Forest) → Stands s parent at f → at + span f ≤ length s
+  unfolding Stands span
+  stands-inside parent at none i = omega arith
+  stands-inside parent at (node e kids rest) i =
+      let r = stands-inside parent (at + whole e) rest (i .2) in
+      omega arith
+
+  pub stands-join : (parent at : ℕ) (f g : Forest) → Stands s parent at f → Stands s parent (at + span f) g
+      → Stands s parent at (join f g)
+  unfolding Stands span join
+  stands-join parent at none g i j = let e : at + 0 ≡ at = omega arith in rw e at j
+  stands-join parent at (node e kids rest) g i j =
+      let a : at + (whole e + span rest) ≡ at + whole e + span rest = omega arith in
+      (i .0, i .1, stands-join parent (at + whole e) rest g (i .2) (rw a at j))
+
+  -- A reader of one element whose elements take a byte at least, and stand.
+  unfoldable Reads : ℕ → (ℕ → ℕ → Outcome) → Type 0
+  Reads parent read = (at n : ℕ) (f : Forest) → read at n ≡ done f → (1 ≤ span f) × Stands s parent at f
+
+  siblings-stand :
+      (parent : ℕ) (read : ℕ → ℕ → Outcome) → Reads parent read → (most at left n : ℕ) (f : Forest) → left ≤ most
+      → at ≤ length s → siblings read most at left n ≡ done f → (span f ≡ left) × Stands s parent at f
+  unfolding siblings Reads Stands span
+  siblings-stand parent read good zero at left n f l i q =
+      let e : none ≡ f = cc in rw (← e) (omega arith, i)
+  siblings-stand parent read good (suc most) at left n f l i q =
+      of-cond (eqb left 0) q
+      (λ t w. let e : none ≡ f = cc in let z = eqb-true left 0 t in rw (← e) (omega arith, i))
+      (λ t w.
+        let (g, e, v) = of-then w in
+        let u = of-refuse _ _ _ v in
+        let (r, x, y) = of-prepend g (siblings read most (at + span g) (left - span g) _) f (u .1) in
+        let k = good at n g e in
+        let o = ltb-false left (span g) (u .0) in
+        let inside = stands-inside parent at g (k .1) in
+        let c = siblings-stand parent read good most (at + span g) (left - span g) _ r (omega arith) inside x in
+        rw y (omega (arith, span-join g r), stands-join parent at g r (k .1) (c .1)))
+
+  -- A leaf that was accepted: its body is a value, and ends in the recording.
+  value-inside : (at n : ℕ) (k : Kind) → (numberOf k ≡ 1 → ⊥) → IsValue (bodyOf s at n k) → at + n ≤ length s
+  value-inside at n k m v = go (leaf-body s at n k m)
+    where
+      go : Leaf s at n (bodyOf s at n k) → at + n ≤ length s
+      go (a-refusal number id e) = absurd (subst IsValue e v)
+      go (a-value i w) = i
+
+  not-master : (at n : ℕ) (k : Kind) → IsValue (bodyOf s at n k) → numberOf k ≡ 1 → ⊥
+  not-master at n k v m = subst IsValue (master-body s at n k m) v
+
+  is-master : (at n : ℕ) (k : Kind) → bodyOf s at n k ≡ master → numberOf k ≡ 1
+  is-master at n k e = go (eqb (numberOf k) 1) refl
+    where
+      go : (b : Bool) → eqb (numberOf k) 1 ≡ b → numberOf k ≡ 1
+      go true d = eqb-true (numberOf k) 1 d
+      go false d = by (leaf-body s at n k (eqb-false (numberOf k) 1 d))
+        where
+          by : Leaf s at n (bodyOf s at n k) → numberOf k ≡ 1
+          by (a-refusal number id r) = let z : _≡_ {A = ℕ} 0 1 = cc in absurd (omega arith)
+          by (a-value i v) = absurd (subst IsValue e v)
+
+  -- One element over its children.
+  stands-node : (parent at : ℕ) (e : Element) (kids : Forest) → StandsAt s parent at e kids
+      → Stands s (e .header .id) (at + e .header .length) kids → at + whole e ≤ length s
+      → Stands s parent at (node e kids none)
+  unfolding Stands
+  stands-node parent at e kids h k i = (h, k, i)
+
+  element-stands : (mode : Mode) (cap levels parent : ℕ) → Reads parent (element s mode cap levels parent)
+  unfolding element Reads Stands span
+  element-stands mode cap zero parent at n f q =
+      never (of-headed {x = headerOf (drop at s)} {k = λ h. refused tooDeep} q .2)
+  element-stands mode cap (suc levels) parent at n f q =
+      let (h, e, w) = of-headed q in
+      let i = header-inside s at h e in
+      let (kids, v, a) = of-above (elementOf parent h) _ f (of-refuse _ _ _ w .1) in
+      let k = kindUnder parent (h .id) in
+      of-held (bodyOf s (at + h .length) (h .size) k) _ kids v
+      (λ b u.
+        let m = is-master (at + h .length) (h .size) k b in
+        let g = siblings-stand (h .id) (element s mode cap levels (h .id)) (element-stands mode cap levels (h .id))
+              (h .size) (at + h .length) (h .size) (n + 1) kids (omega arith) (i .1) u in
+        let j = stands-inside (h .id) (at + h .length) kids (g .1) in
+        let t : StandsAt s parent at (elementOf parent h) kids = record {
+              head = e;
+              kind = refl;
+              taken = λ y. g .0;
+              value = λ y. absurd (y m);
+              childless = λ y. absurd (y m)
+            } in
+        rw a (omega arith, stands-node parent at (elementOf parent h) kids t (g .1) (omega arith)))
+      (λ b u.
+        let m = not-master (at + h .length) (h .size) k b in
+        let j = value-inside (at + h .length) (h .size) k m b in
+        let t : StandsAt s parent at (elementOf parent h) none = record {
+              head = e;
+              kind = refl;
+              taken = λ y. absurd (m y);
+              value = λ y. b;
+              childless = λ y. refl
+            } in
+        rw (a, u) (omega arith, stands-node parent at (elementOf parent h) none t (i .1) (omega arith)))
+
+  -- A master's body that was read takes up its size, and stands.
+  pub body-stands : (mode : Mode) (cap depth parent at size n : ℕ) (f : Forest) → at ≤ length s
+      → masterBody s mode cap depth parent at size n ≡ done f → (span f ≡ size) × Stands s parent at f
+  unfolding masterBody
+  body-stands mode cap depth parent at size n f i q =
+      siblings-stand parent (element s mode cap (depths - depth) parent)
+      (element-stands mode cap (depths - depth) parent) size at size n f (omega arith) i q

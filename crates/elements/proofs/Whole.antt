@@ -1,0 +1,169 @@
+-- The public read: its limits, and the reply and the table that it leaves. Assumes nothing.
+use Prim.Native.Nat.{ℕ, _+_, _-_, _*_, _/_, _%_, _≤_, _<_}
+use mathlib.Core.Path.{_≡_, refl, sym, ap, _∙_, subst}
+use mathlib.Core.List.{List, [], _∷_, _++_}
+use mathlib.Core.Bool.{Bool, true, false, not, _&&_}
+use native.Mathlib.Nat.{zero-add}
+use native.Mathlib.Omega.{arith}
+use lib.ListN.{length, drop, length-replicate}
+use lib.Seq.{sets-eq}
+use lib.Dec.{leb, eqb}
+use borrow.Author.Tests.{leb-true, eqb-true, le-leb, lt-leb, eq-eqb, ne-eqb}
+use Rattle.header.specs.Promise.{mostBytes}
+use Rattle.header.specs.Refusals.{badArgument}
+use Rattle.header.specs.Reply.{Reply}
+use Rattle.header.specs.declared.cursor.Cursor.{Cursor}
+use Rattle.header.specs.declared.refusal.Refusal.{Refusal}
+use Rattle.elements.specs.Forest.{Forest, count, span}
+use Rattle.elements.specs.Reading.{Outcome, done, refused, masterBody}
+use Rattle.elements.specs.Rows.{rows, width, flatten}
+use Rattle.elements.specs.Promise.{mostRows, keeping, isTable, allowed, filled, readOf, replyOf, zeros, tableOf}
+use Rattle.elements.specs.Promise.{told, ReadPromise}
+use Rattle.elements.specs.Contract.{written, Met}
+use Rattle.elements.specs.declared.element.ElementRead.the-variants.{Read, Refused as ReadRefused}
+use Rattle.elements.specs.declared.reply.ReadReply.{ReadReply}
+use Rattle.elements.specs.declared.reply.ReadReply.the-variants.{Rows, Refused}
+use Rattle.elements.proofs.Outcomes.{refuses, passes}
+use Rattle.elements.proofs.Forests.{length-rows}
+use Rattle.elements.proofs.Tables.{length-flatten, drop-zeros}
+use Rattle.elements.proofs.Reading.{told-read, told-refused}
+
+-- ---- the limits, one after another
+
+module _ (s : List ℕ) (start numbers : ℕ) where
+  pub too-long : mostBytes < length s → false ≡ allowed s start numbers
+  unfolding allowed
+  too-long h = rw (lt-leb (length s) mostBytes h)
+
+  module _ (a : length s ≤ mostBytes) where
+    pub broken-rows : (numbers % width ≡ 0 → ⊥) → false ≡ allowed s start numbers
+    unfolding allowed isTable
+    broken-rows h = rw (le-leb (length s) mostBytes a, ne-eqb (numbers % width) 0 h)
+
+    module _ (b : numbers % width ≡ 0) where
+      pub too-many : mostRows * width < numbers → false ≡ allowed s start numbers
+      unfolding allowed isTable
+      too-many h = rw (le-leb (length s) mostBytes a, eq-eqb (numbers % width) 0 b, lt-leb numbers (mostRows * width) h)
+
+      pub by-start : numbers ≤ mostRows * width → leb start (length s) ≡ allowed s start numbers
+      unfolding allowed isTable
+      by-start h = rw (le-leb (length s) mostBytes a, eq-eqb (numbers % width) 0 b, le-leb numbers (mostRows * width) h)
+
+  -- What arguments that are allowed keep to.
+  pub record Within : Type 0 where
+    pub bytes : length s ≤ mostBytes
+    pub sevens : numbers % width ≡ 0
+    pub few : numbers ≤ mostRows * width
+    pub inside : start ≤ length s
+
+  pub within : allowed s start numbers ≡ true → Within
+  unfolding allowed isTable
+  within q = go (leb (length s) mostBytes) refl (eqb (numbers % width) 0) refl (leb numbers (mostRows * width)) refl
+      (leb start (length s)) refl q
+    where
+      go : (a : Bool) → leb (length s) mostBytes ≡ a → (b : Bool) → eqb (numbers % width) 0 ≡ b
+          → (c : Bool) → leb numbers (mostRows * width) ≡ c → (d : Bool) → leb start (length s) ≡ d
+          → (a && ((b && c) && d)) ≡ true → Within
+      go true e true f true g true h w = record {
+        bytes = leb-true _ _ e;
+        sevens = eqb-true _ _ f;
+        few = leb-true _ _ g;
+        inside = leb-true _ _ h
+      }
+      go true e true f true g false h w = let z : _≡_ {A = ℕ} 0 1 = cc in absurd (omega arith)
+      go true e true f false g d h w = let z : _≡_ {A = ℕ} 0 1 = cc in absurd (omega arith)
+      go true e false f c g d h w = let z : _≡_ {A = ℕ} 0 1 = cc in absurd (omega arith)
+      go false e b f c g d h w = let z : _≡_ {A = ℕ} 0 1 = cc in absurd (omega arith)
+
+-- Tables of one length.
+pub zeros-as : {a b : ℕ} → a ≡ b → zeros a ≡ zeros b
+zeros-as e = ap (λ (x : ℕ). zeros x) e
+
+pub allowed-as : (s : List ℕ) (start : ℕ) {a b : ℕ} → a ≡ b → allowed s start a ≡ allowed s start b
+allowed-as s start e = ap (allowed s start) e
+
+-- ---- the reply and the table of an outcome
+
+-- A reply and a table that tell an outcome.
+pub record Gives (start numbers : ℕ) (o : Outcome) (r : ReadReply) (t : List ℕ) : Type 0 where
+  pub reply : told r ≡ replyOf o
+  pub table : t ≡ tableOf start numbers o
+
+module _ (start numbers : ℕ) (o : Outcome) (t : List ℕ) where
+  pub gives-refusal : (e : Refusal) → o ≡ refused e → t ≡ zeros numbers → Gives start numbers o (Refused e) t
+  unfolding tableOf
+  gives-refusal e q z =
+      record { reply = sym (ap replyOf q); table = z ∙ sym (ap (tableOf start numbers) q) }
+
+  pub gives-rows :
+      (f : Forest) (n : ℕ) → o ≡ done f → n ≡ count f
+      → t ≡ written keeping (zeros numbers) 0 (rows 0 0 start 0 f) → count f ≤ numbers / width
+      → Gives start numbers o (Rows n) t
+  unfolding tableOf written
+  gives-rows f n q k w l =
+      let rs = rows 0 0 start 0 f in
+      let c : length rs ≡ count f = length-rows 0 0 start 0 f in
+      let m : length (flatten rs) ≡ length rs * width = length-flatten rs in
+      let z : length (zeros numbers) ≡ numbers = length-replicate numbers 0 in
+      let r : 0 + length (flatten rs) ≤ length (zeros numbers) = omega arith in
+      let e : numbers - (0 + length (flatten rs)) ≡ numbers - count f * width = omega arith in
+      record {
+        reply = rw k (sym (ap replyOf q));
+        table =
+          w
+          ∙ sets-eq (flatten rs) (zeros numbers) 0 r
+          ∙ ap (λ (x : List ℕ). flatten rs ++ x)
+            (drop-zeros (0 + length (flatten rs)) numbers ∙ ap (λ (x : ℕ). zeros x) e)
+          ∙ sym (ap (tableOf start numbers) q)
+      }
+
+-- ---- from the reader's answer on the cleared table t₁ to the promise
+
+module _ (s : List ℕ) (start size parent : ℕ) (t₁ : List ℕ) (z : t₁ ≡ zeros (length t₁)) where
+  abbrev numbers : ℕ
+  numbers = length t₁
+
+  abbrev reading : Outcome
+  reading = masterBody s keeping (numbers / width) 0 parent start size 0
+
+  module _ (a : allowed s start numbers ≡ true) where
+    outcome : readOf s start size parent numbers ≡ reading
+    unfolding readOf filled
+    outcome = passes _ _ _ (ap not a)
+
+    pub fill-refused : (e : Refusal) (t t′ : List ℕ)
+        → Met s keeping start 0 0 start 0 reading t₁ t (ReadRefused e)
+        → t′ ≡ zeros numbers → ReadPromise s start size parent t₁ (Refused e) t′
+    fill-refused e t t′ m w =
+        let g = gives-refusal start numbers (readOf s start size parent numbers) t′ e
+              (outcome ∙ told-refused start 0 reading e (m .reply)) w in
+        record { reply = g .reply; table = g .table }
+
+    pub fill-done : (n : ℕ) (next : Cursor) (t : List ℕ)
+        → Met s keeping start 0 0 start 0 reading t₁ t (Read n next) → ReadPromise s start size parent t₁ (Rows n) t
+    fill-done n next t m =
+        let (f, u, b, c) = told-read start 0 reading n next (m .reply) in
+        let k : n ≡ count f = b ∙ zero-add (count f) in
+        let l = m .room f u refl in
+        let w = subst (λ (x : List ℕ). t ≡ written keeping x 0 (rows 0 0 start 0 f)) z (m .table f u) in
+        let g = gives-rows start numbers (readOf s start size parent numbers) t f n (outcome ∙ u) k w (omega arith) in
+        record { reply = g .reply; table = g .table }
+
+-- ---- the public call
+
+module _ (s : List ℕ) (start size parent : ℕ) (t : List ℕ) where
+  refused-argument : allowed s start (length t) ≡ false → readOf s start size parent (length t) ≡ refused badArgument
+  unfolding readOf
+  refused-argument a = refuses _ _ _ (ap not a)
+
+  pub not-allowed : (e : Refusal) (t₁ : List ℕ) → allowed s start (length t) ≡ false → e ≡ badArgument
+      → t₁ ≡ zeros (length t) → ReadPromise s start size parent t (Refused e) t₁
+  not-allowed e t₁ a b z =
+      let g = gives-refusal start (length t) (readOf s start size parent (length t)) t₁ e (refused-argument a ∙ rw b) z in
+      record { reply = g .reply; table = g .table }
+
+  -- What was promised of the cleared table holds of the table that the caller lent.
+  pub as-lent : (t₁ t₂ : List ℕ) (r : ReadReply) → length t₁ ≡ length t → ReadPromise s start size parent t₁ r t₂
+      → ReadPromise s start size parent t r t₂
+  as-lent t₁ t₂ r l p =
+      record { reply = rw (← l) (p .reply); table = rw (← l) (p .table) }

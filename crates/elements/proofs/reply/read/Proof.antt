@@ -1,0 +1,62 @@
+-- `read` meets its contract: 14, then the reading into the cleared table. Assumes nothing.
+use mathlib.Core.Path.{_≡_, sym, ap, _∙_}
+use mathlib.Core.Bool.{true, false}
+use lib.ListN.{length}
+use Rattle.elements.specs.Promise.{allowed, zeros}
+use Rattle.laws.proofs.Turned.{failed, passed}
+use Rattle.elements.proofs.Whole.{zeros-as, allowed-as, not-allowed, as-lent}
+use borrow.Author.Needs.{needs}
+use Rattle.elements.proofs.reply.read.Statement.{statement}
+use Rattle.elements.proofs.reply.read.Tie as tie
+use Rattle.elements.proofs.reply.read.Reads as reads
+use Rattle.elements.proofs.reply.read.Lts as lts
+use Rattle.elements.proofs.reply.clear.Reads as clear-reads
+use Rattle.elements.proofs.reply.fill.Reads as fill-reads
+use Rattle.elements.proofs.reply.is_allowed.Reads as is-allowed-reads
+use Rattle.header.proofs.refusal.Refusal.bad_argument.Reads as bad-argument-reads
+
+clear-requires : tie.Need-clear-requires
+clear-requires c κs = search needs
+
+is-allowed-requires : tie.Need-is-allowed-requires
+is-allowed-requires c κs = search needs
+
+bad-argument-requires : tie.Need-bad-argument-requires
+bad-argument-requires c κs = search needs
+
+same-length : tie.Need-same-length
+same-length c = search needs
+
+returns : tie.Need-returns
+returns c =
+    let k = c .before .before .before .before .before .before .clear in
+    let i = c .before .before .is-allowed in
+    not-allowed _ _ _ _ _ _ _ (failed _ _ (i .ensures ∙ allowed-as _ _ (k .kept .0)) (c .before .if1 .taken))
+    (c .bad-argument .ensures) (k .ensures)
+
+fill-requires : tie.Need-fill-requires
+fill-requires c κs =
+    let k = c .before .before .before .before .before .before .clear in
+    let i = c .before .before .is-allowed in
+    (passed _ _ (i .ensures) (c .before .if1 .left), k .ensures ∙ zeros-as (sym (k .kept .0)))
+
+same-length-2 : tie.Need-same-length-2
+same-length-2 c = search needs
+
+returns-2 : tie.Need-returns-2
+returns-2 c =
+    let k = c .before .before .before .before .before .before .before .before .before .clear in
+    as-lent _ _ _ _ _ _ _ _ (k .kept .0) (c .before .before .fill .ensures)
+
+pub read-spec : {M : Type 1} → statement M
+read-spec =
+    tie.close
+    (tie.spec
+    clear-requires
+    is-allowed-requires
+    bad-argument-requires
+    same-length
+    returns
+    fill-requires
+    same-length-2
+    returns-2)

@@ -1,0 +1,30 @@
+-- `keep_row` meets its contract. Assumes nothing.
+use mathlib.Core.Path.{refl}
+use Rattle.elements.proofs.Tables.{kept-full, kept-row, kept-none}
+use borrow.Author.Needs.{needs}
+use Rattle.elements.proofs.row.keep_row.Statement.{statement}
+use Rattle.elements.proofs.row.keep_row.Tie as tie
+use Rattle.elements.proofs.row.keep_row.Reads as reads
+use Rattle.elements.proofs.row.keep_row.Lts as lts
+use Rattle.elements.proofs.row.put_row.Reads as put-row-reads
+
+returns : tie.Need-returns
+returns c = kept-full _ _ _ _ _ (c .before .if1 .taken) (c .if2 .taken)
+
+put-row-requires : tie.Need-put-row-requires
+put-row-requires c κs = search needs
+
+same-length : tie.Need-same-length
+same-length c = search needs
+
+returns-2 : tie.Need-returns-2
+returns-2 c =
+    kept-row _ _ _ _ _
+    (c .before .before .before .before .before .if1 .taken) (c .before .before .before .before .if2 .left)
+    (c .before .before .put-row .ensures)
+
+returns-3 : tie.Need-returns-3
+returns-3 c = kept-none _ _ _ _ _ (c .if1 .left) refl
+
+pub keep-row-spec : {M : Type 1} → statement M
+keep-row-spec = tie.close (tie.spec returns put-row-requires same-length returns-2 returns-3)

@@ -1,0 +1,7 @@
+-- The definitions that the contracts of `elements` cite.
+pub mod Forest
+pub mod Reading
+pub mod Rows
+pub mod Stands
+pub mod Promise
+pub mod Contract

@@ -1,0 +1,62 @@
+-- The rows of what was read, in preorder, and the numbers of the table that hold them (document 01, Element table).
+use Prim.Native.Nat.{ℕ, zero, suc, _+_, _*_}
+use mathlib.Core.List.{List, [], _∷_, _++_}
+use lib.ListN.{getD, drop}
+use Rattle.kinds.specs.Kinds.{numberOf}
+use Rattle.elements.specs.Forest.{Element, Forest, none, node, whole, count}
+use Rattle.elements.specs.declared.row.Row.{Row}
+
+-- The row of an element at an address: under row number plus 1 of its parent (0 for none), at a depth.
+abbrev pub rowOf : Element → ℕ → ℕ → ℕ → Row
+rowOf e parent depth at =
+    record {
+      id = e .header .id;
+      parent = parent;
+      address = at;
+      header = e .header .length;
+      payload = e .header .size;
+      kind = numberOf (e .kind);
+      depth = depth
+    }
+
+-- The rows of elements that begin at an address, the first of them row n.
+unfoldable pub rows : ℕ → ℕ → ℕ → ℕ → Forest → List Row
+rows parent depth at n none = []
+rows parent depth at n (node e kids rest) =
+    rowOf e parent depth at
+    ∷ (rows (n + 1) (depth + 1) (at + e .header .length) (n + 1) kids
+    ++ rows parent depth (at + whole e) (n + 1 + count kids) rest)
+
+-- How many numbers a row has.
+abbrev pub width : ℕ
+width = 7
+
+-- A row's numbers, in their order.
+unfoldable pub flat : Row → List ℕ
+flat r = r .id ∷ r .parent ∷ r .address ∷ r .header ∷ r .payload ∷ r .kind ∷ r .depth ∷ []
+
+unfoldable pub flatten : List Row → List ℕ
+flatten [] = []
+flatten (r ∷ rs) = flat r ++ flatten rs
+
+-- The row that the first numbers of a table are.
+unfoldable pub firstRow : List ℕ → Row
+firstRow t =
+    record {
+      id = getD t 0 0;
+      parent = getD t 1 0;
+      address = getD t 2 0;
+      header = getD t 3 0;
+      payload = getD t 4 0;
+      kind = getD t 5 0;
+      depth = getD t 6 0
+    }
+
+-- Row k of a table.
+unfoldable pub rowAt : List ℕ → ℕ → Row
+rowAt t k = firstRow (drop (k * width) t)
+
+-- The first n rows of a table.
+unfoldable pub rowsOf : List ℕ → ℕ → List Row
+rowsOf t zero = []
+rowsOf t (suc n) = firstRow t ∷ rowsOf (drop width t) n

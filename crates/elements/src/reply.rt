@@ -1,0 +1,84 @@
+// The public call: the elements of a payload, as rows of a lent table.
+ghost use mathlib.Core.Path.{_≡_};
+ghost use mathlib.Core.Bool.{true};
+ghost use lib.ListN.{length};
+ghost use Rattle.elements.specs.Promise.{ReadPromise, allowed, zeros};
+use crate::element::Above;
+use crate::element::ElementRead;
+use crate::element::master_body;
+use crate::row::MOST_NUMBERS;
+use crate::row::Mode;
+use crate::row::WIDTH;
+use header::Cursor;
+use header::MOST_BYTES;
+use header::Refusal;
+use kinds::TABLE;
+
+// How many rows there are, or a refusal.
+pub enum ReadReply {
+    Rows(u64),
+    Refused(Refusal),
+}
+
+// Fills the table with zeros.
+pub fn clear(table: &mut [u64])
+    ensures { λ _. ⌜ now (table .exit) ≡ zeros (length (now (table .entry))) ⌝ }
+{
+    let mut i: usize = 0;
+    while i < table.len() {
+        table[i] = 0;
+        i += 1;
+    }
+}
+
+// Whether the lengths are within their limits and the start is not past the end; else 14.
+pub fn is_allowed(recording: &[u8], start: u64, table: &[u64]) -> bool
+    ensures { λ r. ⌜ r ≡ allowed (now (recording .entry)) start (length (now (table .entry))) ⌝ }
+{
+    let length = recording.len() as u64;
+    if MOST_BYTES < length {
+        return false;
+    }
+    if table.len() % WIDTH != 0 {
+        return false;
+    }
+    if MOST_NUMBERS < table.len() {
+        return false;
+    }
+    start <= length
+}
+
+// The reading into a cleared table, with arguments that are allowed.
+pub fn fill(recording: &[u8], start: u64, size: u64, parent: u32, table: &mut [u64]) -> ReadReply
+    requires { ⌜ allowed (now recording) start (length (now table)) ≡ true ⌝ }
+    requires { ⌜ now table ≡ zeros (length (now table)) ⌝ }
+    ensures { λ r. ⌜ ReadPromise (now (recording .entry)) start size parent (now (table .entry)) r (now (table .exit)) ⌝ }
+{
+    let kinds = TABLE;
+    let mode = Mode { keep: true };
+    let from = Cursor { at: start };
+    let above = Above {
+        id: parent,
+        row: 0,
+        depth: 0,
+    };
+    match master_body(recording, &kinds, table, mode, from, size, 0, above) {
+        ElementRead::Refused(refusal) => {
+            clear(table);
+            ReadReply::Refused(refusal)
+        }
+        ElementRead::Read { rows, next: _ } => ReadReply::Rows(rows as u64),
+    }
+}
+
+// The elements of the payload of `size` bytes from `start` on, under a parent id, into the table. A refusal fills the
+// table with zeros. 14: a length is broken, or the start is past the end.
+pub fn read(recording: &[u8], start: u64, size: u64, parent: u32, table: &mut [u64]) -> ReadReply
+    ensures { λ r. ⌜ ReadPromise (now (recording .entry)) start size parent (now (table .entry)) r (now (table .exit)) ⌝ }
+{
+    clear(table);
+    if !is_allowed(recording, start, table) {
+        return ReadReply::Refused(Refusal::bad_argument());
+    }
+    fill(recording, start, size, parent, table)
+}

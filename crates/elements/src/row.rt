@@ -1,0 +1,85 @@
+// A row, and the lent table of numbers that holds rows.
+ghost use mathlib.Core.Path.{_≡_};
+ghost use mathlib.Core.Bool.{true, not};
+ghost use mathlib.Core.List.{[], _∷_};
+ghost use Prim.Native.Nat.{_*_, _/_, _<_};
+ghost use lib.ListN.{length};
+ghost use lib.Seq.{sets};
+ghost use Rattle.elements.specs.Reading.{full};
+ghost use Rattle.elements.specs.Rows.{width, flat, rowAt};
+ghost use Rattle.elements.specs.Contract.{written};
+
+// How many numbers a row has.
+pub const WIDTH: usize = 7;
+
+// The most rows of a table.
+pub const MOST_ROWS: usize = 4096;
+
+// The most numbers of a table.
+pub const MOST_NUMBERS: usize = MOST_ROWS * WIDTH;
+
+// An element in the table.
+pub struct Row {
+    pub id: u64,
+    // The parent's row number plus 1; 0 for none.
+    pub parent: u64,
+    // Where the header begins.
+    pub address: u64,
+    // How many bytes the header has, and then the payload.
+    pub header: u64,
+    pub payload: u64,
+    // 1 to 8 in document 01's order; 1 is a master.
+    pub kind: u64,
+    pub depth: u64,
+}
+
+// How elements are read: with rows, or without.
+pub struct Mode {
+    pub keep: bool,
+}
+
+fn put_row(table: &mut [u64], n: usize, row: Row)
+    requires { ⌜ n < length (now table) / width ⌝ }
+    ensures { λ _. ⌜ now (table .exit) ≡ sets (now (table .entry)) (n * width) (flat row) ⌝ }
+{
+    let first = n * WIDTH;
+    table[first] = row.id;
+    table[first + 1] = row.parent;
+    table[first + 2] = row.address;
+    table[first + 3] = row.header;
+    table[first + 4] = row.payload;
+    table[first + 5] = row.kind;
+    table[first + 6] = row.depth;
+}
+
+// Keeps a row as row n where rows are kept. Answers false where none is free.
+pub fn keep_row(table: &mut [u64], mode: Mode, n: usize, row: Row) -> bool
+    ensures { λ r. ⌜ r ≡ not (full mode (length (now (table .entry)) / width) n) ⌝ }
+    ensures { λ r. ⌜ (r ≡ true → now (table .exit) ≡ written mode (now (table .entry)) n (row ∷ [])) ⌝ }
+{
+    if mode.keep {
+        if n >= table.len() / WIDTH {
+            return false;
+        }
+        put_row(table, n, row);
+        return true;
+    }
+    true
+}
+
+// Row n of a table.
+pub fn row_at(table: &[u64], n: usize) -> Row
+    requires { ⌜ n < length (now table) / width ⌝ }
+    ensures { λ r. ⌜ r ≡ rowAt (now (table .entry)) n ⌝ }
+{
+    let first = n * WIDTH;
+    Row {
+        id: table[first],
+        parent: table[first + 1],
+        address: table[first + 2],
+        header: table[first + 3],
+        payload: table[first + 4],
+        kind: table[first + 5],
+        depth: table[first + 6],
+    }
+}

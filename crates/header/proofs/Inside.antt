@@ -1,0 +1,94 @@
+-- A header that was read has bytes, and they are in the recording. Assumes nothing.
+use Prim.Native.Nat.{ℕ, _+_, _-_, _≤_, _<_}
+use mathlib.Core.Path.{_≡_, refl, ap, sym}
+use mathlib.Core.List.{List}
+use mathlib.Core.Bool.{Bool, true, false, cond}
+use native.Mathlib.Omega.{arith}
+use lib.ListN.{length, take, drop, length-drop}
+use lib.Dec.{ltb, leb}
+use borrow.Author.Tests.{ltb-true, leb-true}
+use Rattle.header.specs.Vint.{Width, unmarked, zeros, widthOf, bits, bigEndian}
+use Rattle.header.specs.Vint.{Vint, vint, ends, long, ofWidth, vintOf}
+use Rattle.header.specs.Header.{Heading, heading, refused, sized, named, headerOf}
+use Rattle.header.specs.Reads.{headerRead, headerAt}
+use Rattle.header.specs.declared.cursor.Cursor.{Cursor}
+use Rattle.header.specs.declared.cursor.Header.{Header}
+use Rattle.header.specs.declared.cursor.HeaderRead.{HeaderRead}
+use Rattle.header.specs.declared.cursor.HeaderRead.the-variants.{Read, Refused}
+use Rattle.header.specs.declared.refusal.Refusal.{Refusal}
+
+-- what a VINT of z zero bits is made of
+pub record Made (most : ℕ) (s : List ℕ) (w : Width) (n v : ℕ) : Type 0 where
+  pub z : ℕ
+  pub width : w ≡ zeros z
+  pub few : z < most
+  pub there : z + 1 ≤ length s
+  pub octets : n ≡ z + 1
+  pub value : v ≡ bigEndian (take (z + 1) s)
+
+pub made : (most n v : ℕ) (s : List ℕ) (w : Width) → ofWidth most s w ≡ vint n v → Made most s w n v
+unfolding ofWidth
+made most n v s unmarked q = let x : _≡_ {A = ℕ} 0 1 = cc in absurd (omega arith)
+made most n v s (zeros z) q = go (ltb z most) refl (leb (z + 1) (length s)) refl q
+  where
+    go : (b : Bool) → ltb z most ≡ b → (c : Bool) → leb (z + 1) (length s) ≡ c
+        → cond b (cond c (vint (z + 1) (bigEndian (take (z + 1) s))) ends) long ≡ vint n v
+        → Made most s (zeros z) n v
+    go true d true e w =
+        let some = ltb-true z most d in
+        let whole = leb-true (z + 1) (length s) e in
+        record { z = z; width = refl; few = some; there = whole; octets = cc; value = cc }
+    go true d false e w = let x : _≡_ {A = ℕ} 0 1 = cc in absurd (omega arith)
+    go false d c e w = let x : _≡_ {A = ℕ} 0 1 = cc in absurd (omega arith)
+
+-- how many octets a VINT has
+vint-octets : (most n v : ℕ) (s : List ℕ) → vintOf most s ≡ vint n v → (1 ≤ n) × (n ≤ length s)
+unfolding vintOf
+vint-octets most n v s q =
+    let m = made most n v s (widthOf (bits s)) q in
+    omega (arith, m .octets, m .there)
+
+-- The header at the head of some octets is one of them at least, and not more than there are.
+pub heading-inside : (s : List ℕ) (h : Header) → headerOf s ≡ heading h → (1 ≤ h .length) × (h .length ≤ length s)
+unfolding headerOf named sized
+heading-inside s h = by-name (vintOf 4 s) refl
+  where
+    by-size : (id n : ℕ) → (1 ≤ n) × (n ≤ length s) → (v : Vint) → vintOf 8 (drop n s) ≡ v → sized id n v ≡ heading h
+        → (1 ≤ h .length) × (h .length ≤ length s)
+    by-size id n i (vint m value) e w =
+        let o = vint-octets 8 m value (drop n s) e in
+        let l = length-drop n s in
+        let k : h .length ≡ n + m = cc in
+        omega arith
+    by-size id n i ends e w = let x : _≡_ {A = ℕ} 0 1 = cc in absurd (omega arith)
+    by-size id n i long e w = let x : _≡_ {A = ℕ} 0 1 = cc in absurd (omega arith)
+    by-name : (v : Vint) → vintOf 4 s ≡ v → named s v ≡ heading h → (1 ≤ h .length) × (h .length ≤ length s)
+    by-name (vint n id) e w = by-size id n (vint-octets 4 n id s e) (vintOf 8 (drop n s)) refl w
+    by-name ends e w = let x : _≡_ {A = ℕ} 0 1 = cc in absurd (omega arith)
+    by-name long e w = let x : _≡_ {A = ℕ} 0 1 = cc in absurd (omega arith)
+
+module _ (s : List ℕ) (at : ℕ) where
+  -- The same at a place.
+  pub header-inside : (h : Header) → headerOf (drop at s) ≡ heading h → (1 ≤ h .length) × (at + h .length ≤ length s)
+  header-inside h q =
+      let i = heading-inside (drop at s) h q in
+      let l = length-drop at s in
+      omega arith
+
+  -- What a read header says of the octets at its place.
+  pub header-read : (h : Header) (next : Cursor) → headerAt s at ≡ Read h next
+      → (headerOf (drop at s) ≡ heading h) × (next ≡ record { at = at + h .length })
+  unfolding headerAt headerRead
+  header-read h next = go (headerOf (drop at s))
+    where
+      go : (x : Heading) → headerRead at x ≡ Read h next → (x ≡ heading h) × (next ≡ record { at = at + h .length })
+      go (heading h′) w = (cc, cc)
+      go (refused e) w = let x : _≡_ {A = ℕ} 0 1 = cc in absurd (omega arith)
+
+  pub header-refused : (e : Refusal) → headerAt s at ≡ Refused e → headerOf (drop at s) ≡ refused e
+  unfolding headerAt headerRead
+  header-refused e = go (headerOf (drop at s))
+    where
+      go : (x : Heading) → headerRead at x ≡ Refused e → x ≡ refused e
+      go (heading h) w = let x : _≡_ {A = ℕ} 0 1 = cc in absurd (omega arith)
+      go (refused e′) w = cc
