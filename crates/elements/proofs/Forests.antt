@@ -46,7 +46,7 @@ length-rows parent depth at n (node e kids rest) =
     simp (
       length-append,
       length-rows (n + 1) (depth + 1) (at + e .header .length) (n + 1) kids,
-      length-rows parent depth (at + whole e) (n + 1 + count kids) rest
+      length-rows parent depth (at + whole e) (n + 1 + count kids) rest,
     )
 
 -- The rows of an element alone: its own, and then its children's.

@@ -73,21 +73,21 @@ module _ (s : List ℕ) (mode : Mode) (cap depth parent at n : ℕ) where
         -- What is left to do where a row is free.
         by-body : element-here
             ≡ above (elementOf parent h)
-              (held (bodyOf s (at + h .length) (h .size) (kindUnder parent (h .id)))
-              (masterBody s mode cap (depth + 1) (h .id) (at + h .length) (h .size) (n + 1)))
+            (held (bodyOf s (at + h .length) (h .size) (kindUnder parent (h .id)))
+            (masterBody s mode cap (depth + 1) (h .id) (at + h .length) (h .size) (n + 1)))
         unfolding element masterBody
         by-body = rw (levels, head) (passes _ _ _ f)
 
         pub el-master : numberOf (kindUnder parent (h .id)) ≡ 1
             → element-here
             ≡ above (elementOf parent h)
-              (masterBody s mode cap (depth + 1) (h .id) (at + h .length) (h .size) (n + 1))
+            (masterBody s mode cap (depth + 1) (h .id) (at + h .length) (h .size) (n + 1))
         el-master m = by-body ∙ rw (master-body s (at + h .length) (h .size) (kindUnder parent (h .id)) m)
 
         pub el-bad : (e : Refusal) → bodyRead (kindUnder parent (h .id)) s (at + h .length) (h .size) ≡ BodyRefused e
             → element-here ≡ refused e
         el-bad e b = by-body ∙ rw (held-refused s (at + h .length) (h .size) (kindUnder parent (h .id)) e
-          (masterBody s mode cap (depth + 1) (h .id) (at + h .length) (h .size) (n + 1)) b)
+            (masterBody s mode cap (depth + 1) (h .id) (at + h .length) (h .size) (n + 1)) b)
 
         pub el-leaf : (after : Cursor) → LeafRead s (at + h .length) (h .size) (bodyOf s (at + h .length) (h .size) (kindUnder parent (h .id)))
             (masterBody s mode cap (depth + 1) (h .id) (at + h .length) (h .size) (n + 1)) after
@@ -113,7 +113,7 @@ module _ (s : List ℕ) (mode : Mode) (low parent depth at n : ℕ) (o : Outcome
     reply = sym (ap (stepOf at n) q);
     table = λ f w. never (sym q ∙ w);
     goes = λ f w. never (sym q ∙ w);
-    room = λ f w. never (sym q ∙ w)
+    room = λ f w. never (sym q ∙ w);
   }
 
   -- Of one outcome, at one forest, it is enough to say each thing once.
@@ -126,7 +126,7 @@ module _ (s : List ℕ) (mode : Mode) (low parent depth at n : ℕ) (o : Outcome
     reply = go (sym (ap (stepOf at n) q));
     table = λ x u. let e : f ≡ x = cc in subst (λ (y : Forest). t′ ≡ written mode t n (rows parent depth at n y)) e w;
     goes = λ x u. let e : f ≡ x = cc in rw (← e, ← ec) g;
-    room = λ x u. let e : f ≡ x = cc in rw (← e, ← ec) r
+    room = λ x u. let e : f ≡ x = cc in rw (← e, ← ec) r;
   }
     where
       go : Read (n + count f) (record { at = at + span f }) ≡ stepOf at n o → Read c next ≡ stepOf at n o
@@ -135,7 +135,6 @@ module _ (s : List ℕ) (mode : Mode) (low parent depth at n : ℕ) (o : Outcome
 -- An element whose row was written.
 module _ (s : List ℕ) (mode : Mode) (parent depth at n : ℕ) (e : Element) (t t₁ : List ℕ)
     (w : t₁ ≡ written mode t n (rowOf e parent depth at ∷ [])) where
-
   -- A leaf: its row.
   pub met-leaf : (o : Outcome) (next : Cursor) → o ≡ done (node e none none) → next ≡ record { at = at + whole e }
       → 1 ≤ whole e → at + whole e ≤ length s → n ≤ at → Room mode t (n + 1)
@@ -161,12 +160,12 @@ module _ (s : List ℕ) (mode : Mode) (parent depth at n : ℕ) (e : Element) (t
       let same : length t₁ ≡ length t = ap length w ∙ length-written mode t n (row ∷ []) in
       let inner = rows (n + 1) (depth + 1) (at + e .header .length) (n + 1) kids in
       let v : t′ ≡ written mode t n (rows parent depth at n (node e kids none))
-            = m .table kids refl ∙ rw w (written-append mode t n (row ∷ []) inner)
-              ∙ ap (written mode t n) (sym (rows-node parent depth at n e kids)) in
+      = m .table kids refl ∙ rw w (written-append mode t n (row ∷ []) inner)
+      ∙ ap (written mode t n) (sym (rows-node parent depth at n e kids)) in
       let p : at + e .header .length + span kids ≡ at + (whole e + 0) = omega arith in
       rw (m .reply) (met-done s mode (at + 1) parent depth at n o t t′ (node e kids none) (n + 1 + count kids)
-        (record { at = at + e .header .length + span kids }) q (omega arith) (rw p) v (omega arith)
-        (λ kept. let x = m .room kids refl kept in rw (← same) x))
+      (record { at = at + e .header .length + span kids }) q (omega arith) (rw p) v (omega arith)
+      (λ kept. let x = m .room kids refl kept in rw (← same) x))
 
 -- ---- siblings
 
@@ -228,7 +227,7 @@ join-written :
 join-written mode t₀ t t′ parent depth from first at n ago f w k a v =
     let before = rows parent depth from first ago in
     let l : n ≡ first + length before
-          = k ∙ ap (λ (x : ℕ). first + x) (sym (length-rows parent depth from first ago)) in
+    = k ∙ ap (λ (x : ℕ). first + x) (sym (length-rows parent depth from first ago)) in
     v ∙ ap (λ (x : List ℕ). written mode x n (rows parent depth at n f)) w
     ∙ ap (λ (x : ℕ). written mode (written mode t₀ first before) x (rows parent depth at n f)) l
     ∙ written-append mode t₀ first before (rows parent depth at n f)
@@ -252,19 +251,18 @@ module _ (s t₀ : List ℕ) (mode : Mode) (read : ℕ → ℕ → Outcome) (par
     same = refl;
     inside = i;
     few = l;
-    room = r
+    room = r;
   }
 
   module _ (t : List ℕ) (place : Cursor) (left n : ℕ)
       (g : Going s t₀ mode read parent depth (from .at) size first t place left n) where
-
     abbrev Whole : List ℕ → ElementRead → Type 0
     Whole t′ r = Met s mode (from .at) parent depth (from .at) first whole-body t₀ t′ r
 
     pub ends : left ≡ 0 → Whole t (Read n place)
     ends z =
         let e : whole-body ≡ done (g .ago)
-              = g .rest ∙ rw (z, stops read (g .most) (place .at) n, join-none (g .ago)) in
+        = g .rest ∙ rw (z, stops read (g .most) (place .at) n, join-none (g .ago)) in
         let k = g .along in
         let i = g .inside in
         let l = g .few in
@@ -279,7 +277,7 @@ module _ (s t₀ : List ℕ) (mode : Mode) (read : ℕ → ℕ → Outcome) (par
       child-out e m =
           met-refused s mode (from .at) parent depth (from .at) first whole-body t₀ t′ e
           (g .rest ∙ rw (child-refused read (g .most) (place .at) left n e more (g .enough)
-            (told-refused (place .at) n (read (place .at) n) e (m .reply))))
+          (told-refused (place .at) n (read (place .at) n) e (m .reply))))
 
       module _ (c : ℕ) (next : Cursor) (m : Child (Read c next)) where
         pub child-goes : (place .at + 1 ≤ next .at) × (next .at ≤ length s) × (c ≤ next .at)
@@ -304,24 +302,24 @@ module _ (s t₀ : List ℕ) (mode : Mode) (read : ℕ → ℕ → Outcome) (par
             let (fewer, e, u) = child-more read (g .most) (place .at) left n f more (g .enough) q (omega arith) in
             let h = child-goes in
             let y : siblings read fewer (place .at + span f) (left - span f) (n + count f)
-                  ≡ siblings read fewer (next .at) (left - (next .at - place .at)) c = cc in
+            ≡ siblings read fewer (next .at) (left - (next .at - place .at)) c = cc in
             let wr = join-written mode t₀ t t′ parent depth (from .at) first (place .at) n (g .ago) f (g .table)
-                  (g .number) (g .along) (m .table f q) in
+            (g .number) (g .along) (m .table f q) in
             record {
               ago = join (g .ago) f;
               most = fewer;
               enough = let b = g .enough in omega arith;
               rest =
-                g .rest ∙ ap (prepend (g .ago)) u
-                ∙ prepend-prepend (g .ago) f (siblings read fewer (place .at + span f) (left - span f) (n + count f))
-                ∙ ap (prepend (join (g .ago) f)) y;
+                  g .rest ∙ ap (prepend (g .ago)) u
+                  ∙ prepend-prepend (g .ago) f (siblings read fewer (place .at + span f) (left - span f) (n + count f))
+                  ∙ ap (prepend (join (g .ago) f)) y;
               number = omega (arith, g .number, count-join (g .ago) f);
               along = omega (arith, g .along, span-join (g .ago) f);
               table = wr;
               same = ap length wr ∙ length-written mode t₀ first _;
               inside = h .1;
               few = h .2;
-              room = λ kept. let b = m .room f q kept in subst (λ (x : ℕ). c ≤ x / width) (g .same) (omega arith)
+              room = λ kept. let b = m .room f q kept in subst (λ (x : ℕ). c ≤ x / width) (g .same) (omega arith);
             }
 
         pub child-again : next .at - place .at ≤ left

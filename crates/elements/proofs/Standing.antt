@@ -53,14 +53,14 @@ module _ (s : List ℕ) where
       of-cond (eqb left 0) q
       (λ t w. let e : none ≡ f = cc in let z = eqb-true left 0 t in rw (← e) (omega arith, i))
       (λ t w.
-        let (g, e, v) = of-then w in
-        let u = of-refuse _ _ _ v in
-        let (r, x, y) = of-prepend g (siblings read most (at + span g) (left - span g) _) f (u .1) in
-        let k = good at n g e in
-        let o = ltb-false left (span g) (u .0) in
-        let inside = stands-inside parent at g (k .1) in
-        let c = siblings-stand parent read good most (at + span g) (left - span g) _ r (omega arith) inside x in
-        rw y (omega (arith, span-join g r), stands-join parent at g r (k .1) (c .1)))
+      let (g, e, v) = of-then w in
+      let u = of-refuse _ _ _ v in
+      let (r, x, y) = of-prepend g (siblings read most (at + span g) (left - span g) _) f (u .1) in
+      let k = good at n g e in
+      let o = ltb-false left (span g) (u .0) in
+      let inside = stands-inside parent at g (k .1) in
+      let c = siblings-stand parent read good most (at + span g) (left - span g) _ r (omega arith) inside x in
+      rw y (omega (arith, span-join g r), stands-join parent at g r (k .1) (c .1)))
 
   -- A leaf that was accepted: its body is a value, and ends in the recording.
   value-inside : (at n : ℕ) (k : Kind) → (numberOf k ≡ 1 → ⊥) → IsValue (bodyOf s at n k) → at + n ≤ length s
@@ -102,29 +102,29 @@ module _ (s : List ℕ) where
       let k = kindUnder parent (h .id) in
       of-held (bodyOf s (at + h .length) (h .size) k) _ kids v
       (λ b u.
-        let m = is-master (at + h .length) (h .size) k b in
-        let g = siblings-stand (h .id) (element s mode cap levels (h .id)) (element-stands mode cap levels (h .id))
-              (h .size) (at + h .length) (h .size) (n + 1) kids (omega arith) (i .1) u in
-        let j = stands-inside (h .id) (at + h .length) kids (g .1) in
-        let t : StandsAt s parent at (elementOf parent h) kids = record {
-              head = e;
-              kind = refl;
-              taken = λ y. g .0;
-              value = λ y. absurd (y m);
-              childless = λ y. absurd (y m)
-            } in
-        rw a (omega arith, stands-node parent at (elementOf parent h) kids t (g .1) (omega arith)))
+      let m = is-master (at + h .length) (h .size) k b in
+      let g = siblings-stand (h .id) (element s mode cap levels (h .id)) (element-stands mode cap levels (h .id))
+      (h .size) (at + h .length) (h .size) (n + 1) kids (omega arith) (i .1) u in
+      let j = stands-inside (h .id) (at + h .length) kids (g .1) in
+      let t : StandsAt s parent at (elementOf parent h) kids = record {
+        head = e;
+        kind = refl;
+        taken = λ y. g .0;
+        value = λ y. absurd (y m);
+        childless = λ y. absurd (y m);
+      } in
+      rw a (omega arith, stands-node parent at (elementOf parent h) kids t (g .1) (omega arith)))
       (λ b u.
-        let m = not-master (at + h .length) (h .size) k b in
-        let j = value-inside (at + h .length) (h .size) k m b in
-        let t : StandsAt s parent at (elementOf parent h) none = record {
-              head = e;
-              kind = refl;
-              taken = λ y. absurd (m y);
-              value = λ y. b;
-              childless = λ y. refl
-            } in
-        rw (a, u) (omega arith, stands-node parent at (elementOf parent h) none t (i .1) (omega arith)))
+      let m = not-master (at + h .length) (h .size) k b in
+      let j = value-inside (at + h .length) (h .size) k m b in
+      let t : StandsAt s parent at (elementOf parent h) none = record {
+        head = e;
+        kind = refl;
+        taken = λ y. absurd (m y);
+        value = λ y. b;
+        childless = λ y. refl;
+      } in
+      rw (a, u) (omega arith, stands-node parent at (elementOf parent h) none t (i .1) (omega arith)))
 
   -- A master's body that was read takes up its size, and stands.
   pub body-stands : (mode : Mode) (cap depth parent at size n : ℕ) (f : Forest) → at ≤ length s

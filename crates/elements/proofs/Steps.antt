@@ -73,7 +73,7 @@ module _ (s : List ℕ) (mode : Mode) (t : List ℕ) (place : Cursor) (n : ℕ) 
             header = h .length;
             payload = h .size;
             kind = number;
-            depth = above .depth
+            depth = above .depth;
           }) kept
 
       pub no-free : (number : ℕ) (kept : Bool) (t′ : List ℕ) (e : Refusal) → row-here (h .id) number kept
@@ -116,7 +116,7 @@ module _ (s : List ℕ) (mode : Mode) (t : List ℕ) (place : Cursor) (n : ℕ) 
             let b′ = rw (listed, c .1) at b in
             let m′ = rw listed at m in
             let inner = masterBody s mode (length t / width) (above .depth + 1) (h .id) (place .at + h .length) (h .size)
-                  (n + 1) in
+            (n + 1) in
             let r = leaf-read s (place .at + h .length) (h .size) (kindUnder (above .id) (h .id)) inner body after m′ b′ in
             let i = r .inside in
             let z : place .at + h .length + h .size ≡ place .at + (h .length + h .size) = omega arith in
@@ -127,7 +127,7 @@ module _ (s : List ℕ) (mode : Mode) (t : List ℕ) (place : Cursor) (n : ℕ) 
 
         pub master-met : (t′ : List ℕ) (r : ElementRead) → numberOf k ≡ 1
             → Met s mode (next .at) (n + 1) (above .depth + 1) (next .at) (n + 1)
-              (masterBody s mode (length t₁ / width) (above .depth + 1) (h .id) (next .at) (h .size) (n + 1)) t₁ t′ r
+            (masterBody s mode (length t₁ / width) (above .depth + 1) (h .id) (next .at) (h .size) (n + 1)) t₁ t′ r
             → Promised t′ r
         master-met t′ r m g =
             let c = payload-at in
@@ -137,5 +137,5 @@ module _ (s : List ℕ) (mode : Mode) (t : List ℕ) (place : Cursor) (n : ℕ) 
             met-master s mode (above .row) (above .depth) (place .at) n (elementOf (above .id) h) t t₁ (w .row) t′ here _ r
             (el-master s mode (length t / width) (above .depth) (above .id) (place .at) n h next q d (w .free) m′) (c .0)
             (λ f e. body-stands s mode (length t / width) (above .depth + 1) (h .id) (place .at + h .length) (h .size)
-              (n + 1) f (omega arith) e .0)
+            (n + 1) f (omega arith) e .0)
             g′

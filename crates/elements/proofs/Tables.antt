@@ -60,8 +60,8 @@ module _ (mode : Mode) (t : List ℕ) (n : ℕ) where
     where
       go : (b : Bool)
           → cond b
-            (sets (cond b (sets t (n * width) (flatten rs)) t) ((n + length rs) * width) (flatten ss))
-            (cond b (sets t (n * width) (flatten rs)) t)
+          (sets (cond b (sets t (n * width) (flatten rs)) t) ((n + length rs) * width) (flatten ss))
+          (cond b (sets t (n * width) (flatten rs)) t)
           ≡ cond b (sets t (n * width) (flatten (rs ++ ss))) t
       go true =
           let h = length-flatten rs in
@@ -114,9 +114,10 @@ module _ (mode : Mode) (t t′ : List ℕ) (n : ℕ) (r : Row) where
       (kept ≡ not (full mode (length t / width) n)) × (kept ≡ true → t′ ≡ written mode t n (r ∷ []))
 
   pub kept-full : mode .keep ≡ true → length t / width ≤ n → Kept false
-  kept-full k h =
-      (sym (ap not (full-taken mode (length t / width) n k h)),
-      λ z. let x : _≡_ {A = ℕ} 0 1 = cc in absurd (omega arith))
+  kept-full k h = (
+    sym (ap not (full-taken mode (length t / width) n k h)),
+    λ z. let x : _≡_ {A = ℕ} 0 1 = cc in absurd (omega arith),
+  )
 
   pub kept-row : mode .keep ≡ true → n < length t / width → t′ ≡ sets t (n * width) (flat r) → Kept true
   kept-row k h w = (sym (ap not (full-free mode (length t / width) n k h)), λ z. w ∙ sym (written-one mode t n r k))
@@ -136,14 +137,14 @@ cleared t i a b =
 
 pub row-there : (t : List ℕ) (k : ℕ)
     → record {
-        id = getD t (k * width) 0;
-        parent = getD t (k * width + 1) 0;
-        address = getD t (k * width + 2) 0;
-        header = getD t (k * width + 3) 0;
-        payload = getD t (k * width + 4) 0;
-        kind = getD t (k * width + 5) 0;
-        depth = getD t (k * width + 6) 0
-      } ≡ rowAt t k
+      id = getD t (k * width) 0;
+      parent = getD t (k * width + 1) 0;
+      address = getD t (k * width + 2) 0;
+      header = getD t (k * width + 3) 0;
+      payload = getD t (k * width + 4) 0;
+      kind = getD t (k * width + 5) 0;
+      depth = getD t (k * width + 6) 0;
+    } ≡ rowAt t k
 unfolding rowAt firstRow
 row-there t k =
     let g : (i : ℕ) → getD (drop (k * width) t) i 0 ≡ getD t (k * width + i) 0 = λ i. getD-drop (k * width) t i 0 in

@@ -68,7 +68,7 @@ module _ (s : List ℕ) (start numbers : ℕ) where
         bytes = leb-true _ _ e;
         sevens = eqb-true _ _ f;
         few = leb-true _ _ g;
-        inside = leb-true _ _ h
+        inside = leb-true _ _ h;
       }
       go true e true f true g false h w = let z : _≡_ {A = ℕ} 0 1 = cc in absurd (omega arith)
       go true e true f false g d h w = let z : _≡_ {A = ℕ} 0 1 = cc in absurd (omega arith)
@@ -110,11 +110,11 @@ module _ (start numbers : ℕ) (o : Outcome) (t : List ℕ) where
       record {
         reply = rw k (sym (ap replyOf q));
         table =
-          w
-          ∙ sets-eq (flatten rs) (zeros numbers) 0 r
-          ∙ ap (λ (x : List ℕ). flatten rs ++ x)
+            w
+            ∙ sets-eq (flatten rs) (zeros numbers) 0 r
+            ∙ ap (λ (x : List ℕ). flatten rs ++ x)
             (drop-zeros (0 + length (flatten rs)) numbers ∙ ap (λ (x : ℕ). zeros x) e)
-          ∙ sym (ap (tableOf start numbers) q)
+            ∙ sym (ap (tableOf start numbers) q);
       }
 
 -- ---- from the reader's answer on the cleared table t₁ to the promise
@@ -136,7 +136,7 @@ module _ (s : List ℕ) (start size parent : ℕ) (t₁ : List ℕ) (z : t₁ �
         → t′ ≡ zeros numbers → ReadPromise s start size parent t₁ (Refused e) t′
     fill-refused e t t′ m w =
         let g = gives-refusal start numbers (readOf s start size parent numbers) t′ e
-              (outcome ∙ told-refused start 0 reading e (m .reply)) w in
+        (outcome ∙ told-refused start 0 reading e (m .reply)) w in
         record { reply = g .reply; table = g .table }
 
     pub fill-done : (n : ℕ) (next : Cursor) (t : List ℕ)

@@ -3,5 +3,7 @@ pub mod Forest
 pub mod Reading
 pub mod Rows
 pub mod Stands
+pub mod Holds
 pub mod Promise
 pub mod Contract
+pub mod Theorems

@@ -67,8 +67,8 @@ siblings read zero at left n = done none
 siblings read (suc most) at left n =
     cond (eqb left 0) (done none)
     (andThen (read at n) (λ f.
-      refuseIf (ltb left (span f)) overrun
-      (prepend f (siblings read most (at + span f) (left - span f) (n + count f)))))
+    refuseIf (ltb left (span f)) overrun
+    (prepend f (siblings read most (at + span f) (left - span f) (n + count f)))))
 
 abbrev pub elementOf : ℕ → Header → Element
 elementOf parent h = record { header = h; kind = kindUnder parent (h .id) }
@@ -79,10 +79,10 @@ unfoldable pub element : List ℕ → Mode → ℕ → ℕ → ℕ → ℕ → �
 element s mode cap zero parent at n = headed (headerOf (drop at s)) (λ h. refused tooDeep)
 element s mode cap (suc levels) parent at n =
     headed (headerOf (drop at s)) (λ h.
-      refuseIf (full mode cap n) noFreeRow
-      (above (elementOf parent h)
-      (held (bodyOf s (at + h .length) (h .size) (kindUnder parent (h .id)))
-      (siblings (element s mode cap levels (h .id)) (h .size) (at + h .length) (h .size) (n + 1)))))
+    refuseIf (full mode cap n) noFreeRow
+    (above (elementOf parent h)
+    (held (bodyOf s (at + h .length) (h .size) (kindUnder parent (h .id)))
+    (siblings (element s mode cap levels (h .id)) (h .size) (at + h .length) (h .size) (n + 1)))))
 
 -- A read's direct rows have depth 0; the deepest row has depth 15.
 abbrev pub depths : ℕ

@@ -16,7 +16,7 @@ rowOf e parent depth at =
       header = e .header .length;
       payload = e .header .size;
       kind = numberOf (e .kind);
-      depth = depth
+      depth = depth;
     }
 
 -- The rows of elements that begin at an address, the first of them row n.
@@ -49,7 +49,7 @@ firstRow t =
       header = getD t 3 0;
       payload = getD t 4 0;
       kind = getD t 5 0;
-      depth = getD t 6 0
+      depth = getD t 6 0;
     }
 
 -- Row k of a table.

@@ -30,10 +30,7 @@ pub struct Above {
 
 // How many rows there are now, and the place after what was read; or a refusal.
 pub enum ElementRead {
-    Read {
-        rows: usize,
-        next: Cursor,
-    },
+    Read { rows: usize, next: Cursor },
     Refused(Refusal),
 }
 

@@ -62,6 +62,7 @@ heading-inside s h = by-name (vintOf 4 s) refl
         omega arith
     by-size id n i ends e w = let x : _≡_ {A = ℕ} 0 1 = cc in absurd (omega arith)
     by-size id n i long e w = let x : _≡_ {A = ℕ} 0 1 = cc in absurd (omega arith)
+
     by-name : (v : Vint) → vintOf 4 s ≡ v → named s v ≡ heading h → (1 ≤ h .length) × (h .length ≤ length s)
     by-name (vint n id) e w = by-size id n (vint-octets 4 n id s e) (vintOf 8 (drop n s)) refl w
     by-name ends e w = let x : _≡_ {A = ℕ} 0 1 = cc in absurd (omega arith)

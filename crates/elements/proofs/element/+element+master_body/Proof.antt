@@ -61,11 +61,24 @@ master-body-below t =
     and 3 master-body-kinds.ps (falls 3 master-body-kinds.ps _<_ μ-master-body t) master-body.Pre
 
 abbrev element-calls : ℕ → element-lts.Claims
-element-calls t =
-    (header-reads.Asked, header-reads.Learnt, too-deep-reads.Asked, too-deep-reads.Learnt,
-    kind-in-reads.Asked, kind-in-reads.Learnt, number-reads.Asked, number-reads.Learnt,
-    keep-row-reads.Asked, keep-row-reads.Learnt, no-free-row-reads.Asked, no-free-row-reads.Learnt,
-    master-body-below t, master-body.Post, read-body-reads.Asked, read-body-reads.Learnt)
+element-calls t = (
+  header-reads.Asked,
+  header-reads.Learnt,
+  too-deep-reads.Asked,
+  too-deep-reads.Learnt,
+  kind-in-reads.Asked,
+  kind-in-reads.Learnt,
+  number-reads.Asked,
+  number-reads.Learnt,
+  keep-row-reads.Asked,
+  keep-row-reads.Learnt,
+  no-free-row-reads.Asked,
+  no-free-row-reads.Learnt,
+  master-body-below t,
+  master-body.Post,
+  read-body-reads.Asked,
+  read-body-reads.Learnt,
+)
 
 abbrev master-body-calls : ℕ → master-body-lts.Claims
 master-body-calls t = (element-below t, element.Post, overrun-reads.Asked, overrun-reads.Learnt)
@@ -185,15 +198,16 @@ element-master-body-requires t c κs =
     let x = begun t a .args in
     let p = begun t a .pre .1 in
     let (i, j, k) = payload-at (x .recording .now) (x .mode) (x .table .now) (x .place) (x .rows) (x .above)
-          (head t a) (behind t a) (header-told t a) in
-    (omega (arith, begun t a .pre .0, shallow t w),
-    record {
-      listed = p .listed;
-      small = p .small;
-      inside = k;
-      few = omega (arith, p .few);
-      room = room-after _ _ _ _ _ _ _ _ _ _ _ _ _ (written-at t w)
-    })
+    (head t a) (behind t a) (header-told t a) in (
+      omega (arith, begun t a .pre .0, shallow t w),
+      record {
+        listed = p .listed;
+        small = p .small;
+        inside = k;
+        few = omega (arith, p .few);
+        room = room-after _ _ _ _ _ _ _ _ _ _ _ _ _ (written-at t w);
+      },
+    )
 
 element-same-length-2 : (t : ℕ) → element-lts.Need-same-length-2 (element-calls t) (element-at t) element.Post
 element-same-length-2 t c =
@@ -297,7 +311,7 @@ module _ (t : ℕ) where
       let l = turn c .loop in
       Met (x .recording .now) (x .mode) (l .place .at + 1) (x .above .row) (x .above .depth) (l .place .at) (l .rows)
       (elementIn (x .recording .now) (x .mode) (length (x .table .now) / width) (depths - x .above .depth) (x .above .id)
-        (l .place .at) (l .rows))
+      (l .place .at) (l .rows))
       (l .table) (c .element .last .1 .1 .0) r
 
   child-met : (c : Child) (r : ElementRead) → c .element .result ≡ r → Promised c r
@@ -319,7 +333,7 @@ module _ (t : ℕ) where
 
 master-body-loop-holds : (t : ℕ)
     → master-body-lts.Need-loop-holds (master-body-calls t) (master-body-at t) master-body.Post
-      master-body-Inv-loop master-body-μ-loop
+    master-body-Inv-loop master-body-μ-loop
 master-body-loop-holds t c =
     let x = c .before .before .before .args in
     let p = c .before .before .before .pre .1 in
@@ -328,32 +342,33 @@ master-body-loop-holds t c =
 
 master-body-element-requires : (t : ℕ)
     → master-body-lts.Need-element-requires (master-body-calls t) (master-body-at t) master-body.Post
-      master-body-Inv-loop master-body-μ-loop
+    master-body-Inv-loop master-body-μ-loop
 master-body-element-requires t c κs =
     let b = c .before .before .before .before .before .before in
-    let l = c .before .before .loop in
-    (omega (arith, b .pre .0),
-    record {
-      listed = b .pre .1 .listed;
-      small = b .pre .1 .small;
-      inside = l .inv .inside;
-      few = l .inv .few;
-      room = λ kept. subst (λ (x : ℕ). l .rows ≤ x / width) (sym (l .inv .same)) (l .inv .room kept)
-    })
+    let l = c .before .before .loop in (
+      omega (arith, b .pre .0),
+      record {
+        listed = b .pre .1 .listed;
+        small = b .pre .1 .small;
+        inside = l .inv .inside;
+        few = l .inv .few;
+        room = λ kept. subst (λ (x : ℕ). l .rows ≤ x / width) (sym (l .inv .same)) (l .inv .room kept);
+      },
+    )
 
 master-body-enum-known-refusal : (t : ℕ)
     → master-body-lts.Need-enum-known-refusal (master-body-calls t) (master-body-at t) master-body.Post
-      master-body-Inv-loop master-body-μ-loop
+    master-body-Inv-loop master-body-μ-loop
 master-body-enum-known-refusal t c = search needs
 
 master-body-same-length : (t : ℕ)
     → master-body-lts.Need-same-length (master-body-calls t) (master-body-at t) master-body.Post
-      master-body-Inv-loop master-body-μ-loop
+    master-body-Inv-loop master-body-μ-loop
 master-body-same-length t c = child-length t (c .before .before .before .before .before)
 
 master-body-returns : (t : ℕ)
     → master-body-lts.Need-returns (master-body-calls t) (master-body-at t) master-body.Post
-      master-body-Inv-loop master-body-μ-loop
+    master-body-Inv-loop master-body-μ-loop
 unfolding masterBody
 master-body-returns t c =
     let e = c .before .before .before .before .before in
@@ -362,44 +377,44 @@ master-body-returns t c =
 
 master-body-enum-known-taken : (t : ℕ)
     → master-body-lts.Need-enum-known-taken (master-body-calls t) (master-body-at t) master-body.Post
-      master-body-Inv-loop master-body-μ-loop
+    master-body-Inv-loop master-body-μ-loop
 master-body-enum-known-taken t c = search needs
 
 master-body-sub-used : (t : ℕ)
     → master-body-lts.Need-sub-used (master-body-calls t) (master-body-at t) master-body.Post
-      master-body-Inv-loop master-body-μ-loop
+    master-body-Inv-loop master-body-μ-loop
 master-body-sub-used t c = omega (arith, child-gone t (c .before .before))
 
 master-body-overrun-requires : (t : ℕ)
     → master-body-lts.Need-overrun-requires (master-body-calls t) (master-body-at t) master-body.Post
-      master-body-Inv-loop master-body-μ-loop
+    master-body-Inv-loop master-body-μ-loop
 master-body-overrun-requires t c κs = search needs
 
 master-body-same-length-2 : (t : ℕ)
     → master-body-lts.Need-same-length-2 (master-body-calls t) (master-body-at t) master-body.Post
-      master-body-Inv-loop master-body-μ-loop
+    master-body-Inv-loop master-body-μ-loop
 master-body-same-length-2 t c =
     child-length t (c .before .before .before .before .before .before .before .before .before)
 
 master-body-returns-2 : (t : ℕ)
     → master-body-lts.Need-returns-2 (master-body-calls t) (master-body-at t) master-body.Post
-      master-body-Inv-loop master-body-μ-loop
+    master-body-Inv-loop master-body-μ-loop
 unfolding masterBody
 master-body-returns-2 t c =
     let a = c .before .before .before .before in
     let e = asked t a in
     rw (c .overrun .ensures) (child-too-long _ _ _ _ _ _ (starts t e .args .from) _ _ _ _ _ _ (turn t e .loop .inv)
-      _ (more t e) _ _ (read-met t a) (c .before .if1 .taken))
+    _ (more t e) _ _ (read-met t a) (c .before .if1 .taken))
 
 master-body-loop-less : (t : ℕ)
     → master-body-lts.Need-loop-less (master-body-calls t) (master-body-at t) master-body.Post
-      master-body-Inv-loop master-body-μ-loop
+    master-body-Inv-loop master-body-μ-loop
 master-body-loop-less t c =
     omega (arith, child-gone t (c .before .before .before), c .if1 .left, more t (asked t (c .before .before .before)))
 
 master-body-loop-again : (t : ℕ)
     → master-body-lts.Need-loop-again (master-body-calls t) (master-body-at t) master-body.Post
-      master-body-Inv-loop master-body-μ-loop
+    master-body-Inv-loop master-body-μ-loop
 master-body-loop-again t c =
     let a = c .before .before .before in
     let e = asked t a in
@@ -408,12 +423,12 @@ master-body-loop-again t c =
 
 master-body-same-length-3 : (t : ℕ)
     → master-body-lts.Need-same-length-3 (master-body-calls t) (master-body-at t) master-body.Post
-      master-body-Inv-loop master-body-μ-loop
+    master-body-Inv-loop master-body-μ-loop
 master-body-same-length-3 t c = c .before .loop .inv .same
 
 master-body-returns-3 : (t : ℕ)
     → master-body-lts.Need-returns-3 (master-body-calls t) (master-body-at t) master-body.Post
-      master-body-Inv-loop master-body-μ-loop
+    master-body-Inv-loop master-body-μ-loop
 unfolding masterBody
 master-body-returns-3 t c =
     ends _ _ _ _ _ _ (c .before .before .before .before .before .args .from) _ _ _ _ _ _ (c .before .loop .inv)

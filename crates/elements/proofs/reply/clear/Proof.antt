@@ -36,10 +36,11 @@ loop-less : tie.Need-loop-less Inv-loop μ-loop
 loop-less c = omega arith
 
 loop-again : tie.Need-loop-again Inv-loop μ-loop
-loop-again c =
-    (omega arith,
-    simp length-set (c .before .loop .inv .1),
-    rw (c .before .loop .inv .2) (fill-more (c .before .loop .i) 0 (c .before .before .args .table .now) (omega arith)))
+loop-again c = (
+  omega arith,
+  simp length-set (c .before .loop .inv .1),
+  rw (c .before .loop .inv .2) (fill-more (c .before .loop .i) 0 (c .before .before .args .table .now) (omega arith)),
+)
 
 same-length : tie.Need-same-length Inv-loop μ-loop
 same-length c = omega arith

@@ -26,7 +26,7 @@ master-body-requires c κs =
       small = w .bytes;
       inside = w .inside;
       few = omega arith;
-      room = λ kept. omega arith
+      room = λ kept. omega arith;
     }
 
 enum-known-refusal : tie.Need-enum-known-refusal

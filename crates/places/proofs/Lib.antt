@@ -1,0 +1,1 @@
+-- The laws that the proofs of `places` share, and its theorems.

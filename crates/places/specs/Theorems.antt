@@ -1,0 +1,52 @@
+-- What is proved of the definitions beside the contracts: the statements of the theorems.
+use Prim.Native.Nat.{ℕ, _+_, _<_}
+use mathlib.Core.Path.{_≡_}
+use mathlib.Core.List.{List}
+use mathlib.Core.Logic.{_⊎_}
+use mathlib.Core.Bool.{true, _||_}
+use lib.ListN.{length}
+use Rattle.elements.specs.Forest.{Forest, count}
+use Rattle.elements.specs.Reading.{done}
+use Rattle.elements.specs.Rows.{rows}
+use Rattle.elements.specs.Holds.{inHeader, inLeaf}
+use Rattle.elements.specs.Theorems.{nth}
+use Rattle.places.specs.Whose.{askedOf}
+use Rattle.places.specs.Promise.{RangePromise, PayloadPromise, WhosePromise}
+use Rattle.places.specs.declared.payload.RangeReply.{RangeReply}
+use Rattle.places.specs.declared.whose.WhoseReply.{WhoseReply}
+use Rattle.places.specs.declared.whose.WhoseReply.the-variants.{Header, Payload}
+
+-- Any two replies that a promise permits to one question are equal (document 01, Strength of the promises).
+abbrev pub OneRange : Type 0
+OneRange = (s t : List ℕ) (row : ℕ) (r r′ : RangeReply) → RangePromise s t row r → RangePromise s t row r′ → r ≡ r′
+
+abbrev pub OnePayload : Type 0
+OnePayload =
+    (s t : List ℕ) (row : ℕ) (part part′ : List ℕ) → PayloadPromise s t row part → PayloadPromise s t row part′
+    → part ≡ part′
+
+-- The numbers that stood in the lent table do not matter, only how many there are.
+abbrev pub OneOwner : Type 0
+OneOwner =
+    (s : List ℕ) (start size parent x : ℕ) (t u : List ℕ) (r r′ : WhoseReply) (t′ u′ : List ℕ) → length t ≡ length u
+    → WhosePromise s start size parent x t r t′ → WhosePromise s start size parent x u r′ u′ → (r ≡ r′) × (t′ ≡ u′)
+
+-- The owner of an address among rows: one of them holds it, by its header or by its leaf payload as the reply says, and
+-- no other row holds it.
+pub record Owner (start x : ℕ) (f : Forest) (r : WhoseReply) : Type 0 where
+  pub row : ℕ
+  pub there : row < count f
+  pub only :
+      (m : ℕ) → m < count f
+      → (inHeader (nth (rows 0 0 start 0 f) m) x || inLeaf (nth (rows 0 0 start 0 f) m) x) ≡ true → m ≡ row
+  pub which :
+      ((r ≡ Header row (count f)) × (inHeader (nth (rows 0 0 start 0 f) row) x ≡ true))
+      ⊎ ((r ≡ Payload row (count f)) × (inLeaf (nth (rows 0 0 start 0 f) row) x ≡ true))
+
+-- Where the payload is read, the address has exactly one owner, and the reply names it: 'no such row' is never the
+-- reason of a refusal.
+abbrev pub OneRowOwns : Type 0
+OneRowOwns =
+    (s : List ℕ) (start size parent x : ℕ) (t : List ℕ) (r : WhoseReply) (t′ : List ℕ) (f : Forest)
+    → WhosePromise s start size parent x t r t′ → askedOf s start size parent x (length t) ≡ done f
+    → Owner start x f r

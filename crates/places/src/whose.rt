@@ -1,0 +1,116 @@
+// The address question: the one row whose header or leaf payload holds an address, and which of the two.
+ghost use mathlib.Core.Path.{_≡_};
+ghost use Prim.Native.Nat.{_/_, _≤_};
+ghost use lib.ListN.{length};
+ghost use Rattle.elements.specs.Rows.{width, rowsOf};
+ghost use Rattle.elements.specs.Holds.{within};
+ghost use Rattle.places.specs.Whose.{partIn, whoseIn};
+ghost use Rattle.places.specs.Promise.{told, WhosePromise};
+use elements::ReadReply;
+use elements::Row;
+use elements::clear;
+use elements::fill;
+use elements::is_allowed;
+use elements::row_at;
+use header::Refusal;
+
+// The number of the kind that holds elements.
+const MASTER: u64 = 1;
+
+// The row that holds the address by its header or by its payload, and how many rows there are; or a refusal.
+pub enum WhoseReply {
+    Header { row: u64, rows: u64 },
+    Payload { row: u64, rows: u64 },
+    Refused(Refusal),
+}
+
+// What of a row holds an address.
+pub enum Part {
+    Header,
+    Payload,
+    Neither,
+}
+
+// Whether the address is one of `size` bytes from `start` on; start plus size may pass 2^64.
+fn is_within(start: u64, size: u64, address: u64) -> bool
+    ensures { λ r. ⌜ r ≡ within start size address ⌝ }
+{
+    if address < start {
+        return false;
+    }
+    address - start < size
+}
+
+// A header is its row's own, and so is a leaf's payload; a master's payload is its children's.
+fn part_of(row: Row, address: u64) -> Part
+    ensures { λ r. ⌜ r ≡ partIn row address ⌝ }
+{
+    if address < row.address {
+        return Part::Neither;
+    }
+    let past = address - row.address;
+    if past < row.header {
+        return Part::Header;
+    }
+    if row.kind == MASTER {
+        return Part::Neither;
+    }
+    let into = past - row.header;
+    if into < row.payload {
+        return Part::Payload;
+    }
+    Part::Neither
+}
+
+// The first of the table's rows that holds the address.
+fn find(table: &[u64], rows: usize, address: u64) -> WhoseReply
+    requires { ⌜ rows ≤ length (now table) / width ⌝ }
+    ensures { λ r. ⌜ told r ≡ whoseIn (rowsOf (now (table .entry)) rows) 0 rows address ⌝ }
+{
+    let mut n: usize = 0;
+    while n < rows {
+        match part_of(row_at(table, n), address) {
+            Part::Header => {
+                return WhoseReply::Header {
+                    row: n as u64,
+                    rows: rows as u64,
+                };
+            }
+            Part::Payload => {
+                return WhoseReply::Payload {
+                    row: n as u64,
+                    rows: rows as u64,
+                };
+            }
+            Part::Neither => {
+                n += 1;
+            }
+        }
+    }
+    WhoseReply::Refused(Refusal::outside())
+}
+
+// Reads the payload of `size` bytes from `start` on into the table, and names the row that holds the address. 14: a
+// length is broken, or the start is past the end; then 15: the address is outside the payload that the caller named.
+pub fn whose_byte(
+    recording: &[u8],
+    start: u64,
+    size: u64,
+    parent: u32,
+    address: u64,
+    table: &mut [u64],
+) -> WhoseReply
+    ensures { λ r. ⌜ WhosePromise (now (recording .entry)) start size parent address (now (table .entry)) r (now (table .exit)) ⌝ }
+{
+    clear(table);
+    if !is_allowed(recording, start, table) {
+        return WhoseReply::Refused(Refusal::bad_argument());
+    }
+    if !is_within(start, size, address) {
+        return WhoseReply::Refused(Refusal::outside());
+    }
+    match fill(recording, start, size, parent, table) {
+        ReadReply::Refused(refusal) => WhoseReply::Refused(refusal),
+        ReadReply::Rows(rows) => find(table, rows as usize, address),
+    }
+}
