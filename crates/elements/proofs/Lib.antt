@@ -1,4 +1,5 @@
 -- The laws that the proofs of `elements` share, and its theorems.
+pub mod Limits
 pub mod Outcomes
 pub mod Bodies
 pub mod Forests
@@ -7,3 +8,6 @@ pub mod Standing
 pub mod Reading
 pub mod Steps
 pub mod Whole
+pub mod Fits
+pub mod Readback
+pub mod Partition

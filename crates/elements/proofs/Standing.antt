@@ -1,5 +1,5 @@
 -- What was read stands in the recording. Assumes nothing.
-use Prim.Native.Nat.{ℕ, zero, suc, _+_, _-_, _≤_}
+use Prim.Native.Nat.{ℕ, zero, suc, _+_, _-_, _/_, _≤_}
 use mathlib.Core.Path.{_≡_, refl, sym, ap, _∙_, subst}
 use mathlib.Core.List.{List}
 use mathlib.Core.Bool.{Bool, true, false}
@@ -16,8 +16,11 @@ use Rattle.kinds.specs.declared.kind.Kind.{Kind}
 use Rattle.bodies.specs.Bodies.{Told, master, bodyOf}
 use Rattle.elements.specs.Forest.{Element, Forest, none, node, whole, span, count, join}
 use Rattle.elements.specs.Reading.{Outcome, done, refused, siblings, element, elementOf, depths, masterBody}
+use Rattle.elements.specs.Rows.{width}
+use Rattle.elements.specs.Promise.{keeping, filled, readOf}
 use Rattle.elements.specs.Stands.{IsMaster, IsValue, StandsAt, Stands}
 use Rattle.elements.specs.declared.row.Mode.{Mode}
+use Rattle.elements.proofs.Limits.{start-inside}
 use Rattle.elements.proofs.Outcomes.{never, of-refuse, of-prepend, of-above, of-then, of-headed, of-cond}
 use Rattle.elements.proofs.Bodies.{Leaf, a-refusal, a-value, leaf-body, master-body, of-held}
 use Rattle.elements.proofs.Forests.{span-join}
@@ -133,3 +136,11 @@ module _ (s : List ℕ) where
   body-stands mode cap depth parent at size n f i q =
       siblings-stand parent (element s mode cap (depths - depth) parent)
       (element-stands mode cap (depths - depth) parent) size at size n f (omega arith) i q
+
+-- The public read, where it is accepted.
+pub read-stands : (s : List ℕ) (start size parent numbers : ℕ) (f : Forest)
+    → readOf s start size parent numbers ≡ done f → (span f ≡ size) × Stands s parent start f
+unfolding readOf filled
+read-stands s start size parent numbers f q =
+    let (a, o) = of-refuse _ _ _ q in
+    body-stands s keeping (numbers / width) 0 parent start size 0 f (start-inside s start numbers a) o

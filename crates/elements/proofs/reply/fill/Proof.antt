@@ -4,7 +4,8 @@ use native.Mathlib.Omega.{arith}
 use lib.ListN.{length}
 use Rattle.kinds.specs.Elements.{elements}
 use Rattle.elements.specs.Contract.{Met}
-use Rattle.elements.proofs.Whole.{within, zeros-as, fill-refused, fill-done}
+use Rattle.elements.proofs.Limits.{within}
+use Rattle.elements.proofs.Whole.{zeros-as, fill-refused, fill-done}
 use borrow.Author.Needs.{needs}
 use Rattle.elements.proofs.reply.fill.Statement.{statement}
 use Rattle.elements.proofs.reply.fill.Tie as tie

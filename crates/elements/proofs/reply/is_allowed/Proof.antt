@@ -1,6 +1,6 @@
 -- `is_allowed` meets its contract: the limits, one after another. Assumes nothing.
 use mathlib.Core.Path.{_≡_}
-use Rattle.elements.proofs.Whole.{too-long, broken-rows, too-many, by-start}
+use Rattle.elements.proofs.Limits.{too-long, broken-rows, too-many, by-start}
 use borrow.Author.Needs.{needs}
 use Rattle.elements.proofs.reply.is_allowed.Statement.{statement}
 use Rattle.elements.proofs.reply.is_allowed.Tie as tie
