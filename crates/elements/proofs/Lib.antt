@@ -11,3 +11,7 @@ pub mod Whole
 pub mod Fits
 pub mod Readback
 pub mod Partition
+pub mod Unique
+pub mod Sound
+pub mod Family
+pub mod Lossless

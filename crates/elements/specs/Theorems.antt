@@ -11,7 +11,7 @@ use Rattle.header.specs.declared.cursor.HeaderRead.the-variants.{Read}
 use Rattle.kinds.specs.Entries.{kindOf}
 use Rattle.kinds.specs.Kinds.{numberOf, kindUnder}
 use Rattle.bodies.specs.Bodies.{Told, bodyOf}
-use Rattle.elements.specs.Forest.{Forest, count}
+use Rattle.elements.specs.Forest.{Forest, span, count}
 use Rattle.elements.specs.Reading.{done}
 use Rattle.elements.specs.Rows.{rows, rowsOf}
 use Rattle.elements.specs.Stands.{IsValue, Stands}
@@ -68,6 +68,7 @@ Lossless =
 pub record Tree (s : List ℕ) (start size parent n : ℕ) (t′ : List ℕ) : Type 0 where
   pub forest : Forest
   pub stands : Stands s parent start forest
+  pub taken : span forest ≡ size
   pub number : n ≡ count forest
   pub preorder : rowsOf t′ n ≡ rows 0 0 start 0 forest
 
