@@ -6,4 +6,3 @@ pub mod Found
 pub mod ByKind
 pub mod Replies
 pub mod Unique
-pub mod Cases

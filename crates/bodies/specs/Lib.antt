@@ -4,4 +4,3 @@ pub mod Bodies
 pub mod Reads
 pub mod Promise
 pub mod Theorems
-pub mod Cases

@@ -15,3 +15,5 @@ pub mod Unique
 pub mod Sound
 pub mod Family
 pub mod Lossless
+pub mod Cases
+pub mod Useless

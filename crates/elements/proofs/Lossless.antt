@@ -25,6 +25,7 @@ use Rattle.elements.specs.Promise.{zeros, tableOf, ReadPromise}
 use Rattle.elements.specs.Theorems.{Each, payloadOf, SameLeaf, Sound, Lossless}
 use Rattle.elements.specs.declared.row.Row.{Row}
 use Rattle.elements.specs.declared.reply.ReadReply.the-variants.{Rows}
+use Rattle.elements.proofs.Tables.{zeros-at}
 use Rattle.elements.proofs.Standing.{read-stands}
 use Rattle.elements.proofs.Readback.{Accepted, accepted-read}
 use Rattle.elements.proofs.Sound.{header-there, rows-sound}
@@ -95,11 +96,6 @@ module _ (s s′ : List ℕ) (o : Octets s) (o′ : Octets s′) where
 
 HasHeader : Row → Type 0
 HasHeader r = 1 ≤ r .header
-
-zeros-at : (m i : ℕ) → getD (zeros m) i 0 ≡ 0
-zeros-at zero i = refl
-zeros-at (suc m) zero = refl
-zeros-at (suc m) (suc i) = zeros-at m i
 
 rows-same : (rs ss : List Row) (m n : ℕ) → Each HasHeader rs → Each HasHeader ss
     → flatten rs ++ zeros m ≡ flatten ss ++ zeros n → rs ≡ ss

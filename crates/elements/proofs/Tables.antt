@@ -34,6 +34,11 @@ drop-zeros zero n = rw (sub-zero n)
 drop-zeros (suc k) zero = drop-nil (suc k) ∙ (let e : 0 - suc k ≡ 0 = omega arith in rw e)
 drop-zeros (suc k) (suc n) = drop-zeros k n ∙ (let e : suc n - suc k ≡ n - k = omega arith in rw e)
 
+pub zeros-at : (m i : ℕ) → getD (zeros m) i 0 ≡ 0
+zeros-at zero i = refl
+zeros-at (suc m) zero = refl
+zeros-at (suc m) (suc i) = zeros-at m i
+
 -- ---- rows where rows are kept
 
 module _ (mode : Mode) (t : List ℕ) (n : ℕ) where

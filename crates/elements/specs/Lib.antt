@@ -7,3 +7,5 @@ pub mod Holds
 pub mod Promise
 pub mod Contract
 pub mod Theorems
+pub mod Cases
+pub mod Useless

@@ -1,5 +1,4 @@
--- Document 01's cases that are to be proved, as one table (Cases, P1 to P10): what is asked of the bytes, and the
--- reply.
+-- Document 01's cases that are to be proved, as one table (Cases, P1 to P12): what is asked of the bytes, and the reply.
 use Prim.Native.Nat.{ℕ, _^_, _-_}
 use mathlib.Core.Path.{_≡_}
 use mathlib.Core.List.{List, [], _∷_}
@@ -7,8 +6,9 @@ use lib.IntN.{pos, negsuc}
 use Rattle.header.specs.Header.{Heading, heading, refused, headerOf}
 use Rattle.header.specs.Reply.{Reply, accepted, refusal}
 use Rattle.header.specs.Promise.{headerReply}
 use Rattle.bodies.specs.Bodies.{Told, integer, refusal as refusedBody, refuses}
 use Rattle.bodies.specs.Promise.{bodyReply}
+use Rattle.elements.specs.Promise.{readOf, replyOf, zeros, tableOf}
 
 -- Each case has the number behind its P.
 pub data Case : Type 0 where
@@ -16,6 +16,12 @@ pub data Case : Type 0 where
   header : ℕ → List ℕ → Reply → Case
   -- the body behind the header at 0, under no parent
   body : ℕ → List ℕ → Told → Case
+  -- the elements of a payload at 0, of a size and under a parent id, into a table of two rows: the reply, and the table
+  read : ℕ → List ℕ → ℕ → ℕ → Reply → List ℕ → Case
+
+-- Two rows.
+abbrev pub numbers : ℕ
+numbers = 14
 
 abbrev pub cases : List Case
 cases =
@@ -36,6 +42,10 @@ cases =
     ∷ body 9 (0x44 ∷ 0x61 ∷ 0x87 ∷ []) (refusedBody 6 0)
     ∷ body 10 (0x45 ∷ 0xA3 ∷ 0x82 ∷ 0xC0 ∷ 0x80 ∷ []) (refusedBody 7 0)
     ∷ body 10 (0x45 ∷ 0xA3 ∷ 0x83 ∷ 0xED ∷ 0xA0 ∷ 0x80 ∷ []) (refusedBody 7 0)
+    ∷ read 11 (0x67 ∷ 0xC8 ∷ 0x84 ∷ 0x45 ∷ 0xA3 ∷ 0x82 ∷ 0x41 ∷ 0x42 ∷ []) 7 0 (refusal 3 0) (zeros numbers)
+    ∷ read 11 (0x67 ∷ 0xC8 ∷ 0x84 ∷ 0x45 ∷ 0xA3 ∷ 0x82 ∷ 0x41 ∷ []) 7 0 (refusal 1 0) (zeros numbers)
+    ∷ read 12 (0x16 ∷ 0x54 ∷ 0xAE ∷ 0x6B ∷ 0x82 ∷ 0xE0 ∷ 0x80 ∷ []) 7 0x18538067 (accepted (2 ∷ []))
+    (0x1654AE6B ∷ 0 ∷ 0 ∷ 5 ∷ 2 ∷ 1 ∷ 0 ∷ 0xE0 ∷ 1 ∷ 5 ∷ 2 ∷ 0 ∷ 6 ∷ 1 ∷ [])
     ∷ []
 
 -- The body behind a header that was read at 0.
@@ -46,6 +56,9 @@ bodyBehind s (refused e) = refuses e
 abbrev pub Holds : Case → Type 0
 Holds (header name s reply) = headerReply s 0 ≡ reply
 Holds (body name s reply) = bodyBehind s (headerOf s) ≡ reply
+Holds (read name s size parent reply table) =
+    (replyOf (readOf s 0 size parent numbers) ≡ reply)
+    × (tableOf 0 numbers (readOf s 0 size parent numbers) ≡ table)
 
 -- The one statement: each case's question has the case's reply.
 abbrev pub Hold : List Case → Type 0

@@ -1,0 +1,38 @@
+-- The useless readers of the table that document 01 shuts out (Strength of the promises), each by a theorem about the
+-- promise of `read`.
+use Prim.Native.Nat.{ℕ, _*_, _≤_}
+use mathlib.Core.Path.{_≡_}
+use mathlib.Core.List.{List, [], _∷_}
+use lib.ListN.{length, getD}
+use Rattle.header.specs.declared.refusal.Refusal.{Refusal}
+use Rattle.elements.specs.Rows.{width}
+use Rattle.elements.specs.Promise.{zeros, ReadPromise}
+use Rattle.elements.specs.declared.reply.ReadReply.{ReadReply}
+use Rattle.elements.specs.declared.reply.ReadReply.the-variants.{Rows, Refused}
+
+-- P1's bytes, an empty TrackEntry, and an empty BlockGroup beside it.
+abbrev pub trackEntry : List ℕ
+trackEntry = 0xAE ∷ 0x80 ∷ []
+
+abbrev pub blockGroup : List ℕ
+blockGroup = 0xA0 ∷ 0x80 ∷ []
+
+-- One that refuses everything: these bytes are accepted, as one row with their own numbers.
+abbrev pub RefusesAll : Type 0
+RefusesAll =
+    (t : List ℕ) (r : ReadReply) (t′ : List ℕ) → length t ≡ width → ReadPromise trackEntry 0 2 0 t r t′
+    → (r ≡ Rows 1) × (t′ ≡ 0xAE ∷ 0 ∷ 0 ∷ 2 ∷ 0 ∷ 1 ∷ 0 ∷ [])
+
+-- One that gives the same table for all bytes: these two payloads have no leaf, so that no leaf bytes could tell them
+-- apart; no table is permitted for both.
+abbrev pub OneTableForAll : Type 0
+OneTableForAll =
+    (t u : List ℕ) (r r′ : ReadReply) (t′ : List ℕ) → length t ≡ width → length u ≡ width
+    → ReadPromise trackEntry 0 2 0 t r t′ → ReadPromise blockGroup 0 2 0 u r′ t′ → ⊥
+
+-- One that touches nothing: whatever the table held, numbers beyond the last row are 0, and after a refusal all are.
+abbrev pub TouchesNothing : Type 0
+TouchesNothing =
+    (s : List ℕ) (start size parent : ℕ) (t t′ : List ℕ)
+    → ((n : ℕ) → ReadPromise s start size parent t (Rows n) t′ → (k : ℕ) → n * width ≤ k → getD t′ k 0 ≡ 0)
+    × ((e : Refusal) → ReadPromise s start size parent t (Refused e) t′ → t′ ≡ zeros (length t))
