@@ -3,6 +3,7 @@
 //! the crate's private readers and builders.
 
 mod part;
+mod places;
 mod read;
 mod reader;
 mod records;
@@ -64,6 +65,26 @@ fn ask(question: &Question) -> String {
         } => with_table(
             read::read(*start, *size, *parent, bytes).map(|(_, rows)| read::table(&rows)),
         ),
+        Whose {
+            start,
+            size,
+            parent,
+            address,
+            bytes,
+            ..
+        } => with_table(places::whose(*start, *size, *parent, *address, bytes)),
+        Payload {
+            start,
+            size,
+            parent,
+            numbers,
+            row,
+            bytes,
+        } => match read::read(*start, *size, *parent, bytes) {
+            Ok((_, rows)) => plain(places::payload(&rows, *numbers, *row, bytes)),
+            Err(failed) => with_table(Err(failed)),
+        },
+        Range { table, row, bytes } => plain(places::range(table, *row, bytes)),
         Part { id, bytes, .. } => match part::part(*id, bytes) {
             Some(outcome) => with_table(outcome),
             None => "no answer".to_string(),
@@ -83,7 +104,7 @@ fn ask(question: &Question) -> String {
         Audio { payload, k } => with_table(records::audio(payload, *k)),
         TrackType { number } => tracktype(*number).to_string(),
         // Added by the port: the crate has nothing of the kind.
-        Whose { .. } | Payload { .. } | Range { .. } | Label { .. } => "no answer".to_string(),
+        Label { .. } => "no answer".to_string(),
     }
 }
 

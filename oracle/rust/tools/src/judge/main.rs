@@ -1,10 +1,13 @@
 //! Judges answers: ours against the oracle's, a stored list, the worked cases.
 
 mod files;
+mod reading;
 mod rules;
+mod table;
 
 use files::Lines;
-use rules::{verdict, Case, Verdict, RULES};
+use rules::{verdict, Case, Verdict, NAMES};
+use std::collections::BTreeMap;
 use std::fs;
 use std::io::{self, Write};
 
@@ -13,10 +16,27 @@ const USAGE: &str = "usage: judge verdict QUESTIONS OURS CHECKED WRAPPING
        judge store QUESTIONS GIVEN CHECKED WRAPPING
        judge cases QUESTIONS EXPECTED CHECKED WRAPPING";
 
+/// Room for the reading: a recording of 65,536 bytes nests up to 32,768 masters,
+/// and the crate's terms have no bound.
+const STACK: usize = 1 << 30;
+
 fn main() {
+    let judging = std::thread::Builder::new().stack_size(STACK).spawn(judge);
+    let judged = judging.map(|judging| judging.join());
+    match judged {
+        Ok(Ok(Ok(true))) => {}
+        Ok(Ok(Err(error))) => {
+            eprintln!("judge: {error}");
+            std::process::exit(1);
+        }
+        _ => std::process::exit(1),
+    }
+}
+
+fn judge() -> Result<bool, String> {
     let arguments: Vec<String> = std::env::args().skip(1).collect();
     let words: Vec<&str> = arguments.iter().map(String::as_str).collect();
-    let good = match words[..] {
+    match words[..] {
         ["verdict", questions, ours, checked, wrapping] => {
             four(questions, ours, checked, wrapping, compare)
         }
@@ -30,14 +50,6 @@ fn main() {
         _ => {
             eprintln!("{USAGE}");
             std::process::exit(2);
-        }
-    };
-    match good {
-        Ok(true) => {}
-        Ok(false) => std::process::exit(1),
-        Err(error) => {
-            eprintln!("judge: {error}");
-            std::process::exit(1);
         }
     }
 }
@@ -83,10 +95,13 @@ fn compare(cases: &[Case]) -> Result<bool, String> {
     if one > 0 {
         println!("equal to one of two unlike builds {one}");
     }
-    for (place, (name, _)) in RULES.iter().enumerate() {
-        println!("exception {name} {}", count(Verdict::Exception(place)));
+    for name in NAMES {
+        println!("exception {name} {}", count(Verdict::Exception(name)));
     }
     println!("unexplained {}", count(Verdict::Unexplained));
+    for (sort, number) in sorts(cases) {
+        println!("ours {sort} {number}");
+    }
     let unexplained = cases.iter().zip(&verdicts);
     let smallest = unexplained
         .filter(|(_, verdict)| **verdict == Verdict::Unexplained)
@@ -94,11 +109,32 @@ fn compare(cases: &[Case]) -> Result<bool, String> {
         .min_by_key(|case| case.question.len());
     if let Some(case) = smallest {
         show(case, "ours");
+        if let Some(due) = question::parse(case.question).and_then(|asked| table::due(&asked)) {
+            show_line("due of ours", due.ours.as_bytes());
+            show_line("due of the crate", due.theirs.as_bytes());
+        }
     }
     Ok(smallest.is_none())
 }
 
-/// Prints a case; of a long line the first bytes, and how many it has.
+/// How often ours accepts, gives each refusal, or finds no question.
+fn sorts(cases: &[Case]) -> BTreeMap<String, usize> {
+    let mut sorts = BTreeMap::new();
+    for case in cases {
+        let mut words = case.ours.split(|byte| *byte == b' ');
+        let sort = match (words.next(), words.next()) {
+            (Some(b"refused"), Some(number)) => {
+                format!("refused {:>2}", String::from_utf8_lossy(number))
+            }
+            (Some(b"bad"), _) => "bad question".to_string(),
+            _ => "accepted".to_string(),
+        };
+        *sorts.entry(sort).or_insert(0) += 1;
+    }
+    sorts
+}
+
+/// Prints a case.
 fn show(case: &Case, ours: &str) {
     let lines = [
         ("question", case.question),
@@ -107,12 +143,17 @@ fn show(case: &Case, ours: &str) {
         ("wrapping", case.wrapping),
     ];
     for (name, line) in lines {
-        if line.len() <= SHOWN {
-            println!("{name}: {}", line.escape_ascii());
-        } else {
-            let begin = line[..SHOWN].escape_ascii();
-            println!("{name}: {begin}.. ({} bytes)", line.len());
-        }
+        show_line(name, line);
+    }
+}
+
+/// Prints a line; of a long one the first bytes, and how many it has.
+fn show_line(name: &str, line: &[u8]) {
+    if line.len() <= SHOWN {
+        println!("{name}: {}", line.escape_ascii());
+    } else {
+        let begin = line[..SHOWN].escape_ascii();
+        println!("{name}: {begin}.. ({} bytes)", line.len());
     }
 }
 

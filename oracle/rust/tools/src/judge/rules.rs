@@ -1,6 +1,8 @@
 //! The listed exceptions: where our answer may differ from the crate's. Each
 //! rule looks at the question's own arguments and at the answers.
 
+use crate::reading::MOST_AT_ONCE;
+use crate::table::{due, Due};
 use question::{parse, Question};
 
 /// A question with the answers of ours and of the two builds of the oracle.
@@ -30,8 +32,8 @@ pub enum Verdict {
     Equal,
     /// The builds differ and ours is the answer of one of them.
     EqualToOne,
-    /// A listed exception, by its place in the list.
-    Exception(usize),
+    /// A listed exception, by its name.
+    Exception(&'static str),
     /// None of these.
     Unexplained,
 }
@@ -41,14 +43,15 @@ pub enum Verdict {
 type Rule = fn(&Question, &Case) -> Option<bool>;
 
 /// The listed exceptions by name.
-pub const RULES: [(&str, Rule); 3] = [
+pub const NAMES: [&str; 5] = ["argument", "signed", "allocation", "depth", "rows"];
+
+/// Those of a header or body question, each with its rule. The element table
+/// has all five: there the judge's own reading says what is due.
+const RULES: [(&str, Rule); 3] = [
     ("argument", argument),
     ("signed", signed),
     ("allocation", allocation),
 ];
-
-/// The largest single request for memory that the oracle grants.
-const MOST_AT_ONCE: u64 = 1 << 32;
 
 /// An argument is out of bounds, for which our reader has 14 and the crate has
 /// nothing: a header or a body is asked for at a place past the end.
@@ -112,9 +115,12 @@ fn allocation(question: &Question, case: &Case) -> Option<bool> {
 pub fn verdict(case: &Case) -> Verdict {
     // Agreeing with the crate is no excuse where a rule holds.
     if let Some(question) = parse(case.question) {
-        for (place, (_, rule)) in RULES.iter().enumerate() {
+        if let Some(due) = due(&question) {
+            return table_verdict(&due, case);
+        }
+        for (name, rule) in RULES {
             match rule(&question, case) {
-                Some(true) => return Verdict::Exception(place),
+                Some(true) => return Verdict::Exception(name),
                 Some(false) => return Verdict::Unexplained,
                 None => {}
             }
@@ -129,4 +135,14 @@ pub fn verdict(case: &Case) -> Verdict {
     } else {
         Verdict::Unexplained
     }
+}
+
+/// Of the element table every answer is known beforehand. A crate that answers
+/// otherwise shows that the judge's reading is wrong.
+fn table_verdict(due: &Due, case: &Case) -> Verdict {
+    let theirs = case.agree() && case.checked == due.theirs.as_bytes();
+    if !theirs || case.ours != due.ours.as_bytes() {
+        return Verdict::Unexplained;
+    }
+    due.exception.map_or(Verdict::Equal, Verdict::Exception)
 }

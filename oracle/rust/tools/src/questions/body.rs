@@ -3,10 +3,10 @@
 
 use crate::broken::{self, Sort};
 use crate::header::place;
-use crate::ids::{listed, BINARY, DATE, FLOAT, INT, LISTED, MASTER, SPECIAL, STRING, UINT, UTF8};
 use crate::kind::{any_id, parent};
 use crate::random::{hex, Random};
 use crate::utf8;
+use tools::ids::{listed, BINARY, DATE, FLOAT, INT, LISTED, MASTER, SPECIAL, STRING, UINT, UTF8};
 
 /// The words of a question, behind the name.
 struct Asked {
@@ -72,7 +72,7 @@ fn placed(id: u32, payload: &[u8], random: &mut Random) -> Asked {
 }
 
 /// A size: small, about what is there, around 2^29, 2^32 and 2^63, or larger.
-fn size(length: u64, random: &mut Random) -> u64 {
+pub fn size(length: u64, random: &mut Random) -> u64 {
     let around = random.below(3);
     match random.below(12) {
         0..=4 => random.below(17),

@@ -11,6 +11,10 @@ const MOST_BYTES: u64 = 65_536;
 pub enum Sort {
     Id,
     Number,
+    /// How many numbers the lent table has.
+    Count,
+    /// The numbers of a lent table.
+    Table,
     Recording,
 }
 
@@ -121,10 +125,12 @@ fn number(words: &[&str], sorts: &[Sort], random: &mut Random) -> Vec<u8> {
         return count(words, random);
     }
     let place = random.one_of(&numbers);
-    let word = if sorts[place - 1] == Sort::Id {
-        id(words[place], random)
-    } else {
-        decimal(words[place], random)
+    let good = words[place];
+    let word = match sorts[place - 1] {
+        Sort::Id => id(good, random),
+        Sort::Count => count_of_numbers(good, random),
+        Sort::Table => table(good, random),
+        Sort::Number | Sort::Recording => decimal(good, random),
     };
     with(words, place, &word)
 }
@@ -146,6 +152,41 @@ fn decimal(good: &str, random: &mut Random) -> String {
         // These two are good.
         11 => "18446744073709551615".to_string(),
         _ => format!("{good:0>40}"),
+    }
+}
+
+/// A count of numbers around the most that may be asked for, or no number.
+fn count_of_numbers(good: &str, random: &mut Random) -> String {
+    match random.below(6) {
+        0 => "30001".to_string(),
+        1 => "30007".to_string(),
+        2 => "4294967296".to_string(),
+        // This one is good.
+        3 => "30000".to_string(),
+        _ => decimal(good, random),
+    }
+}
+
+/// A table that is no list of numbers, or one with too many or too large ones.
+fn table(good: &str, random: &mut Random) -> String {
+    let good = if good == "-" { "1,2,3,4,5,6,7" } else { good };
+    match random.below(15) {
+        0 => format!("{good},"),
+        1 => format!(",{good}"),
+        2 => good.replacen(',', ",,", 1),
+        3 => ",".to_string(),
+        4 => String::new(),
+        5 => format!("{good},-"),
+        6 => format!("-,{good}"),
+        7 => good.replacen(',', ";", 1),
+        8 => format!("{good},18446744073709551616"),
+        9 => format!("{good},A"),
+        10 => format!("{good},+1"),
+        11 if random.once_in(20) => ["7"; 30_001].join(","),
+        // These three are good.
+        12 if random.once_in(20) => ["7"; 30_000].join(","),
+        13 => format!("{good},18446744073709551615"),
+        _ => format!("000000000000000000000{good}"),
     }
 }
 

@@ -79,7 +79,7 @@ fn short(place: u64) -> (u64, Vec<u8>) {
 
 /// A number of `width` bytes with its marker bit, filled in one of four ways.
 /// Widths of 9 to 16 put the marker in the second byte.
-fn marked(width: u64, random: &mut Random) -> Vec<u8> {
+pub fn marked(width: u64, random: &mut Random) -> Vec<u8> {
     let zeros = width - 1;
     let marker = 0x80u8 >> (zeros % 8);
     let mut bytes = vec![0; (zeros / 8) as usize];

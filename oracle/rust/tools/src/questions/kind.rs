@@ -2,9 +2,9 @@
 //! their neighbours under every parent that matters, others, and broken lines.
 
 use crate::broken::{self, Sort};
-use crate::ids::{listed, LISTED, MASTER, PARENTS, SPECIAL};
 use crate::list::List;
 use crate::random::Random;
+use tools::ids::{listed, LISTED, MASTER, PARENTS, SPECIAL};
 
 /// How many ids of all 32 bits the whole list has.
 const SAMPLE: u64 = 4_096;

@@ -3,14 +3,19 @@
 //! `questions whole WORD FROM COUNT` gives a piece of a kind's whole list, which
 //! has fewer questions where the list ends.
 
+mod asked;
 mod body;
 mod broken;
 mod header;
-mod ids;
 mod kind;
 mod list;
+mod payload;
 mod random;
+mod range;
+mod read;
+mod tree;
 mod utf8;
+mod whose;
 
 use list::List;
 use random::Random;
@@ -20,15 +25,23 @@ use std::io::{self, BufWriter, Write};
 type Kind = fn(seed: u64, j: u64, random: &mut Random) -> Vec<u8>;
 
 /// The kinds that can be asked for, by their word.
-const KINDS: [(&str, Kind); 4] = [
+const KINDS: [(&str, Kind); 8] = [
     ("header", header::question),
     ("kind", kind::question),
     ("utf8", utf8::question),
     ("body", body::question),
+    ("read", read::question),
+    ("whose", whose::question),
+    ("payload", payload::question),
+    ("range", range::question),
 ];
 
 /// The kinds that have a whole list.
-const WHOLE: [(&str, List); 2] = [("kind", kind::WHOLE), ("utf8", utf8::WHOLE)];
+const WHOLE: [(&str, List); 3] = [
+    ("kind", kind::WHOLE),
+    ("utf8", utf8::WHOLE),
+    ("read", read::WHOLE),
+];
 
 fn main() {
     let arguments: Vec<String> = std::env::args().skip(1).collect();

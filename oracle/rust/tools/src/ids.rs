@@ -1,5 +1,6 @@
 //! The ids that the crate knows, by kind, and the parents that matter. They
-//! choose what is asked and nothing else: the answers are the crate's.
+//! choose what is asked, and tell the judge and the model which kind an id has.
+//! Where that is not what the crate says, the judge's reading shows it.
 
 pub const MASTER: [u32; 49] = [
     0x80, 0x8E, 0x8F, 0xA0, 0xA6, 0xAE, 0xB6, 0xB7, 0xBB, 0xC8, 0xDB, 0xE0, 0xE1, 0xE2, 0xE3, 0xE4,
@@ -74,3 +75,37 @@ pub const PARENTS: [u32; 14] = [
     0x1549A966, 0x1654AE6B, 0x1941A469, 0x1043A770, 0x1254C367, 0, 0xAE, 0x7373, 0x18538067,
     0x1654AE6A, 0x1254C368, 0x54C367, 0x4DBB, 0xFFFFFFFF,
 ];
+
+/// Document 01's numbers of the kinds.
+pub const MASTER_KIND: u64 = 1;
+pub const INT_KIND: u64 = 2;
+pub const UINT_KIND: u64 = 3;
+pub const STRING_KIND: u64 = 4;
+pub const UTF8_KIND: u64 = 5;
+pub const BINARY_KIND: u64 = 6;
+pub const FLOAT_KIND: u64 = 7;
+pub const DATE_KIND: u64 = 8;
+
+/// The ids that are masters under a parent: a small set under a special one,
+/// else all of them.
+pub fn masters(parent: u32) -> &'static [u32] {
+    match parent {
+        0x1549A966 => &[0x6924],
+        0x1654AE6B => &[0x6924, 0xAE],
+        0x1941A469 => &[0x61A7],
+        0x1043A770 => &[0x45B9],
+        0x1254C367 => &[0x7373],
+        _ => &MASTER,
+    }
+}
+
+/// The kind of an id under its parent. Ids that are in no set are binary, and
+/// so are those that lose their master kind.
+pub fn kind(id: u32, parent: u32) -> u64 {
+    if masters(parent).contains(&id) {
+        return MASTER_KIND;
+    }
+    let leaves = (INT_KIND..=DATE_KIND).zip(&KINDS[1..]);
+    let mut found = leaves.filter(|(_, ids)| ids.contains(&id));
+    found.next().map_or(BINARY_KIND, |(kind, _)| kind)
+}

@@ -1,0 +1,180 @@
+//! The element table, read straight from document 01 and apart from the crate.
+//! It is read by the document's own terms, or by the crate's, which has no
+//! bounds: so both answers to a question are known before they are looked at.
+
+use tools::ids::{
+    kind, BINARY_KIND, DATE_KIND, FLOAT_KIND, INT_KIND, MASTER_KIND, STRING_KIND, UINT_KIND,
+    UTF8_KIND,
+};
+
+/// The terms of a reading. All of them hold for ours and none for the crate.
+#[derive(Clone, Copy)]
+pub struct Terms {
+    /// The arguments, the depth and the rows are bounded: 14, 12 and 13.
+    pub bounds: bool,
+    /// A signed integer of length 0 is 0. Else a byte is missing.
+    pub empty_signed: bool,
+    /// No memory is asked for. Else a text or bytes may be too large for it.
+    pub no_memory: bool,
+}
+
+pub const OURS: Terms = Terms {
+    bounds: true,
+    empty_signed: true,
+    no_memory: true,
+};
+
+pub const CRATE: Terms = Terms {
+    bounds: false,
+    empty_signed: false,
+    no_memory: false,
+};
+
+/// The largest single request for memory that the oracle grants.
+pub const MOST_AT_ONCE: u64 = 1 << 32;
+
+/// The depth of the first row that is too deep.
+const TOO_DEEP: u64 = 16;
+
+/// How a reading ends that is not accepted.
+#[derive(Clone, Copy, PartialEq)]
+pub enum End {
+    Refused(u64),
+    Memory,
+}
+
+/// A row as it stands in the table: id, parent (row number plus 1), header
+/// address, header length, payload length, kind and depth.
+pub struct Row {
+    pub id: u32,
+    pub parent: u64,
+    pub address: u64,
+    pub header: u64,
+    pub payload: u64,
+    pub kind: u64,
+    pub depth: u64,
+}
+
+/// What is read: a payload of a recording under its parent, into a table of so
+/// many numbers.
+pub struct Payload<'a> {
+    pub start: u64,
+    pub size: u64,
+    pub parent: u32,
+    pub numbers: u64,
+    pub bytes: &'a [u8],
+}
+
+/// The rows of a payload.
+pub fn rows(payload: &Payload, terms: Terms) -> Result<Vec<Row>, End> {
+    let mut reading = Reading {
+        bytes: payload.bytes,
+        most: payload.numbers / 7,
+        terms,
+        rows: Vec::new(),
+    };
+    reading.master(payload.start, payload.size, payload.parent, 0, 0)?;
+    Ok(reading.rows)
+}
+
+struct Reading<'a> {
+    bytes: &'a [u8],
+    most: u64,
+    terms: Terms,
+    rows: Vec<Row>,
+}
+
+impl Reading<'_> {
+    /// A master's body: elements, read until its size is used up.
+    fn master(&mut self, mut at: u64, size: u64, id: u32, row: u64, depth: u64) -> Result<(), End> {
+        let mut left = size;
+        while left > 0 {
+            let whole = self.element(at, id, row, depth)?;
+            if whole > left {
+                return Err(End::Refused(3));
+            }
+            left -= whole;
+            at += whole;
+        }
+        Ok(())
+    }
+
+    /// An element: its header, 12, 13, its body. Gives its whole length.
+    fn element(&mut self, at: u64, parent_id: u32, parent: u64, depth: u64) -> Result<u64, End> {
+        let (id, id_width) = number(self.bytes, at, 4, 2)?;
+        let (size, size_width) = number(self.bytes, at + id_width, 8, 3)?;
+        let payload = size - (1 << (7 * size_width));
+        if self.terms.bounds && depth == TOO_DEEP {
+            return Err(End::Refused(12));
+        }
+        if self.terms.bounds && self.rows.len() as u64 == self.most {
+            return Err(End::Refused(13));
+        }
+        // Four bytes hold an id.
+        let id = id as u32;
+        let header = id_width + size_width;
+        let kind = kind(id, parent_id);
+        self.rows.push(Row {
+            id,
+            parent,
+            address: at,
+            header,
+            payload,
+            kind,
+            depth,
+        });
+        if kind == MASTER_KIND {
+            let own = self.rows.len() as u64;
+            self.master(at + header, payload, id, own, depth + 1)?;
+        } else {
+            self.leaf(kind, at + header, payload)?;
+        }
+        Ok(header + payload)
+    }
+
+    /// A typed body: its size, then the end of the recording, then its text.
+    fn leaf(&self, kind: u64, at: u64, size: u64) -> Result<(), End> {
+        match kind {
+            INT_KIND | UINT_KIND if size > 8 => return Err(End::Refused(4)),
+            FLOAT_KIND if size != 4 && size != 8 => return Err(End::Refused(5)),
+            DATE_KIND if size != 8 => return Err(End::Refused(6)),
+            INT_KIND if size == 0 && !self.terms.empty_signed => return Err(End::Refused(1)),
+            STRING_KIND | UTF8_KIND | BINARY_KIND
+                if size > MOST_AT_ONCE && !self.terms.no_memory =>
+            {
+                return Err(End::Memory)
+            }
+            _ => {}
+        }
+        let body = part(self.bytes, at, size).ok_or(End::Refused(1))?;
+        let text = kind == STRING_KIND || kind == UTF8_KIND;
+        if text && std::str::from_utf8(body).is_err() {
+            return Err(End::Refused(7));
+        }
+        Ok(())
+    }
+}
+
+/// A number with its marker, and its width: one byte more than there are zero
+/// bits before the first one bit. Zeros run on through following bytes.
+fn number(bytes: &[u8], at: u64, widest: u64, too_wide: u64) -> Result<(u64, u64), End> {
+    let missing = End::Refused(1);
+    let rest = usize::try_from(at).ok().and_then(|at| bytes.get(at..));
+    let rest = rest.ok_or(missing)?;
+    let zeros = rest.iter().take_while(|byte| **byte == 0).count();
+    let first = rest.get(zeros).ok_or(missing)?;
+    let width = 8 * zeros as u64 + u64::from(first.leading_zeros()) + 1;
+    if width > widest {
+        return Err(End::Refused(too_wide));
+    }
+    let all = rest.get(..width as usize).ok_or(missing)?;
+    let value = all.iter().fold(0, |sum, byte| sum << 8 | u64::from(*byte));
+    Ok((value, width))
+}
+
+/// A part of the recording, if all of it is there.
+pub fn part(bytes: &[u8], at: u64, size: u64) -> Option<&[u8]> {
+    let from = usize::try_from(at).ok()?;
+    let to = usize::try_from(at.checked_add(size)?).ok()?;
+    bytes.get(from..to)
+}

@@ -1,0 +1,202 @@
+//! The answers due to the questions about the element table, from the judge's
+//! own reading: ours by document 01's terms, the crate's by its own.
+
+use crate::reading::{part, rows, End, Payload, Row, Terms, CRATE, OURS};
+use question::Question;
+use std::fmt::Write;
+
+/// The most numbers that a lent table may have.
+const MOST_NUMBERS: u64 = 28_672;
+
+/// What is due to a question about the element table.
+pub struct Due {
+    /// Our answer.
+    pub ours: String,
+    /// The answer of both builds of the crate.
+    pub theirs: String,
+    /// Why they differ, by the name of the rule; `None` if they don't.
+    pub exception: Option<&'static str>,
+}
+
+/// The answers due to a question; `None` if it is not about the element table.
+pub fn due(question: &Question) -> Option<Due> {
+    if let Question::Range { table, row, bytes } = question {
+        let told = range(table, *row, bytes.len());
+        return Some(Due {
+            ours: told.clone(),
+            theirs: told,
+            exception: None,
+        });
+    }
+    let payload = payload_of(question)?;
+    let ours = answer(question, &payload, OURS);
+    let theirs = answer(question, &payload, CRATE);
+    let exception = (ours != theirs).then(|| reason(question, &payload, &theirs));
+    Some(Due {
+        ours,
+        theirs,
+        exception,
+    })
+}
+
+/// The payload that a question has read.
+fn payload_of(question: &Question) -> Option<Payload<'_>> {
+    match question {
+        Question::Read {
+            start,
+            size,
+            parent,
+            numbers,
+            bytes,
+        }
+        | Question::Whose {
+            start,
+            size,
+            parent,
+            numbers,
+            bytes,
+            ..
+        }
+        | Question::Payload {
+            start,
+            size,
+            parent,
+            numbers,
+            bytes,
+            ..
+        } => Some(Payload {
+            start: *start,
+            size: *size,
+            parent: *parent,
+            numbers: *numbers,
+            bytes,
+        }),
+        _ => None,
+    }
+}
+
+/// Why the two answers differ. The readings are the same up to the place where
+/// they part. So the crate's reading within our bounds tells whether a bound is
+/// met before the crate stops.
+fn reason(question: &Question, payload: &Payload, theirs: &str) -> &'static str {
+    let bounded = Terms {
+        bounds: true,
+        ..CRATE
+    };
+    match answer(question, payload, bounded).as_str() {
+        "refused 14 table 0" => "argument",
+        "refused 12 table 0" => "depth",
+        "refused 13 table 0" => "rows",
+        _ if theirs == "memory" => "allocation",
+        _ => "signed",
+    }
+}
+
+/// The answer to a question by some terms.
+fn answer(question: &Question, payload: &Payload, terms: Terms) -> String {
+    match question {
+        Question::Whose { address, .. } => with_table(whose(payload, *address, terms)),
+        Question::Payload { row, .. } => match read(payload, terms) {
+            Ok(rows) => bytes_of(payload, &rows, *row),
+            Err(end) => with_table(Err(end)),
+        },
+        _ => with_table(read(payload, terms).map(|rows| table(&rows))),
+    }
+}
+
+/// The answer of a call that was to write the table.
+fn with_table(answer: Result<String, End>) -> String {
+    match answer {
+        Ok(told) => told,
+        Err(End::Refused(number)) => format!("refused {number} table 0"),
+        Err(End::Memory) => "memory".to_string(),
+    }
+}
+
+/// 14: the table's length is broken, or the start is past the end.
+fn arguments(payload: &Payload, terms: Terms) -> Result<(), End> {
+    let past_end = payload.start > payload.bytes.len() as u64;
+    let broken = payload.numbers % 7 != 0 || payload.numbers > MOST_NUMBERS;
+    if terms.bounds && (past_end || broken) {
+        return Err(End::Refused(14));
+    }
+    Ok(())
+}
+
+fn read(payload: &Payload, terms: Terms) -> Result<Vec<Row>, End> {
+    arguments(payload, terms)?;
+    rows(payload, terms)
+}
+
+/// The address question: 14, 15, then the read. The payload is what the caller
+/// names, whether its bytes exist or not.
+fn whose(payload: &Payload, address: u64, terms: Terms) -> Result<String, End> {
+    arguments(payload, terms)?;
+    if address < payload.start || address - payload.start >= payload.size {
+        return Err(End::Refused(15));
+    }
+    let rows = rows(payload, terms)?;
+    Ok(format!("{} {}", holder(&rows, address), table(&rows)))
+}
+
+/// The row that holds an address of the payload. Headers and leaf payloads
+/// follow one another without a gap, so it is the last row that begins there or
+/// before.
+fn holder(rows: &[Row], address: u64) -> String {
+    let after = rows.partition_point(|row| row.address <= address);
+    let row = &rows[after - 1];
+    let which = if address - row.address < row.header {
+        "header"
+    } else {
+        "payload"
+    };
+    format!("row {} {which}", after - 1)
+}
+
+/// A row's payload. The call only reads the table, in which a row that was not
+/// used is all zeros: an empty part.
+fn bytes_of(payload: &Payload, rows: &[Row], row: u64) -> String {
+    if row >= payload.numbers / 7 {
+        return "refused 14".to_string();
+    }
+    let bytes = match rows.get(row as usize) {
+        Some(row) => part(payload.bytes, row.address + row.header, row.payload),
+        None => Some(&[][..]),
+    };
+    match bytes.expect("an accepted row is in the recording") {
+        [] => "bytes -".to_string(),
+        some => some.iter().fold("bytes ".to_string(), |told, byte| {
+            told + &format!("{byte:02X}")
+        }),
+    }
+}
+
+/// The payload range of a row of a given table. The sum of address and lengths
+/// is one of numbers, and does not wrap.
+fn range(table: &[u64], row: u64, length: usize) -> String {
+    let numbers = table.len() as u64;
+    let broken = numbers % 7 != 0 || numbers > MOST_NUMBERS;
+    if broken || row >= numbers / 7 {
+        return "refused 14".to_string();
+    }
+    let place = 7 * row as usize;
+    let [address, header, payload] = [2, 3, 4].map(|field| u128::from(table[place + field]));
+    if address + header + payload > length as u128 {
+        return "refused 14".to_string();
+    }
+    format!("at {}+{payload}", address + header)
+}
+
+/// The rows as they stand in an answer.
+fn table(rows: &[Row]) -> String {
+    let mut told = format!("rows {}", rows.len());
+    for row in rows {
+        let written = write!(
+            told,
+            " / {:X} {} {} {} {} {} {}",
+            row.id, row.parent, row.address, row.header, row.payload, row.kind, row.depth
+        );
+        written.expect("a string takes everything");
+    }
+    told + " rest 0"
+}

@@ -1,0 +1,3 @@
+//! What the tools share: the ids by their kinds.
+
+pub mod ids;

@@ -1,0 +1,314 @@
+//! The lent table and the read that fills it, element by element with a list of
+//! the masters that are open.
+
+use crate::Fault;
+use std::fmt::Write;
+use tools::ids;
+
+/// The arguments of a read.
+pub struct Read<'a> {
+    pub start: u64,
+    pub size: u64,
+    pub parent: u32,
+    pub bytes: &'a [u8],
+}
+
+impl Read<'_> {
+    pub fn new(start: u64, size: u64, parent: u32, bytes: &[u8]) -> Read<'_> {
+        Read {
+            start,
+            size,
+            parent,
+            bytes,
+        }
+    }
+}
+
+/// A table of some numbers, of which the first rows are used.
+pub struct Lent {
+    pub numbers: Vec<u64>,
+    pub used: usize,
+    fault: Fault,
+}
+
+/// A master that is being read, or the whole payload.
+struct Open {
+    id: u32,
+    /// Its row's number plus 1, or 0.
+    row: u64,
+    /// Header and payload.
+    whole: u64,
+    /// The first address behind it.
+    end: u64,
+    left: u64,
+}
+
+impl Lent {
+    /// The table before a call: full of ones.
+    pub fn new(numbers: u64, fault: Fault) -> Lent {
+        Lent {
+            numbers: vec![u64::MAX; numbers as usize],
+            used: 0,
+            fault,
+        }
+    }
+
+    /// 14 for the arguments, which comes before all else.
+    pub fn arguments(&self, read: &Read) -> Result<(), u64> {
+        let (count, length) = (self.numbers.len() as u64, read.bytes.len() as u64);
+        let past = if self.fault.is("start-at-end") {
+            read.start >= length
+        } else {
+            read.start > length && !self.fault.is("start-past")
+        };
+        if past || broken(count, self.fault) {
+            return Err(14);
+        }
+        Ok(())
+    }
+
+    /// Fills the table with the rows of a payload.
+    pub fn read(&mut self, read: &Read) -> Result<(), u64> {
+        self.arguments(read)?;
+        let mut at = read.start;
+        let mut open = vec![Open {
+            id: read.parent,
+            row: 0,
+            whole: 0,
+            end: read.start.saturating_add(read.size),
+            left: read.size,
+        }];
+        while let Some(master) = open.last() {
+            if master.left > 0 {
+                at = self.element(at, read.bytes, &mut open)?;
+                continue;
+            }
+            let whole = master.whole;
+            open.pop();
+            self.take(whole, &mut open)?;
+        }
+        if self.fault.is("last-row") && self.used > 0 {
+            self.used -= 1;
+        }
+        Ok(())
+    }
+
+    /// One element, of a master only the header. Gives the next place.
+    fn element(&mut self, at: u64, bytes: &[u8], open: &mut Vec<Open>) -> Result<u64, u64> {
+        let depth = open.len() as u64 - 1;
+        let master = &open[depth as usize];
+        let (left, parent) = (master.left, master.row);
+        let end = open.iter().map(|open| open.end).min().unwrap_or(0);
+        let bytes = if self.fault.is("held") {
+            &bytes[..bytes.len().min(end as usize)]
+        } else {
+            bytes
+        };
+
+        if self.fault.is("limits-first") {
+            self.limits(depth)?;
+        }
+        let (id, width) = self.marked(bytes, at, 4, 2)?;
+        let (size, size_width) = self.marked(bytes, at + width, 8, 3)?;
+        let header = width + size_width;
+        let size = self.payload_size(size, size_width, left.saturating_sub(header));
+        let kind = self.kind(id as u32, open);
+        let body = at + header;
+        if self.fault.is("overrun-first") && header + size > left {
+            return Err(3);
+        }
+        if kind != 1 && self.fault.is("limits-last") {
+            self.body(kind, bytes, body, size)?;
+        }
+        self.limits(depth)?;
+        self.row([id, parent, at, header, size, kind, depth]);
+        if kind == 1 {
+            open.push(Open {
+                id: id as u32,
+                row: self.used as u64,
+                whole: header + size,
+                end: body + size,
+                left: size,
+            });
+            return Ok(body);
+        }
+        self.body(kind, bytes, body, size)?;
+        self.take(header + size, open)?;
+        Ok(body + size)
+    }
+
+    /// Takes a whole element from what its master has left.
+    fn take(&self, whole: u64, open: &mut [Open]) -> Result<(), u64> {
+        let outer = open.len() == 1;
+        let Some(master) = open.last_mut() else {
+            return Ok(());
+        };
+        let tested = !self.fault.is("overrun-never") && (outer || !self.fault.is("overrun-outer"));
+        if whole > master.left && tested {
+            return Err(3);
+        }
+        master.left = master.left.saturating_sub(whole);
+        Ok(())
+    }
+
+    fn limits(&self, depth: u64) -> Result<(), u64> {
+        let deepest = match () {
+            () if self.fault.is("depth-17") => 16,
+            () if self.fault.is("depth-15") => 14,
+            () => 15,
+        };
+        let short = usize::from(self.fault.is("row-short"));
+        let full = self.used + short >= self.numbers.len() / 7 && !self.fault.is("rows-dropped");
+        let deep = depth > deepest;
+        if deep && full && self.fault.is("rows-first") {
+            return Err(13);
+        }
+        if deep {
+            return Err(12);
+        }
+        if full {
+            return Err(13);
+        }
+        Ok(())
+    }
+
+    /// Writes a row, its fields as the fault has them.
+    fn row(&mut self, fields: [u64; 7]) {
+        let [id, mut parent, address, header, payload, mut kind, mut depth] = fields;
+        if self.fault.is("parent-off") {
+            parent = parent.saturating_sub(1);
+        }
+        if self.fault.is("depth-off") {
+            depth += 1;
+        }
+        if self.fault.is("kind-off") && kind == 5 {
+            kind = 4;
+        }
+        let place = 7 * self.used;
+        if let Some(row) = self.numbers.get_mut(place..place + 7) {
+            row.copy_from_slice(&[id, parent, address, header, payload, kind, depth]);
+            self.used += 1;
+        }
+    }
+
+    /// A number with its marker, and its width.
+    fn marked(&self, bytes: &[u8], at: u64, widest: u64, wide: u64) -> Result<(u64, u64), u64> {
+        let mut zeros = 0;
+        let mut place = at as usize;
+        let first = loop {
+            match bytes.get(place) {
+                None => return Err(1),
+                Some(0) if self.fault.is("zero-run") => return Err(wide),
+                Some(0) => zeros += 8,
+                Some(byte) => break byte,
+            }
+            place += 1;
+        };
+        zeros += first.leading_zeros();
+        let width = u64::from(zeros) + 1;
+        if width > widest {
+            return Err(wide);
+        }
+        let mut value = 0;
+        for place in at..at + width {
+            value = value << 8 | u64::from(*bytes.get(place as usize).ok_or(1u64)?);
+        }
+        Ok((value, width))
+    }
+
+    /// The size without its marker.
+    fn payload_size(&self, marked: u64, width: u64, left: u64) -> u64 {
+        let marker = 1 << (7 * width);
+        let size = marked ^ marker;
+        if size == marker - 1 && self.fault.is("unknown-size") {
+            left
+        } else if self.fault.is("narrow-size") {
+            size & 0xFFFF_FFFF
+        } else {
+            size
+        }
+    }
+
+    fn kind(&self, id: u32, open: &[Open]) -> u64 {
+        let direct = open.last().map_or(0, |master| master.id);
+        let special = open.iter().find(|open| ids::SPECIAL.contains(&open.id));
+        let parent = match () {
+            () if self.fault.is("outer-parent") => open[0].id,
+            () if self.fault.is("full-set") => 0,
+            () if self.fault.is("small-set-deep") => special.map_or(direct, |open| open.id),
+            () => direct,
+        };
+        ids::kind(id, parent)
+    }
+
+    /// A leaf's body: its size, the end of the recording, its text.
+    fn body(&self, kind: u64, bytes: &[u8], at: u64, size: u64) -> Result<(), u64> {
+        let there = bytes.len() as u64 >= at && bytes.len() as u64 - at >= size;
+        let missing = if self.fault.is("inner-14") { 14 } else { 1 };
+        if !there && self.fault.is("end-first") {
+            return Err(missing);
+        }
+        match (kind, size) {
+            (2, 0) if self.fault.is("empty-signed") => return Err(1),
+            (2 | 3, 0..=8) | (7, 4 | 8) | (8, 8) | (1 | 4 | 5 | 6, _) => {}
+            (7, _) => return Err(5),
+            (8, _) => return Err(6),
+            _ => return Err(4),
+        }
+        if !there {
+            return Err(missing);
+        }
+        let body = &bytes[at as usize..(at + size) as usize];
+        let text = kind == 4 || kind == 5;
+        if text && !self.fault.is("text-unchecked") && String::from_utf8(body.to_vec()).is_err() {
+            return Err(7);
+        }
+        Ok(())
+    }
+
+    /// Tells an answer with the table behind it, or a refusal with what the
+    /// table holds then.
+    pub fn told(&mut self, answer: Result<String, u64>) -> String {
+        let mut told = match answer {
+            Ok(before) => {
+                if !self.fault.is("rest-kept") {
+                    self.numbers[7 * self.used..].fill(0);
+                }
+                before
+            }
+            Err(number) => {
+                let argument = number == 14 || number == 15;
+                let kept =
+                    self.fault.is("table-kept") || argument && self.fault.is("table-kept-14");
+                if !kept {
+                    self.numbers.fill(0);
+                }
+                let table = if zero(&self.numbers) { "0" } else { "dirty" };
+                return format!("refused {number} table {table}");
+            }
+        };
+        write!(told, "rows {}", self.used).expect("a string takes everything");
+        for row in self.numbers.chunks_exact(7).take(self.used) {
+            write!(told, " / {:X}", row[0]).expect("a string takes everything");
+            for number in &row[1..] {
+                write!(told, " {number}").expect("a string takes everything");
+            }
+        }
+        let rest = &self.numbers[7 * self.used..];
+        told + if zero(rest) { " rest 0" } else { " rest dirty" }
+    }
+}
+
+/// Whether a table's length is broken.
+pub fn broken(count: u64, fault: Fault) -> bool {
+    let most = if fault.is("count-below") {
+        28_671
+    } else {
+        28_672
+    };
+    count % 7 != 0 && !fault.is("any-length") || count > most && !fault.is("any-count")
+}
+
+fn zero(numbers: &[u64]) -> bool {
+    numbers.iter().all(|number| *number == 0)
+}
