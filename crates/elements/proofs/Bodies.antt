@@ -18,7 +18,6 @@ use Rattle.bodies.specs.Bodies.{ifThere, payload, number}
 use Rattle.bodies.specs.Numbers.{signedOf, floatOf}
 use Rattle.bodies.specs.Reads.{readOf, bodyRead}
 use Rattle.bodies.specs.declared.body.Body.{Body}
-use Rattle.bodies.specs.declared.body.BodyRead.{BodyRead}
 use Rattle.bodies.specs.declared.body.BodyRead.the-variants.{Read, Refused}
 use Rattle.utf8.specs.Utf8.{utf8}
 use Rattle.elements.specs.Forest.{Forest, none}

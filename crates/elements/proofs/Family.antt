@@ -1,18 +1,18 @@
 -- A row's parent stands before it and has one depth less (`ParentsBefore`). Assumes nothing.
-use Prim.Native.Nat.{ℕ, zero, suc, _+_, _≤_, _<_}
+use Prim.Native.Nat.{ℕ, zero, suc, _+_, _<_}
 use mathlib.Core.Path.{_≡_, refl, sym, ap, _∙_, subst}
 use mathlib.Core.List.{List, [], _∷_, _++_, append-assoc, append-nil}
 use native.Mathlib.Omega.{arith}
 use lib.ListN.{length, length-append}
 use Rattle.kinds.specs.Kinds.{numberOf, kindUnder}
 use Rattle.elements.specs.Forest.{Element, Forest, none, node, whole, count}
-use Rattle.elements.specs.Rows.{rowOf, rows, rowsOf}
-use Rattle.elements.specs.Stands.{StandsAt, Stands}
+use Rattle.elements.specs.Rows.{rowOf, rows}
+use Rattle.elements.specs.Stands.{Stands}
 use Rattle.elements.specs.Theorems.{nth, Under, direct, below, Family, ParentsBefore}
 use Rattle.elements.specs.declared.row.Row.{Row}
 use Rattle.elements.proofs.Forests.{length-rows}
 use Rattle.elements.proofs.Standing.{read-stands}
-use Rattle.elements.proofs.Readback.{Accepted, accepted-read}
+use Rattle.elements.proofs.Readback.{accepted-read}
 
 nth-before : (rs ss : List Row) (k : ℕ) → k < length rs → nth (rs ++ ss) k ≡ nth rs k
 unfolding nth
@@ -70,14 +70,15 @@ module _ (parent : ℕ) where
       let c = length-rows (n + 1) (depth + 1) (at + e .header .length) (n + 1) kids in
       let u : length (with-row ++ inner) ≡ n + 1 + count kids = length-append with-row inner ∙ (omega arith) in
       let here : Parent parent with-row (n + 1) (depth + 1) (e .header .id)
-            = among n (omega arith) (omega arith)
-              (sym (ap (λ (x : Row). suc (x .depth)) seam ∙ (omega arith)))
-              (sym (ap (λ (x : Row). x .id) seam)) in
-      (under before row depth id at e (i .0 .kind) p,
-      family-append with-row inner _
-      (family s with-row (e .header .id) (n + 1) (depth + 1) (at + e .header .length) (n + 1) kids m here (i .1))
-      (family s (with-row ++ inner) id row depth (at + whole e) (n + 1 + count kids) rest u
-        (still with-row inner row depth id (still before (r ∷ []) row depth id p)) (i .2)))
+      = among n (omega arith) (omega arith)
+      (sym (ap (λ (x : Row). suc (x .depth)) seam ∙ (omega arith)))
+      (sym (ap (λ (x : Row). x .id) seam)) in (
+        under before row depth id at e (i .0 .kind) p,
+        family-append with-row inner _
+            (family s with-row (e .header .id) (n + 1) (depth + 1) (at + e .header .length) (n + 1) kids m here (i .1))
+            (family s (with-row ++ inner) id row depth (at + whole e) (n + 1 + count kids) rest u
+            (still with-row inner row depth id (still before (r ∷ []) row depth id p)) (i .2)),
+      )
 
 pub parents-before : ParentsBefore
 parents-before s start size parent t n t′ p =

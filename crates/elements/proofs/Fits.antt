@@ -1,15 +1,14 @@
 -- The rows of an accepted read are not more than the table has. Assumes nothing.
 use Prim.Native.Nat.{ℕ, zero, suc, _+_, _-_, _/_, _≤_}
-use mathlib.Core.Path.{_≡_, refl, sym, subst}
+use mathlib.Core.Path.{_≡_, sym, subst}
 use mathlib.Core.List.{List}
-use mathlib.Core.Bool.{true, false}
+use mathlib.Core.Bool.{false}
 use native.Mathlib.Omega.{arith}
 use lib.ListN.{drop}
 use lib.Dec.{eqb}
 use borrow.Author.Tests.{leb-false}
 use Rattle.header.specs.Header.{headerOf}
 use Rattle.header.specs.Refusals.{tooDeep}
-use Rattle.header.specs.declared.cursor.Header.{Header}
 use Rattle.kinds.specs.Kinds.{kindUnder}
 use Rattle.bodies.specs.Bodies.{bodyOf}
 use Rattle.elements.specs.Forest.{Element, Forest, none, node, span, count}
@@ -33,13 +32,13 @@ module _ (s : List ℕ) (cap : ℕ) where
       of-cond (eqb left 0) q
       (λ t w. let e : none ≡ f = cc in rw (← e) (omega arith))
       (λ t w.
-        let (g, e, v) = of-then w in
-        let u = of-refuse _ _ _ v in
-        let (r, x, y) = of-prepend g (siblings read most (at + span g) (left - span g) (n + count g)) f (u .1) in
-        let k = good at n g l e in
-        let i = siblings-fit read good most (at + span g) (left - span g) (n + count g) r k x in
-        let j = count-join g r in
-        rw y (omega arith))
+      let (g, e, v) = of-then w in
+      let u = of-refuse _ _ _ v in
+      let (r, x, y) = of-prepend g (siblings read most (at + span g) (left - span g) (n + count g)) f (u .1) in
+      let k = good at n g l e in
+      let i = siblings-fit read good most (at + span g) (left - span g) (n + count g) r k x in
+      let j = count-join g r in
+      rw y (omega arith))
 
   free : (n : ℕ) → full keeping cap n ≡ false → n + 1 ≤ cap
   unfolding full
@@ -65,19 +64,19 @@ module _ (s : List ℕ) (cap : ℕ) where
       let (kids, v, a) = of-above (elementOf parent h) _ f (o .1) in
       of-held (bodyOf s (at + h .length) (h .size) (kindUnder parent (h .id))) _ kids v
       (λ b u.
-        let i = siblings-fit (element s keeping cap levels (h .id)) (element-fit levels (h .id)) (h .size)
-              (at + h .length) (h .size) (n + 1) kids more u in
-        fits-node n (elementOf parent h) kids f a i)
+      let i = siblings-fit (element s keeping cap levels (h .id)) (element-fit levels (h .id)) (h .size)
+      (at + h .length) (h .size) (n + 1) kids more u in
+      fits-node n (elementOf parent h) kids f a i)
       (λ b u.
-        let z : n + 1 + count none ≤ cap = more-none n more in
-        fits-node n (elementOf parent h) kids f a (subst (λ (x : Forest). n + 1 + count x ≤ cap) (sym u) z))
+      let z : n + 1 + count none ≤ cap = more-none n more in
+      fits-node n (elementOf parent h) kids f a (subst (λ (x : Forest). n + 1 + count x ≤ cap) (sym u) z))
 
 module _ (s : List ℕ) (start size parent numbers : ℕ) (f : Forest) where
   pub filled-fit : filled s start size parent numbers ≡ done f → count f ≤ numbers / width
   unfolding filled masterBody
   filled-fit q =
       let i = siblings-fit s (numbers / width) (element s keeping (numbers / width) 16 parent)
-            (element-fit s (numbers / width) 16 parent) size start size 0 f (omega arith) q in
+      (element-fit s (numbers / width) 16 parent) size start size 0 f (omega arith) q in
       omega arith
 
   pub rows-fit : readOf s start size parent numbers ≡ done f → count f ≤ numbers / width

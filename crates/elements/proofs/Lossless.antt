@@ -1,5 +1,5 @@
 -- Two accepted payloads with one table and the same leaf bytes are equal (`Lossless`). Assumes nothing.
-use Prim.Native.Nat.{ℕ, zero, suc, _+_, _-_, _*_, _≤_, _<_}
+use Prim.Native.Nat.{ℕ, _+_, _-_, _*_, _≤_}
 use mathlib.Core.Path.{_≡_, refl, sym, ap, _∙_, subst}
 use mathlib.Core.List.{List, [], _∷_, _++_}
 use mathlib.Core.Bool.{Bool, true, false, not}
@@ -7,7 +7,7 @@ use native.Mathlib.Omega.{arith}
 use lib.ListN.{length, getD, take, drop}
 use lib.Seq.{take-add, drop-drop}
 use lib.Dec.{eqb}
-use borrow.Author.Tests.{eqb-true, eqb-false, eq-eqb, ne-eqb}
+use borrow.Author.Tests.{eqb-true}
 use Rattle.header.specs.Header.{heading, headerOf}
 use Rattle.header.specs.Reads.{headerAt}
 use Rattle.header.specs.Theorems.{Octets}
@@ -18,16 +18,14 @@ use Rattle.header.proofs.Determined.{header-determined}
 use Rattle.kinds.specs.Kinds.{numberOf}
 use Rattle.elements.specs.Forest.{Element, Forest, none, node, whole, span, count}
 use Rattle.elements.specs.Reading.{done}
-use Rattle.elements.specs.Rows.{rowOf, rows, width, flat, flatten, firstRow, rowsOf}
-use Rattle.elements.specs.Stands.{IsMaster, StandsAt, Stands}
-use Rattle.elements.specs.Holds.{isLeaf}
-use Rattle.elements.specs.Promise.{zeros, tableOf, ReadPromise}
-use Rattle.elements.specs.Theorems.{Each, payloadOf, SameLeaf, Sound, Lossless}
+use Rattle.elements.specs.Rows.{rowOf, rows, width, flat, flatten, firstRow}
+use Rattle.elements.specs.Stands.{StandsAt, Stands}
+use Rattle.elements.specs.Promise.{zeros, tableOf}
+use Rattle.elements.specs.Theorems.{Each, SameLeaf, Sound, Lossless}
 use Rattle.elements.specs.declared.row.Row.{Row}
-use Rattle.elements.specs.declared.reply.ReadReply.the-variants.{Rows}
 use Rattle.elements.proofs.Tables.{zeros-at}
 use Rattle.elements.proofs.Standing.{read-stands}
-use Rattle.elements.proofs.Readback.{Accepted, accepted-read}
+use Rattle.elements.proofs.Readback.{accepted-read}
 use Rattle.elements.proofs.Sound.{header-there, rows-sound}
 
 -- ---- parts of two recordings
@@ -86,10 +84,10 @@ module _ (s s′ : List ℕ) (o : Octets s) (o′ : Octets s′) where
       let others = rows parent depth (at + whole e) (n + 1 + count kids) rest in
       let head = same-header at (e .header) (i .0 .head) (a .0 .head) in
       let k = same-span (e .header .id) (n + 1) (depth + 1) (at + h) (n + 1) kids (i .1)
-            (each-left (Sound s′) inner others (a .1)) (each-left (SameLeaf s s′) inner others (b .1)) in
+      (each-left (Sound s′) inner others (a .1)) (each-left (SameLeaf s s′) inner others (b .1)) in
       let p = same-payload id parent depth at n e kids (i .0) (b .0) k in
       let r = same-span id parent depth (at + whole e) (n + 1 + count kids) rest (i .2)
-            (each-right (Sound s′) inner others (a .1)) (each-right (SameLeaf s s′) inner others (b .1)) in
+      (each-right (Sound s′) inner others (a .1)) (each-right (SameLeaf s s′) inner others (b .1)) in
       same-join s s′ at (whole e) (span rest) (same-join s s′ at h (e .header .size) head p) r
 
 -- ---- one table, one list of rows
@@ -134,10 +132,10 @@ lossless s s′ o o′ start size parent t u n m t′ p q leaves =
     let mine = subst (Each (Sound s)) (a .rows-are) (rows-sound s start size parent t n t′ p) in
     let theirs = subst (Each (Sound s′)) (b .rows-are) (rows-sound s′ start size parent u m t′ q) in
     let one-table = sym (p .table ∙ ap (tableOf start (length t)) (a .outcome) ∙ table-is start (length t) (a .forest))
-          ∙ (q .table ∙ ap (tableOf start (length u)) (b .outcome) ∙ table-is start (length u) (b .forest)) in
+    ∙ (q .table ∙ ap (tableOf start (length u)) (b .outcome) ∙ table-is start (length u) (b .forest)) in
     let same = rows-same (rows 0 0 start 0 (a .forest)) (rows 0 0 start 0 (b .forest))
-          (length t - count (a .forest) * width) (length u - count (b .forest) * width)
-          (with-headers s _ mine) (with-headers s′ _ theirs) one-table in
+    (length t - count (a .forest) * width) (length u - count (b .forest) * width)
+    (with-headers s _ mine) (with-headers s′ _ theirs) one-table in
     let sound = subst (Each (Sound s′)) (sym same) theirs in
     let leaf = subst (Each (SameLeaf s s′)) (a .rows-are) leaves in
     rw w at (same-span s s′ o o′ parent 0 0 start 0 (a .forest) i sound leaf)

@@ -2,8 +2,8 @@
 use Prim.Native.Nat.{ℕ, _+_, _≤_, _<_}
 use mathlib.Core.Path.{_≡_, refl, sym, ap, _∙_}
 use mathlib.Core.List.{List, [], _∷_, _++_}
-use mathlib.Core.Logic.{_⊎_, ⊎-elim}
-use mathlib.Core.Bool.{Bool, true, false, _&&_, not}
+use mathlib.Core.Logic.{⊎-elim}
+use mathlib.Core.Bool.{Bool, true, false, _&&_}
 use native.Mathlib.Nat.{zero-add, add-zero}
 use native.Mathlib.Omega.{arith}
 use lib.ListN.{length}
@@ -14,13 +14,13 @@ use Rattle.kinds.specs.Kinds.{numberOf}
 use Rattle.elements.specs.Forest.{Element, Forest, none, node, whole, span}
 use Rattle.elements.specs.Reading.{done}
 use Rattle.elements.specs.Rows.{rowOf, rows, rowsOf}
-use Rattle.elements.specs.Stands.{IsMaster, StandsAt, Stands}
-use Rattle.elements.specs.Holds.{within, inHeader, isLeaf, inLeaf, one, holders}
-use Rattle.elements.specs.Promise.{readOf, ReadPromise}
+use Rattle.elements.specs.Stands.{IsMaster, Stands}
+use Rattle.elements.specs.Holds.{within, inHeader, inLeaf, one, holders}
+use Rattle.elements.specs.Promise.{readOf}
 use Rattle.elements.specs.Theorems.{Partition}
 use Rattle.elements.specs.declared.row.Row.{Row}
 use Rattle.elements.proofs.Standing.{read-stands}
-use Rattle.elements.proofs.Readback.{Accepted, accepted-read}
+use Rattle.elements.proofs.Readback.{accepted-read}
 
 -- ---- spans
 
@@ -31,6 +31,7 @@ span-join a l m x =
   where
     clash : {A : Type 0} → ⊥ → A
     clash z = absurd z
+
     go : (p : Bool) → leb a x ≡ p → (q : Bool) → ltb x (a + l) ≡ q → (r : Bool) → leb (a + l) x ≡ r
         → (u : Bool) → ltb x (a + l + m) ≡ u → (v : Bool) → ltb x (a + (l + m)) ≡ v
         → one (p && q) + one (r && u) ≡ one (p && v)
@@ -38,8 +39,10 @@ span-join a l m x =
     go true e true f false g u i true j = refl
     go true e true f false g u i false j = clash (omega (arith, ltb-true x (a + l) f, ltb-false x (a + (l + m)) j))
     go true e false f true g true i true j = refl
-    go true e false f true g true i false j = clash (omega (arith, ltb-true x (a + l + m) i, ltb-false x (a + (l + m)) j))
-    go true e false f true g false i true j = clash (omega (arith, ltb-false x (a + l + m) i, ltb-true x (a + (l + m)) j))
+    go true e false f true g true i false j =
+        clash (omega (arith, ltb-true x (a + l + m) i, ltb-false x (a + (l + m)) j))
+    go true e false f true g false i true j =
+        clash (omega (arith, ltb-false x (a + l + m) i, ltb-true x (a + (l + m)) j))
     go true e false f true g false i false j = refl
     go true e false f false g u i v j = clash (omega (arith, ltb-false x (a + l) f, leb-false (a + l) x g))
     go false e q f true g u i v j = clash (omega (arith, leb-false a x e, leb-true (a + l) x g))
@@ -91,7 +94,8 @@ covers s id parent depth at n (node e kids rest) i x =
     go : (b : Bool) → eqb (numberOf (e .kind)) 1 ≡ b
         → {inner others both : ℕ} → inner ≡ one (within (at + e .header .length) (span kids) x)
         → others ≡ one (within (at + whole e) (span rest) x)
-        → one (within at (whole e) x) + one (within (at + whole e) (span rest) x) ≡ one (within at (whole e + span rest) x)
+        → one (within at (whole e) x) + one (within (at + whole e) (span rest) x)
+        ≡ one (within at (whole e + span rest) x)
         → both ≡ inner + others
         → row-holds parent depth at x e + both ≡ one (within at (whole e + span rest) x)
     go true m k r j a =
@@ -101,7 +105,8 @@ covers s id parent depth at n (node e kids rest) i x =
         omega arith
     go false m k r j a =
         let w = leaf-holds parent depth at x e (eqb-false _ _ m) in
-        let v = ap (λ (f : Forest). one (within (at + e .header .length) (span f) x)) (i .0 .childless (eqb-false _ _ m)) in
+        let c = i .0 .childless (eqb-false _ _ m) in
+        let v = ap (λ (f : Forest). one (within (at + e .header .length) (span f) x)) c in
         let u = span-none (at + e .header .length) x in
         omega arith
 
@@ -132,6 +137,7 @@ partition s start size parent t n t′ p x =
     let a = accepted-read s start size parent t n t′ p in
     let c = covered s start size parent (length t) (a .forest) (a .outcome) x in
     let h : holders (rowsOf t′ n) x ≡ one (within start size x)
-          = ap (λ (rs : List Row). holders rs x) (a .rows-are) ∙ c in
-    ((λ i j. h ∙ inside-one start size x i j),
-    (λ o. h ∙ ⊎-elim (λ i. before-none start size x i) (λ i. behind-none start size x i) o))
+    = ap (λ (rs : List Row). holders rs x) (a .rows-are) ∙ c in (
+      (λ i j. h ∙ inside-one start size x i j),
+      (λ o. h ∙ ⊎-elim (λ i. before-none start size x i) (λ i. behind-none start size x i) o),
+    )

@@ -1,10 +1,10 @@
 -- The rows that a table holds are the rows that were written into it. Assumes nothing.
-use Prim.Native.Nat.{ℕ, suc, _+_, _-_, _*_, _/_, _≤_}
+use Prim.Native.Nat.{ℕ, _-_, _*_, _/_, _≤_}
 use mathlib.Core.Path.{_≡_, refl, sym, ap, _∙_}
 use mathlib.Core.List.{List, [], _∷_, _++_}
 use native.Mathlib.Omega.{arith}
 use lib.ListN.{length, length-append, length-replicate}
-use Rattle.header.specs.Reply.{Reply, accepted, refusal}
+use Rattle.header.specs.Reply.{accepted}
 use Rattle.elements.specs.Forest.{Forest, count}
 use Rattle.elements.specs.Reading.{Outcome, done, refused}
 use Rattle.elements.specs.Rows.{rows, width, flat, flatten, firstRow, rowsOf}
@@ -49,7 +49,7 @@ module _ (s : List ℕ) (start size parent : ℕ) (t : List ℕ) (n : ℕ) (t′
       let m = length-flatten (rows 0 0 start 0 f) in
       let a = length-append (flatten (rows 0 0 start 0 f)) (zeros (length t - count f * width)) in
       let z : length (zeros (length t - count f * width)) ≡ length t - count f * width
-            = length-replicate (length t - count f * width) 0 in
+      = length-replicate (length t - count f * width) 0 in
       ap length w ∙ (omega arith)
 
   pub accepted-read : ReadPromise s start size parent t (Rows n) t′ → Accepted s start size parent (length t) n t′
@@ -63,5 +63,5 @@ module _ (s : List ℕ) (start size parent : ℕ) (t : List ℕ) (n : ℕ) (t′
         number = k;
         rows-are = table-rows f k w;
         fits = omega arith;
-        as-long = table-length f l w
+        as-long = table-length f l w;
       }

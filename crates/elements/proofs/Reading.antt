@@ -2,41 +2,36 @@
 -- nothing.
 use Prim.Native.Nat.{ℕ, zero, suc, _+_, _-_, _/_, _≤_, _<_}
 use mathlib.Core.Path.{_≡_, refl, sym, ap, _∙_, subst}
-use mathlib.Core.List.{List, [], _∷_, _++_}
+use mathlib.Core.List.{List, [], _∷_}
 use mathlib.Core.Bool.{true, false}
 use native.Mathlib.Omega.{arith}
 use lib.ListN.{length, drop}
 use borrow.Author.Tests.{le-ltb, lt-ltb, ne-eqb}
-use Rattle.header.specs.Header.{Heading, heading, headerOf}
-use Rattle.header.specs.Header.{refused as refusedHeader}
+use Rattle.header.specs.Header.{heading, headerOf}
 use Rattle.header.specs.Refusals.{overrun, tooDeep, noFreeRow}
 use Rattle.header.specs.Reads.{headerAt}
 use Rattle.header.specs.declared.cursor.Cursor.{Cursor}
 use Rattle.header.specs.declared.cursor.Header.{Header}
 use Rattle.header.specs.declared.cursor.HeaderRead.the-variants.{Read as HeaderIs, Refused as HeaderRefused}
 use Rattle.header.specs.declared.refusal.Refusal.{Refusal}
-use Rattle.header.proofs.Inside.{header-read, header-refused, header-inside}
+use Rattle.header.proofs.Inside.{header-read, header-refused}
 use Rattle.kinds.specs.Kinds.{numberOf, kindUnder}
-use Rattle.kinds.specs.declared.kind.Kind.{Kind}
 use Rattle.bodies.specs.Bodies.{bodyOf}
 use Rattle.bodies.specs.Reads.{bodyRead}
-use Rattle.bodies.specs.declared.body.Body.{Body}
-use Rattle.bodies.specs.declared.body.BodyRead.the-variants.{Read as BodyIs, Refused as BodyRefused}
+use Rattle.bodies.specs.declared.body.BodyRead.the-variants.{Refused as BodyRefused}
 use Rattle.elements.specs.Forest.{Element, Forest, none, node, whole, span, count, join}
-use Rattle.elements.specs.Reading.{Outcome, done, refused, prepend, above, headed, held, full, siblings, elementOf}
+use Rattle.elements.specs.Reading.{Outcome, done, refused, prepend, above, held, full, siblings, elementOf}
 use Rattle.elements.specs.Reading.{element, depths, masterBody}
 use Rattle.elements.specs.Rows.{rowOf, rows, width}
-use Rattle.elements.specs.Contract.{stepOf, written, Room, Ready, Met}
-use Rattle.elements.specs.declared.row.Row.{Row}
+use Rattle.elements.specs.Contract.{stepOf, written, Room, Met}
 use Rattle.elements.specs.declared.row.Mode.{Mode}
 use Rattle.elements.specs.declared.element.ElementRead.{ElementRead}
 use Rattle.elements.specs.declared.element.ElementRead.the-variants.{Read, Refused}
 use Rattle.elements.proofs.Outcomes.{never, refuses, passes}
-use Rattle.elements.proofs.Bodies.{master-body, held-refused, LeafRead, leaf-read}
+use Rattle.elements.proofs.Bodies.{master-body, held-refused, LeafRead}
 use Rattle.elements.proofs.Forests.{join-none, span-join, count-join, rows-join, length-rows, rows-node}
 use Rattle.elements.proofs.Forests.{prepend-none, prepend-prepend}
 use Rattle.elements.proofs.Tables.{written-none, written-append, length-written}
-use Rattle.elements.proofs.Standing.{body-stands}
 
 -- ---- an element's cases
 
@@ -89,7 +84,8 @@ module _ (s : List ℕ) (mode : Mode) (cap depth parent at n : ℕ) where
         el-bad e b = by-body ∙ rw (held-refused s (at + h .length) (h .size) (kindUnder parent (h .id)) e
             (masterBody s mode cap (depth + 1) (h .id) (at + h .length) (h .size) (n + 1)) b)
 
-        pub el-leaf : (after : Cursor) → LeafRead s (at + h .length) (h .size) (bodyOf s (at + h .length) (h .size) (kindUnder parent (h .id)))
+        pub el-leaf : (after : Cursor)
+            → LeafRead s (at + h .length) (h .size) (bodyOf s (at + h .length) (h .size) (kindUnder parent (h .id)))
             (masterBody s mode cap (depth + 1) (h .id) (at + h .length) (h .size) (n + 1)) after
             → element-here ≡ done (node (elementOf parent h) none none)
         el-leaf after r = by-body ∙ rw (r .holds)
@@ -233,7 +229,8 @@ join-written mode t₀ t t′ parent depth from first at n ago f w k a v =
     ∙ written-append mode t₀ first before (rows parent depth at n f)
     ∙ ap (written mode t₀ first) (rw (a, k) (sym (rows-join parent depth from first ago f)))
 
-module _ (s t₀ : List ℕ) (mode : Mode) (read : ℕ → ℕ → Outcome) (parent depth : ℕ) (from : Cursor) (size first : ℕ) where
+module _ (s t₀ : List ℕ) (mode : Mode) (read : ℕ → ℕ → Outcome) (parent depth : ℕ) (from : Cursor)
+    (size first : ℕ) where
   abbrev whole-body : Outcome
   whole-body = siblings read size (from .at) size first
 

@@ -1,7 +1,7 @@
 -- Each row of an accepted read has its header and its payload in the recording, and a leaf's body is a value
 -- (`RowsSound`); the rows are a tree's in preorder (`ReadsATree`). Assumes nothing.
-use Prim.Native.Nat.{ℕ, suc, _+_, _≤_, _<_}
-use mathlib.Core.Path.{_≡_, refl, sym, ap, _∙_, subst}
+use Prim.Native.Nat.{ℕ, _+_, _≤_}
+use mathlib.Core.Path.{_≡_, refl, sym, subst}
 use mathlib.Core.List.{List, [], _∷_, _++_}
 use mathlib.Core.Bool.{Bool, true, false, not}
 use native.Mathlib.Omega.{arith}
@@ -12,20 +12,17 @@ use Rattle.header.specs.Header.{heading, headerOf}
 use Rattle.header.specs.Reads.{headerRead, headerAt}
 use Rattle.header.specs.declared.cursor.Header.{Header}
 use Rattle.header.specs.declared.cursor.HeaderRead.the-variants.{Read}
-use Rattle.header.proofs.Inside.{header-read, header-inside}
-use Rattle.kinds.specs.Entries.{kindOf}
 use Rattle.kinds.specs.Kinds.{numberOf}
 use Rattle.kinds.specs.declared.kind.Kind.{Kind}
 use Rattle.kinds.proofs.Numbers.{kind-back}
 use Rattle.bodies.specs.Bodies.{bodyOf}
-use Rattle.elements.specs.Forest.{Element, Forest, none, node, whole, span}
-use Rattle.elements.specs.Rows.{rowOf, rows, rowsOf}
-use Rattle.elements.specs.Stands.{IsMaster, IsValue, StandsAt, Stands}
-use Rattle.elements.specs.Holds.{isLeaf}
-use Rattle.elements.specs.Theorems.{Each, Sound, RowsSound, Tree, ReadsATree}
+use Rattle.elements.specs.Forest.{Element, Forest, none, node, whole}
+use Rattle.elements.specs.Rows.{rowOf, rows}
+use Rattle.elements.specs.Stands.{IsValue, StandsAt, Stands}
+use Rattle.elements.specs.Theorems.{Each, Sound, RowsSound, ReadsATree}
 use Rattle.elements.specs.declared.row.Row.{Row}
 use Rattle.elements.proofs.Standing.{stands-inside, read-stands}
-use Rattle.elements.proofs.Readback.{Accepted, accepted-read}
+use Rattle.elements.proofs.Readback.{accepted-read}
 
 pub each-append : (P : Row → Type 0) (rs ss : List Row) → Each P rs → Each P ss → Each P (rs ++ ss)
 unfolding Each
@@ -51,8 +48,9 @@ module _ (s : List ℕ) where
     head = header-there at (e .header) (i .head);
     inside = omega arith;
     value = λ leaf.
-      let v = i .value (is-leaf (numberOf (e .kind)) leaf) in
-      subst (λ (k : Kind). IsValue (bodyOf s (at + e .header .length) (e .header .size) k)) (sym (kind-back (e .kind))) v
+        let v = i .value (is-leaf (numberOf (e .kind)) leaf) in
+        let back = sym (kind-back (e .kind)) in
+        subst (λ (k : Kind). IsValue (bodyOf s (at + e .header .length) (e .header .size) k)) back v;
   }
 
   rows-sound-of : (id parent depth at n : ℕ) (f : Forest) → Stands s id at f
@@ -60,11 +58,12 @@ module _ (s : List ℕ) where
   unfolding Each rows Stands
   rows-sound-of id parent depth at n none i = tt
   rows-sound-of id parent depth at n (node e kids rest) i =
-      let l = stands-inside s id (at + whole e) rest (i .2) in
-      (row-sound id parent depth at e kids (i .0) (omega arith),
-      each-append (Sound s) (rows (n + 1) (depth + 1) (at + e .header .length) (n + 1) kids) _
-      (rows-sound-of (e .header .id) (n + 1) (depth + 1) (at + e .header .length) (n + 1) kids (i .1))
-      (rows-sound-of id parent depth (at + whole e) _ rest (i .2)))
+      let l = stands-inside s id (at + whole e) rest (i .2) in (
+        row-sound id parent depth at e kids (i .0) (omega arith),
+        each-append (Sound s) (rows (n + 1) (depth + 1) (at + e .header .length) (n + 1) kids) _
+            (rows-sound-of (e .header .id) (n + 1) (depth + 1) (at + e .header .length) (n + 1) kids (i .1))
+            (rows-sound-of id parent depth (at + whole e) _ rest (i .2)),
+      )
 
 pub rows-sound : RowsSound
 rows-sound s start size parent t n t′ p =

@@ -1,6 +1,6 @@
 -- What was read stands in the recording. Assumes nothing.
 use Prim.Native.Nat.{ℕ, zero, suc, _+_, _-_, _/_, _≤_}
-use mathlib.Core.Path.{_≡_, refl, sym, ap, _∙_, subst}
+use mathlib.Core.Path.{_≡_, refl, subst}
 use mathlib.Core.List.{List}
 use mathlib.Core.Bool.{Bool, true, false}
 use native.Mathlib.Omega.{arith}
@@ -9,16 +9,15 @@ use lib.Dec.{eqb}
 use borrow.Author.Tests.{eqb-true, eqb-false, ltb-false}
 use Rattle.header.specs.Header.{headerOf}
 use Rattle.header.specs.Refusals.{tooDeep}
-use Rattle.header.specs.declared.cursor.Header.{Header}
 use Rattle.header.proofs.Inside.{header-inside}
 use Rattle.kinds.specs.Kinds.{numberOf, kindUnder}
 use Rattle.kinds.specs.declared.kind.Kind.{Kind}
-use Rattle.bodies.specs.Bodies.{Told, master, bodyOf}
-use Rattle.elements.specs.Forest.{Element, Forest, none, node, whole, span, count, join}
+use Rattle.bodies.specs.Bodies.{master, bodyOf}
+use Rattle.elements.specs.Forest.{Element, Forest, none, node, whole, span, join}
 use Rattle.elements.specs.Reading.{Outcome, done, refused, siblings, element, elementOf, depths, masterBody}
 use Rattle.elements.specs.Rows.{width}
 use Rattle.elements.specs.Promise.{keeping, filled, readOf}
-use Rattle.elements.specs.Stands.{IsMaster, IsValue, StandsAt, Stands}
+use Rattle.elements.specs.Stands.{IsValue, StandsAt, Stands}
 use Rattle.elements.specs.declared.row.Mode.{Mode}
 use Rattle.elements.proofs.Limits.{start-inside}
 use Rattle.elements.proofs.Outcomes.{never, of-refuse, of-prepend, of-above, of-then, of-headed, of-cond}

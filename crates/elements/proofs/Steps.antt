@@ -1,13 +1,12 @@
 -- The steps of `element` over plain values: what is known once its row is written, and what each return then promises.
 -- Assumes nothing.
-use Prim.Native.Nat.{ℕ, _+_, _-_, _/_, _≤_, _<_}
-use mathlib.Core.Path.{_≡_, refl, sym, ap, _∙_, subst}
+use Prim.Native.Nat.{ℕ, _+_, _/_, _≤_, _<_}
+use mathlib.Core.Path.{_≡_, sym, ap, _∙_, subst}
 use mathlib.Core.List.{List, [], _∷_}
 use mathlib.Core.Bool.{Bool, true, false, not}
 use native.Mathlib.Omega.{arith}
 use lib.ListN.{length}
 use Rattle.header.specs.Refusals.{tooDeep, noFreeRow}
-use Rattle.header.specs.Promise.{mostBytes}
 use Rattle.header.specs.Reads.{headerAt}
 use Rattle.header.specs.declared.cursor.Cursor.{Cursor}
 use Rattle.header.specs.declared.cursor.Header.{Header}
@@ -16,19 +15,17 @@ use Rattle.header.specs.declared.refusal.Refusal.{Refusal}
 use Rattle.header.proofs.Inside.{header-read, header-inside}
 use Rattle.kinds.specs.Kinds.{numberOf, kindUnder}
 use Rattle.kinds.specs.declared.kind.Kind.{Kind}
-use Rattle.bodies.specs.Bodies.{bodyOf}
 use Rattle.bodies.specs.Reads.{bodyRead}
 use Rattle.bodies.specs.declared.body.Body.{Body}
 use Rattle.bodies.specs.declared.body.BodyRead.the-variants.{Read as BodyIs, Refused as BodyRefused}
-use Rattle.elements.specs.Forest.{Forest, span}
-use Rattle.elements.specs.Reading.{Outcome, done, full, elementOf, depths, masterBody}
+use Rattle.elements.specs.Reading.{Outcome, full, elementOf, depths, masterBody}
 use Rattle.elements.specs.Rows.{rowOf, width}
-use Rattle.elements.specs.Contract.{written, Room, Ready, Met}
+use Rattle.elements.specs.Contract.{written, Room, Met}
 use Rattle.elements.specs.declared.element.Above.{Above}
 use Rattle.elements.specs.declared.element.ElementRead.{ElementRead}
 use Rattle.elements.specs.declared.element.ElementRead.the-variants.{Read, Refused}
 use Rattle.elements.specs.declared.row.Mode.{Mode}
-use Rattle.elements.proofs.Bodies.{LeafRead, leaf-read}
+use Rattle.elements.proofs.Bodies.{leaf-read}
 use Rattle.elements.proofs.Tables.{Kept, no-room, has-room, room-free, length-written}
 use Rattle.elements.proofs.Standing.{body-stands}
 use Rattle.elements.proofs.Reading.{element-here, el-refused, el-deep, el-full, el-master, el-bad, el-leaf}
@@ -115,9 +112,9 @@ module _ (s : List ℕ) (mode : Mode) (t : List ℕ) (place : Cursor) (n : ℕ) 
             let c = payload-at in
             let b′ = rw (listed, c .1) at b in
             let m′ = rw listed at m in
-            let inner = masterBody s mode (length t / width) (above .depth + 1) (h .id) (place .at + h .length) (h .size)
-            (n + 1) in
-            let r = leaf-read s (place .at + h .length) (h .size) (kindUnder (above .id) (h .id)) inner body after m′ b′ in
+            let a = place .at + h .length in
+            let inner = masterBody s mode (length t / width) (above .depth + 1) (h .id) a (h .size) (n + 1) in
+            let r = leaf-read s a (h .size) (kindUnder (above .id) (h .id)) inner body after m′ b′ in
             let i = r .inside in
             let z : place .at + h .length + h .size ≡ place .at + (h .length + h .size) = omega arith in
             met-leaf s mode (above .row) (above .depth) (place .at) n (elementOf (above .id) h) t t₁ (w .row) here after
@@ -134,8 +131,10 @@ module _ (s : List ℕ) (mode : Mode) (t : List ℕ) (place : Cursor) (n : ℕ) 
             let m′ = rw listed at m in
             let g′ = rw (c .1, w .same) at g in
             let i = c .2 in
-            met-master s mode (above .row) (above .depth) (place .at) n (elementOf (above .id) h) t t₁ (w .row) t′ here _ r
-            (el-master s mode (length t / width) (above .depth) (above .id) (place .at) n h next q d (w .free) m′) (c .0)
+            met-master s mode (above .row) (above .depth) (place .at) n (elementOf (above .id) h) t t₁ (w .row) t′ here
+            _ r
+            (el-master s mode (length t / width) (above .depth) (above .id) (place .at) n h next q d (w .free) m′)
+            (c .0)
             (λ f e. body-stands s mode (length t / width) (above .depth + 1) (h .id) (place .at + h .length) (h .size)
             (n + 1) f (omega arith) e .0)
             g′

@@ -1,8 +1,7 @@
 -- Any two replies and tables that the promise of `read` permits are equal (`OneReply`). Assumes nothing.
 use Prim.Native.Nat.{ℕ}
 use mathlib.Core.Path.{_≡_, refl, ap, sym, _∙_}
-use mathlib.Core.List.{List, [], _∷_}
-use lib.ListN.{length, getD}
+use lib.ListN.{getD}
 use Rattle.header.specs.Reply.{Reply, accepted, refusal}
 use Rattle.elements.specs.Promise.{readOf, replyOf, tableOf, told}
 use Rattle.elements.specs.Theorems.{OneReply}
@@ -21,6 +20,7 @@ replied-back (Refused e) = refl
 pub read-unique : OneReply
 read-unique s start size parent t u r r′ t′ u′ l p q =
     let a = ap (λ (n : ℕ). replyOf (readOf s start size parent n)) l in
-    let b = ap (λ (n : ℕ). tableOf start n (readOf s start size parent n)) l in
-    (sym (replied-back r) ∙ ap replied (p .reply ∙ a ∙ sym (q .reply)) ∙ replied-back r′,
-    p .table ∙ b ∙ sym (q .table))
+    let b = ap (λ (n : ℕ). tableOf start n (readOf s start size parent n)) l in (
+      sym (replied-back r) ∙ ap replied (p .reply ∙ a ∙ sym (q .reply)) ∙ replied-back r′,
+      p .table ∙ b ∙ sym (q .table),
+    )

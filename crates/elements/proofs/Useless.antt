@@ -1,5 +1,5 @@
--- The useless readers of the table are shut out (`RefusesAll`, `OneTableForAll`, `TouchesNothing`). Assumes nothing.
-use Prim.Native.Nat.{ℕ, zero, suc, _+_, _-_, _*_, _≤_}
+-- The useless readers of the table are shut out (`NotAllRefused`, `NotOneTable`, `NotUntouched`). Assumes nothing.
+use Prim.Native.Nat.{ℕ, _+_, _-_, _*_, _≤_}
 use mathlib.Core.Path.{_≡_, refl, sym, ap, _∙_, subst}
 use mathlib.Core.List.{List, [], _∷_, _++_}
 use native.Mathlib.Omega.{arith}
@@ -7,7 +7,7 @@ use lib.ListN.{length, getD}
 use lib.Seq.{getD-append-add}
 use Rattle.header.specs.Vint.{octetBits, bits, oneMore, widthOf, bigEndianFrom, bigEndian, ofWidth, vintOf}
 use Rattle.header.specs.Header.{sized, named, headerOf}
-use Rattle.header.specs.Reply.{Reply, accepted, refusal}
+use Rattle.header.specs.Reply.{accepted}
 use Rattle.header.specs.declared.refusal.Refusal.{Refusal}
 use Rattle.kinds.specs.Elements.{elements}
 use Rattle.kinds.specs.Kinds.{kindIn, keeps, kindUnder}
@@ -15,21 +15,21 @@ use Rattle.bodies.specs.Bodies.{bodyOf}
 use Rattle.elements.specs.Forest.{Forest, span, count, join}
 use Rattle.elements.specs.Reading.{Outcome, done, refused, refuseIf, full, siblings, element, masterBody}
 use Rattle.elements.specs.Rows.{rows, width, flat, flatten}
-use Rattle.elements.specs.Promise.{isTable, allowed, filled, readOf, replyOf, zeros, tableOf, told, ReadPromise}
-use Rattle.elements.specs.Useless.{trackEntry, blockGroup, RefusesAll, OneTableForAll, TouchesNothing}
+use Rattle.elements.specs.Promise.{isTable, allowed, filled, readOf, replyOf, zeros, tableOf, told}
+use Rattle.elements.specs.Useless.{trackEntry, blockGroup, NotAllRefused, NotOneTable, NotUntouched}
 use Rattle.elements.specs.declared.reply.ReadReply.{ReadReply}
 use Rattle.elements.specs.declared.reply.ReadReply.the-variants.{Rows, Refused}
 use Rattle.elements.proofs.Forests.{length-rows}
 use Rattle.elements.proofs.Tables.{length-flatten, zeros-at}
-use Rattle.elements.proofs.Readback.{Accepted, accepted-read}
+use Rattle.elements.proofs.Readback.{accepted-read}
 
 -- ---- two payloads, computed
 
 unfoldable computed : Type 0
 computed =
-    (replyOf (readOf trackEntry 0 2 0 width) ≡ accepted (1 ∷ []))
-    × (tableOf 0 width (readOf trackEntry 0 2 0 width) ≡ 0xAE ∷ 0 ∷ 0 ∷ 2 ∷ 0 ∷ 1 ∷ 0 ∷ [])
-    × (tableOf 0 width (readOf blockGroup 0 2 0 width) ≡ 0xA0 ∷ 0 ∷ 0 ∷ 2 ∷ 0 ∷ 1 ∷ 0 ∷ [])
+    (replyOf (readOf trackEntry 0 2 0 (2 * width)) ≡ accepted (1 ∷ []))
+    × (tableOf 0 (2 * width) (readOf trackEntry 0 2 0 (2 * width)) ≡ 0xAE ∷ 0 ∷ 0 ∷ 2 ∷ 0 ∷ 1 ∷ 0 ∷ zeros width)
+    × (tableOf 0 (2 * width) (readOf blockGroup 0 2 0 (2 * width)) ≡ 0xA0 ∷ 0 ∷ 0 ∷ 2 ∷ 0 ∷ 1 ∷ 0 ∷ zeros width)
 
 both-read : computed
 unfolding computed octetBits bits oneMore widthOf bigEndianFrom bigEndian ofWidth vintOf sized named headerOf
@@ -41,16 +41,16 @@ one-row : (r : ReadReply) → told r ≡ accepted (1 ∷ []) → r ≡ Rows 1
 one-row (Rows n) q = cc
 one-row (Refused e) q = let z : _≡_ {A = ℕ} 0 1 = cc in absurd (omega arith)
 
-pub refuses-all : RefusesAll
+pub not-all-refused : NotAllRefused
 unfolding computed
-refuses-all t r t′ l p =
+not-all-refused t r t′ l p =
     let a = ap (λ (n : ℕ). replyOf (readOf trackEntry 0 2 0 n)) l in
     let b = ap (λ (n : ℕ). tableOf 0 n (readOf trackEntry 0 2 0 n)) l in
     (one-row r (p .reply ∙ a ∙ both-read .0), p .table ∙ b ∙ both-read .1)
 
-pub one-table-for-all : OneTableForAll
+pub not-one-table : NotOneTable
 unfolding computed
-one-table-for-all t u r r′ t′ l m p q =
+not-one-table t u r r′ t′ l m p q =
     let a = p .table ∙ ap (λ (n : ℕ). tableOf 0 n (readOf trackEntry 0 2 0 n)) l ∙ both-read .1 in
     let b = q .table ∙ ap (λ (n : ℕ). tableOf 0 n (readOf blockGroup 0 2 0 n)) m ∙ both-read .2 in
     let e : _≡_ {A = ℕ} 0xAE 0xA0 = ap (λ (x : List ℕ). getD x 0 0) (sym a ∙ b) in
@@ -75,11 +75,12 @@ unfolding tableOf
 cleared-of start numbers (done f) e t′ q w = let z : _≡_ {A = ℕ} 0 1 = cc in absurd (omega arith)
 cleared-of start numbers (refused r) e t′ q w = w
 
-pub touches-nothing : TouchesNothing
-touches-nothing s start size parent t t′ =
-    ((λ n p k l.
+pub not-untouched : NotUntouched
+not-untouched s start size parent t t′ = (
+  (λ n p k l.
       let a = accepted-read s start size parent t n t′ p in
       let j : count (a .forest) * width ≤ k = subst (λ (x : ℕ). x * width ≤ k) (a .number) l in
       ap (λ (x : List ℕ). getD x k 0) (p .table ∙ ap (tableOf start (length t)) (a .outcome))
       ∙ beyond start (length t) (a .forest) k j),
-    (λ e p. cleared-of start (length t) (readOf s start size parent (length t)) e t′ (p .reply) (p .table)))
+  (λ e p. cleared-of start (length t) (readOf s start size parent (length t)) e t′ (p .reply) (p .table)),
+)

@@ -1,23 +1,19 @@
 -- The public read: its limits, and the reply and the table that it leaves. Assumes nothing.
-use Prim.Native.Nat.{ℕ, _+_, _-_, _*_, _/_, _%_, _≤_, _<_}
+use Prim.Native.Nat.{ℕ, _+_, _-_, _*_, _/_, _≤_}
 use mathlib.Core.Path.{_≡_, refl, sym, ap, _∙_, subst}
-use mathlib.Core.List.{List, [], _∷_, _++_}
-use mathlib.Core.Bool.{Bool, true, false, not, _&&_}
+use mathlib.Core.List.{List, _++_}
+use mathlib.Core.Bool.{true, false, not}
 use native.Mathlib.Nat.{zero-add}
 use native.Mathlib.Omega.{arith}
-use lib.ListN.{length, drop, length-replicate}
+use lib.ListN.{length, length-replicate}
 use lib.Seq.{sets-eq}
-use lib.Dec.{leb, eqb}
-use borrow.Author.Tests.{leb-true, eqb-true, le-leb, lt-leb, eq-eqb, ne-eqb}
-use Rattle.header.specs.Promise.{mostBytes}
 use Rattle.header.specs.Refusals.{badArgument}
-use Rattle.header.specs.Reply.{Reply}
 use Rattle.header.specs.declared.cursor.Cursor.{Cursor}
 use Rattle.header.specs.declared.refusal.Refusal.{Refusal}
-use Rattle.elements.specs.Forest.{Forest, count, span}
+use Rattle.elements.specs.Forest.{Forest, count}
 use Rattle.elements.specs.Reading.{Outcome, done, refused, masterBody}
 use Rattle.elements.specs.Rows.{rows, width, flatten}
-use Rattle.elements.specs.Promise.{mostRows, keeping, isTable, allowed, filled, readOf, replyOf, zeros, tableOf}
+use Rattle.elements.specs.Promise.{keeping, allowed, filled, readOf, replyOf, zeros, tableOf}
 use Rattle.elements.specs.Promise.{told, ReadPromise}
 use Rattle.elements.specs.Contract.{written, Met}
 use Rattle.elements.specs.declared.element.ElementRead.the-variants.{Read, Refused as ReadRefused}
@@ -112,7 +108,8 @@ module _ (s : List ℕ) (start size parent : ℕ) (t : List ℕ) where
   pub not-allowed : (e : Refusal) (t₁ : List ℕ) → allowed s start (length t) ≡ false → e ≡ badArgument
       → t₁ ≡ zeros (length t) → ReadPromise s start size parent t (Refused e) t₁
   not-allowed e t₁ a b z =
-      let g = gives-refusal start (length t) (readOf s start size parent (length t)) t₁ e (refused-argument a ∙ rw b) z in
+      let q = refused-argument a ∙ ap refused (sym b) in
+      let g = gives-refusal start (length t) (readOf s start size parent (length t)) t₁ e q z in
       record { reply = g .reply; table = g .table }
 
   -- What was promised of the cleared table holds of the table that the caller lent.

@@ -1,4 +1,5 @@
--- Document 01's cases that are to be proved, as one table (Cases, P1 to P12): what is asked of the bytes, and the reply.
+-- Document 01's cases that are to be proved, as one table (Cases, P1 to P12): what is asked of the bytes, and the
+-- reply.
 use Prim.Native.Nat.{ℕ, _^_, _-_}
 use mathlib.Core.Path.{_≡_}
 use mathlib.Core.List.{List, [], _∷_}

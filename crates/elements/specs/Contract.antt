@@ -1,18 +1,20 @@
 -- What the readers of elements promise each other: how an outcome is told, and the table that they leave.
-use Prim.Native.Nat.{ℕ, _+_, _*_, _/_, _≤_}
+use Prim.Native.Nat.{ℕ, _+_, _-_, _*_, _/_, _≤_}
 use mathlib.Core.Path.{_≡_}
 use mathlib.Core.List.{List}
 use mathlib.Core.Bool.{true, cond}
 use lib.ListN.{length}
 use lib.Seq.{sets}
 use Rattle.header.specs.Promise.{mostBytes}
+use Rattle.header.specs.declared.cursor.Cursor.{Cursor}
 use Rattle.kinds.specs.Elements.{elements}
 use Rattle.kinds.specs.Entries.{entries}
 use Rattle.elements.specs.Forest.{Forest, span, count}
-use Rattle.elements.specs.Reading.{Outcome, done, refused}
+use Rattle.elements.specs.Reading.{Outcome, done, refused, depths, element, masterBody}
 use Rattle.elements.specs.Rows.{rows, width, flatten}
 use Rattle.elements.specs.declared.row.Row.{Row}
 use Rattle.elements.specs.declared.row.Mode.{Mode}
+use Rattle.elements.specs.declared.element.Above.{Above}
 use Rattle.elements.specs.declared.element.ElementRead.{ElementRead}
 use Rattle.elements.specs.declared.element.ElementRead.the-variants.{Read, Refused}
 
@@ -37,13 +39,25 @@ pub record Ready (s kinds : List ℕ) (mode : Mode) (t : List ℕ) (at n : ℕ) 
   pub few : n ≤ at
   pub room : Room mode t n
 
--- What a reader at a place gives of the outcome o: the answer r, and the table t′ made of t. `low` is a bound of the
--- next place from below.
+-- What a reader at a place gives of the outcome o: the answer r, and the table t′ made of t. `low` is a lower bound
+-- of the next place.
 pub record Met
-    (s : List ℕ) (mode : Mode) (low parent depth at n : ℕ) (o : Outcome) (t t′ : List ℕ) (r : ElementRead) : Type 0 where
+    (s : List ℕ) (mode : Mode) (low parent depth at n : ℕ) (o : Outcome) (t t′ : List ℕ)
+    (r : ElementRead) : Type 0 where
   pub reply : r ≡ stepOf at n o
   pub table : (f : Forest) → o ≡ done f → t′ ≡ written mode t n (rows parent depth at n f)
   pub goes :
       (f : Forest) → o ≡ done f
       → (low ≤ at + span f) × (at + span f ≤ length s) × (n + count f ≤ at + span f)
   pub room : (f : Forest) → o ≡ done f → Room mode t (n + count f)
+
+-- What `element` gives at a place, and `master_body` for a payload there: each under what stands above it.
+abbrev pub ElementMet : List ℕ → Mode → Cursor → ℕ → Above → List ℕ → List ℕ → ElementRead → Type 0
+ElementMet s mode place n above t t′ r =
+    Met s mode (place .at + 1) (above .row) (above .depth) (place .at) n
+    (element s mode (length t / width) (depths - above .depth) (above .id) (place .at) n) t t′ r
+
+abbrev pub BodyMet : List ℕ → Mode → Cursor → ℕ → ℕ → Above → List ℕ → List ℕ → ElementRead → Type 0
+BodyMet s mode from size n above t t′ r =
+    Met s mode (from .at) (above .row) (above .depth) (from .at) n
+    (masterBody s mode (length t / width) (above .depth) (above .id) (from .at) size n) t t′ r

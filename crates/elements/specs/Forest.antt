@@ -1,9 +1,6 @@
 -- Elements one after another, each with its children: what a read is read into. It holds no address and no row number.
 use Prim.Native.Nat.{ℕ, suc, _+_}
-use mathlib.Core.Bool.{Bool}
-use lib.Dec.{eqb}
 use Rattle.header.specs.declared.cursor.Header.{Header}
-use Rattle.kinds.specs.Kinds.{numberOf}
 use Rattle.kinds.specs.declared.kind.Kind.{Kind}
 
 -- An element: its header, and its kind under its parent.
@@ -14,9 +11,6 @@ pub record Element : Type 0 where
 -- How many bytes the element takes: header and payload.
 abbrev pub whole : Element → ℕ
 whole e = e .header .length + e .header .size
-
-abbrev pub isMaster : Element → Bool
-isMaster e = eqb (numberOf (e .kind)) 1
 
 -- Nothing, or an element with its children and what follows it.
 pub data Forest : Type 0 where

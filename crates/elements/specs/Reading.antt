@@ -1,6 +1,6 @@
 -- How elements are read (document 01, Element table): an element holds a body, and a master's body holds elements, read
 -- until its size is used up.
-use Prim.Native.Nat.{ℕ, zero, suc, _+_, _-_, _/_}
+use Prim.Native.Nat.{ℕ, zero, suc, _+_, _-_}
 use mathlib.Core.List.{List}
 use mathlib.Core.Bool.{Bool, true, false, cond, _&&_}
 use lib.ListN.{drop}
@@ -56,12 +56,12 @@ held (date z) elements = done none
 held (text a l) elements = done none
 held (bytes a l) elements = done none
 
--- Rows are kept, and none of them is free.
+-- Rows are kept, and the table has none free.
 unfoldable pub full : Mode → ℕ → ℕ → Bool
 full mode cap n = (mode .keep) && leb cap n
 
 -- Elements one after another at a place, until the bytes that are left are used up; n rows stand before them. `read`
--- reads one of them. Each takes a byte at least, so there are not more than bytes: `most` is that bound.
+-- reads one of them. Each takes a byte at least, so there are no more elements than bytes: `most` is that bound.
 unfoldable pub siblings : (ℕ → ℕ → Outcome) → ℕ → ℕ → ℕ → ℕ → Outcome
 siblings read zero at left n = done none
 siblings read (suc most) at left n =

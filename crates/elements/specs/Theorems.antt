@@ -10,13 +10,12 @@ use Rattle.header.specs.Theorems.{Octets}
 use Rattle.header.specs.declared.cursor.HeaderRead.the-variants.{Read}
 use Rattle.kinds.specs.Entries.{kindOf}
 use Rattle.kinds.specs.Kinds.{numberOf, kindUnder}
-use Rattle.bodies.specs.Bodies.{Told, bodyOf}
+use Rattle.bodies.specs.Bodies.{bodyOf}
 use Rattle.elements.specs.Forest.{Forest, span, count}
-use Rattle.elements.specs.Reading.{done}
 use Rattle.elements.specs.Rows.{rows, rowsOf}
 use Rattle.elements.specs.Stands.{IsValue, Stands}
-use Rattle.elements.specs.Holds.{isLeaf, within, holders}
-use Rattle.elements.specs.Promise.{readOf, ReadPromise}
+use Rattle.elements.specs.Holds.{isLeaf, holders}
+use Rattle.elements.specs.Promise.{ReadPromise}
 use Rattle.elements.specs.declared.row.Row.{Row}
 use Rattle.elements.specs.declared.reply.ReadReply.{ReadReply}
 use Rattle.elements.specs.declared.reply.ReadReply.the-variants.{Rows}
@@ -40,7 +39,7 @@ Partition =
     → (start ≤ x → x < start + size → holders (rowsOf t′ n) x ≡ 1)
     × (x < start ⊎ start + size ≤ x → holders (rowsOf t′ n) x ≡ 0)
 
--- Each row of some has a property.
+-- Each row of a list has a property.
 unfoldable pub Each : (Row → Type 0) → List Row → Type 0
 Each P [] = Unit
 Each P (r ∷ rs) = P r × Each P rs

@@ -17,22 +17,23 @@ trackEntry = 0xAE ∷ 0x80 ∷ []
 abbrev pub blockGroup : List ℕ
 blockGroup = 0xA0 ∷ 0x80 ∷ []
 
--- One that refuses everything: these bytes are accepted, as one row with their own numbers.
-abbrev pub RefusesAll : Type 0
-RefusesAll =
-    (t : List ℕ) (r : ReadReply) (t′ : List ℕ) → length t ≡ width → ReadPromise trackEntry 0 2 0 t r t′
-    → (r ≡ Rows 1) × (t′ ≡ 0xAE ∷ 0 ∷ 0 ∷ 2 ∷ 0 ∷ 1 ∷ 0 ∷ [])
+-- Not one that refuses everything: these bytes are accepted, as one row with their own numbers, and the second row of
+-- the table is zeros.
+abbrev pub NotAllRefused : Type 0
+NotAllRefused =
+    (t : List ℕ) (r : ReadReply) (t′ : List ℕ) → length t ≡ 2 * width → ReadPromise trackEntry 0 2 0 t r t′
+    → (r ≡ Rows 1) × (t′ ≡ 0xAE ∷ 0 ∷ 0 ∷ 2 ∷ 0 ∷ 1 ∷ 0 ∷ zeros width)
 
--- One that gives the same table for all bytes: these two payloads have no leaf, so that no leaf bytes could tell them
+-- Not one that gives the same table for all bytes: these two payloads have no leaf, so that no leaf bytes could tell them
 -- apart; no table is permitted for both.
-abbrev pub OneTableForAll : Type 0
-OneTableForAll =
-    (t u : List ℕ) (r r′ : ReadReply) (t′ : List ℕ) → length t ≡ width → length u ≡ width
+abbrev pub NotOneTable : Type 0
+NotOneTable =
+    (t u : List ℕ) (r r′ : ReadReply) (t′ : List ℕ) → length t ≡ 2 * width → length u ≡ 2 * width
     → ReadPromise trackEntry 0 2 0 t r t′ → ReadPromise blockGroup 0 2 0 u r′ t′ → ⊥
 
--- One that touches nothing: whatever the table held, numbers beyond the last row are 0, and after a refusal all are.
-abbrev pub TouchesNothing : Type 0
-TouchesNothing =
+-- Not one that touches nothing: whatever the table held, numbers beyond the last row are 0, and after a refusal all are.
+abbrev pub NotUntouched : Type 0
+NotUntouched =
     (s : List ℕ) (start size parent : ℕ) (t t′ : List ℕ)
     → ((n : ℕ) → ReadPromise s start size parent t (Rows n) t′ → (k : ℕ) → n * width ≤ k → getD t′ k 0 ≡ 0)
     × ((e : Refusal) → ReadPromise s start size parent t (Refused e) t′ → t′ ≡ zeros (length t))

@@ -1,10 +1,6 @@
 // An element and the elements of a master's body: the two readers call each other. Siblings are read in a loop; each
 // call within a call is one depth further down.
-ghost use Prim.Native.Nat.{_+_, _-_, _/_};
-ghost use lib.ListN.{length};
-ghost use Rattle.elements.specs.Reading.{element as elementIn, masterBody, depths};
-ghost use Rattle.elements.specs.Rows.{width};
-ghost use Rattle.elements.specs.Contract.{Ready, Met};
+ghost use Rattle.elements.specs.Contract.{Ready, ElementMet, BodyMet};
 use crate::row::Mode;
 use crate::row::Row;
 use crate::row::keep_row;
@@ -13,13 +9,11 @@ use bodies::read_body;
 use header::Cursor;
 use header::HeaderRead;
 use header::Refusal;
+use kinds::MASTER;
 use kinds::kind_in;
 
 // Rows have the depths 0 to 15.
 const DEPTHS: u64 = 16;
-
-// The number of the kind that holds elements.
-const MASTER: u64 = 1;
 
 // What stands above elements: their parent's id, its row number plus 1 (0 for none), and their own depth.
 pub struct Above {
@@ -45,7 +39,7 @@ fn element(
     above: Above,
 ) -> ElementRead
     requires { ⌜ Ready (now recording) (now kinds) mode (now table) (place .at) rows ⌝ }
-    ensures { λ r. ⌜ Met (now (recording .entry)) mode (place .at + 1) (above .row) (above .depth) (place .at) rows (elementIn (now (recording .entry)) mode (length (now (table .entry)) / width) (depths - above .depth) (above .id) (place .at) rows) (now (table .entry)) (now (table .exit)) r ⌝ }
+    ensures { λ r. ⌜ ElementMet (now (recording .entry)) mode place rows above (now (table .entry)) (now (table .exit)) r ⌝ }
 {
     match place.header(recording) {
         HeaderRead::Refused(refusal) => ElementRead::Refused(refusal),
@@ -101,7 +95,7 @@ pub fn master_body(
     above: Above,
 ) -> ElementRead
     requires { ⌜ Ready (now recording) (now kinds) mode (now table) (from .at) first ⌝ }
-    ensures { λ r. ⌜ Met (now (recording .entry)) mode (from .at) (above .row) (above .depth) (from .at) first (masterBody (now (recording .entry)) mode (length (now (table .entry)) / width) (above .depth) (above .id) (from .at) size first) (now (table .entry)) (now (table .exit)) r ⌝ }
+    ensures { λ r. ⌜ BodyMet (now (recording .entry)) mode from size first above (now (table .entry)) (now (table .exit)) r ⌝ }
 {
     let mut place = from;
     let mut left = size;

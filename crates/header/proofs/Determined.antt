@@ -3,7 +3,7 @@
 use Prim.Native.Nat.{ℕ, suc, _+_, _-_, _*_, _%_, _^_, _≤_, _<_}
 use mathlib.Core.Path.{_≡_, refl, sym, ap, _∙_, subst}
 use mathlib.Core.List.{List, [], _∷_}
-use mathlib.Core.Bool.{Bool, true, false, cond}
+use mathlib.Core.Bool.{Bool, true, false}
 use native.Mathlib.Omega.{arith}
 use native.Mathlib.Numerals.{add-one}
 use native.Mathlib.Nat.{mul-le-mul-right}
@@ -12,10 +12,10 @@ use lib.Pow.{pow-add, pow-mono}
 use lib.Count.{leadingZeros, leading-top}
 use lib.ListN.{length, take, drop, getD}
 use lib.Seq.{length-take-le, take-add}
-use lib.Dec.{ltb, leb, eqb}
-use borrow.Author.Tests.{ltb-true, leb-true, eqb-true, eqb-false}
+use lib.Dec.{eqb}
+use borrow.Author.Tests.{eqb-true, eqb-false}
 use Rattle.header.specs.Vint.{Width, unmarked, zeros, oneMore, widthOf, bits, bigEndian, bigEndianFrom}
-use Rattle.header.specs.Vint.{Vint, vint, ends, long, ofWidth, vintOf, vintData}
+use Rattle.header.specs.Vint.{Vint, vint, ends, long, vintOf, vintData}
 use Rattle.header.specs.Header.{Heading, heading, refused, sized, named, headerOf}
 use Rattle.header.specs.Reads.{headerRead, headerAt}
 use Rattle.header.specs.Theorems.{Octets, Determined}

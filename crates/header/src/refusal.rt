@@ -82,7 +82,7 @@ impl Refusal {
         Refusal { number: 13, id: 0 }
     }
 
-    // 14: a length or a place that the caller gave is out of bounds.
+    // 14: a length, a place or a row that the caller gave is out of bounds.
     pub fn bad_argument() -> Refusal
         ensures { λ r. ⌜ r ≡ badArgument ⌝ }
     {

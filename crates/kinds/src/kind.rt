@@ -3,6 +3,9 @@ ghost use mathlib.Core.Path.{_≡_};
 ghost use Rattle.kinds.specs.Entries.{kindOf};
 ghost use Rattle.kinds.specs.Kinds.{numberOf};
 
+// The number of the kind whose body holds elements.
+pub const MASTER: u64 = 1;
+
 // What the body of an element holds.
 pub enum Kind {
     Master,

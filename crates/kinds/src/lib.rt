@@ -8,6 +8,7 @@ mod lookup;
 mod table;
 
 pub use kind::Kind;
+pub use kind::MASTER;
 pub use lookup::kind_in;
 pub use lookup::kind_of;
 pub use table::TABLE;

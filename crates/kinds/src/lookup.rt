@@ -6,11 +6,10 @@ ghost use Rattle.kinds.specs.Kinds.{numberOf, kindIn, kindUnder, staysMa
 ghost use Rattle.kinds.specs.Promise.{KindPromise};
 use crate::ids;
 use crate::kind::Kind;
+use crate::kind::MASTER;
 use crate::table::TABLE;
 
-// The numbers of the two kinds that are told apart here.
-const MASTER: u64 = 1;
-
+// The number of the kind of an id that is not listed.
 const BINARY: u64 = 6;
 
 // ChapterTranslate, a member of two small master sets; src/ids.rs has no name for it.

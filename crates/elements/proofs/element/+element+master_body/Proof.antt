@@ -1,7 +1,7 @@
 -- `element` and `master_body` meet their contracts: the one proof of their cycle of calls. Assumes nothing.
 use borrow.Author.Needs.{needs}
 use Prim.Native.Nat.{_+_, _-_, _*_, _/_, _≤_}
-use mathlib.Core.Path.{_≡_, refl, sym, ap, _∙_, subst}
+use mathlib.Core.Path.{_≡_, sym, _∙_, subst}
 use native.Mathlib.Omega.{arith}
 use lib.ListN.{length}
 use Rattle.header.specs.declared.cursor.Cursor.{Cursor}
@@ -126,7 +126,8 @@ module _ (t : ℕ) where
       let x = begun (headed c) .args in
       Wrote (x .recording .now) (x .mode) (x .table .now) (x .place) (x .rows) (x .above)
       (head (headed c)) (behind (headed c)) (header-told (headed c)) (kind-at c) (shallow c)
-      (c .before .before .before .before .before .before .kind-in .ensures) (c .before .before .before .keep-row .last .0)
+      (c .before .before .before .before .before .before .kind-in .ensures)
+      (c .before .before .before .keep-row .last .0)
   written-at c =
       wrote _ _ _ _ _ _ _ _ (header-told (headed c)) _ (shallow c) _ _ _ _ (number-at c)
       (c .before .before .before .keep-row .ensures) (c .if2 .left)
@@ -310,8 +311,8 @@ module _ (t : ℕ) where
       let x = starts c .args in
       let l = turn c .loop in
       Met (x .recording .now) (x .mode) (l .place .at + 1) (x .above .row) (x .above .depth) (l .place .at) (l .rows)
-      (elementIn (x .recording .now) (x .mode) (length (x .table .now) / width) (depths - x .above .depth) (x .above .id)
-      (l .place .at) (l .rows))
+      (elementIn (x .recording .now) (x .mode) (length (x .table .now) / width) (depths - x .above .depth)
+      (x .above .id) (l .place .at) (l .rows))
       (l .table) (c .element .last .1 .1 .0) r
 
   child-met : (c : Child) (r : ElementRead) → c .element .result ≡ r → Promised c r

@@ -7,11 +7,8 @@ use lib.ListN.{length, drop, length-set}
 use borrow.Author.Fill.{fill-none, fill-more}
 use Rattle.elements.specs.Promise.{zeros}
 use Rattle.elements.proofs.Tables.{cleared}
-use borrow.Author.Needs.{needs}
 use Rattle.elements.proofs.reply.clear.Statement.{statement}
 use Rattle.elements.proofs.reply.clear.Tie as tie
-use Rattle.elements.proofs.reply.clear.Reads as reads
-use Rattle.elements.proofs.reply.clear.Lts as lts
 
 abbrev Inv-loop : tie.InvT-loop
 Inv-loop table₀ i₀ table i =

@@ -1,18 +1,12 @@
 -- `fill` meets its contract: the reader's answer on the cleared table. Assumes nothing.
-use mathlib.Core.Path.{_≡_, refl, ap, _∙_}
+use mathlib.Core.Path.{refl, _∙_}
 use native.Mathlib.Omega.{arith}
-use lib.ListN.{length}
 use Rattle.kinds.specs.Elements.{elements}
-use Rattle.elements.specs.Contract.{Met}
 use Rattle.elements.proofs.Limits.{within}
 use Rattle.elements.proofs.Whole.{zeros-as, fill-refused, fill-done}
 use borrow.Author.Needs.{needs}
 use Rattle.elements.proofs.reply.fill.Statement.{statement}
 use Rattle.elements.proofs.reply.fill.Tie as tie
-use Rattle.elements.proofs.reply.fill.Reads as reads
-use Rattle.elements.proofs.reply.fill.Lts as lts
-use Rattle.elements.proofs.element.master_body.Reads as master-body-reads
-use Rattle.elements.proofs.reply.clear.Reads as clear-reads
 
 slice-aggregate-master-body : tie.Need-slice-aggregate-master-body
 slice-aggregate-master-body c = search needs
@@ -44,7 +38,8 @@ same-length c = search needs
 
 returns : tie.Need-returns
 returns c =
-    let b = c .before .before .before .before .before .before .before .before .before .before .before .before .before .before in
+    let a = c .before .before .before .before .before .before .before in
+    let b = a .before .before .before .before .before .before .before in
     let m = c .before .before .before .before .before .before .before .before .before .master-body in
     let k = c .before .before .clear in
     fill-refused _ _ _ _ _ (b .pre .1) (b .pre .0) _ _ _

@@ -1,11 +1,7 @@
 -- `is_allowed` meets its contract: the limits, one after another. Assumes nothing.
-use mathlib.Core.Path.{_≡_}
 use Rattle.elements.proofs.Limits.{too-long, broken-rows, too-many, by-start}
-use borrow.Author.Needs.{needs}
 use Rattle.elements.proofs.reply.is_allowed.Statement.{statement}
 use Rattle.elements.proofs.reply.is_allowed.Tie as tie
-use Rattle.elements.proofs.reply.is_allowed.Reads as reads
-use Rattle.elements.proofs.reply.is_allowed.Lts as lts
 
 returns : tie.Need-returns
 returns c = too-long _ _ _ (c .if1 .taken)

@@ -1,19 +1,10 @@
 -- `read` meets its contract: 14, then the reading into the cleared table. Assumes nothing.
-use mathlib.Core.Path.{_≡_, sym, ap, _∙_}
-use mathlib.Core.Bool.{true, false}
-use lib.ListN.{length}
-use Rattle.elements.specs.Promise.{allowed, zeros}
+use mathlib.Core.Path.{sym, _∙_}
 use Rattle.laws.proofs.Turned.{failed, passed}
 use Rattle.elements.proofs.Whole.{zeros-as, allowed-as, not-allowed, as-lent}
 use borrow.Author.Needs.{needs}
 use Rattle.elements.proofs.reply.read.Statement.{statement}
 use Rattle.elements.proofs.reply.read.Tie as tie
-use Rattle.elements.proofs.reply.read.Reads as reads
-use Rattle.elements.proofs.reply.read.Lts as lts
-use Rattle.elements.proofs.reply.clear.Reads as clear-reads
-use Rattle.elements.proofs.reply.fill.Reads as fill-reads
-use Rattle.elements.proofs.reply.is_allowed.Reads as is-allowed-reads
-use Rattle.header.proofs.refusal.Refusal.bad_argument.Reads as bad-argument-reads
 
 clear-requires : tie.Need-clear-requires
 clear-requires c κs = search needs

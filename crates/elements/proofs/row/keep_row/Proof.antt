@@ -4,9 +4,6 @@ use Rattle.elements.proofs.Tables.{kept-full, kept-row, kept-none}
 use borrow.Author.Needs.{needs}
 use Rattle.elements.proofs.row.keep_row.Statement.{statement}
 use Rattle.elements.proofs.row.keep_row.Tie as tie
-use Rattle.elements.proofs.row.keep_row.Reads as reads
-use Rattle.elements.proofs.row.keep_row.Lts as lts
-use Rattle.elements.proofs.row.put_row.Reads as put-row-reads
 
 returns : tie.Need-returns
 returns c = kept-full _ _ _ _ _ (c .before .if1 .taken) (c .if2 .taken)

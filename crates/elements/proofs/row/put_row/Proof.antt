@@ -6,8 +6,6 @@ use Rattle.elements.specs.Rows.{flat}
 use borrow.Author.Needs.{needs}
 use Rattle.elements.proofs.row.put_row.Statement.{statement}
 use Rattle.elements.proofs.row.put_row.Tie as tie
-use Rattle.elements.proofs.row.put_row.Reads as reads
-use Rattle.elements.proofs.row.put_row.Lts as lts
 
 mul-first : tie.Need-mul-first
 mul-first c = search needs

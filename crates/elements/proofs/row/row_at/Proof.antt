@@ -3,8 +3,6 @@ use Rattle.elements.proofs.Tables.{row-there}
 use borrow.Author.Needs.{needs}
 use Rattle.elements.proofs.row.row_at.Statement.{statement}
 use Rattle.elements.proofs.row.row_at.Tie as tie
-use Rattle.elements.proofs.row.row_at.Reads as reads
-use Rattle.elements.proofs.row.row_at.Lts as lts
 
 mul-first : tie.Need-mul-first
 mul-first c = search needs
