@@ -1,1 +1,4 @@
 -- The laws that the proofs of `places` share, and its theorems.
+pub mod Ranges
+pub mod Spots
+pub mod Asked

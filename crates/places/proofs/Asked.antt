@@ -1,0 +1,78 @@
+-- The address question: its refusals one after another, and the reply from the rows that were read. Assumes nothing.
+use Prim.Native.Nat.{ℕ, _/_, _≤_}
+use mathlib.Core.Path.{_≡_, refl, sym, ap, _∙_}
+use mathlib.Core.List.{List, [], _∷_}
+use mathlib.Core.Bool.{true, false, not}
+use native.Mathlib.Omega.{arith}
+use lib.ListN.{length}
+use Rattle.header.specs.Refusals.{badArgument, outside}
+use Rattle.header.specs.Reply.{Reply, accepted, refusalOf}
+use Rattle.header.specs.declared.refusal.Refusal.{Refusal}
+use Rattle.elements.specs.Forest.{count}
+use Rattle.elements.specs.Reading.{Outcome, done, refused}
+use Rattle.elements.specs.Rows.{rows, width, rowsOf}
+use Rattle.elements.specs.Holds.{within}
+use Rattle.elements.specs.Promise.{allowed, readOf, replyOf, zeros, tableOf, ReadPromise}
+use Rattle.elements.specs.declared.row.Row.{Row}
+use Rattle.elements.specs.declared.reply.ReadReply.the-variants.{Rows, Refused as ReadRefused}
+use Rattle.elements.proofs.Outcomes.{refuses, passes}
+use Rattle.elements.proofs.Readback.{accepted-read}
+use Rattle.places.specs.Whose.{whoseIn, askedOf, whoseOf}
+use Rattle.places.specs.Promise.{told, WhosePromise}
+use Rattle.places.specs.declared.whose.WhoseReply.{WhoseReply}
+use Rattle.places.specs.declared.whose.WhoseReply.the-variants.{Refused}
+
+-- A refusal that the reading tells is told of the question.
+refusal-told : (start x : ℕ) (o : Outcome) (e : Refusal) → refusalOf e ≡ replyOf o → refusalOf e ≡ whoseOf start x o
+refusal-told start x (done f) e q = let z : _≡_ {A = ℕ} 0 1 = cc in absurd (omega arith)
+refusal-told start x (refused e′) e q = q
+
+module _ (s : List ℕ) (start size parent x : ℕ) (t t′ : List ℕ) where
+  refusal-is :
+      (e : Refusal) → askedOf s start size parent x (length t) ≡ refused e → t′ ≡ zeros (length t)
+      → WhosePromise s start size parent x t (Refused e) t′
+  unfolding tableOf
+  refusal-is e q z = record { reply = sym (ap (whoseOf start x) q); table = z ∙ sym (ap (tableOf start (length t)) q) }
+
+  pub asked-broken :
+      (e : Refusal) → allowed s start (length t) ≡ false → e ≡ badArgument → t′ ≡ zeros (length t)
+      → WhosePromise s start size parent x t (Refused e) t′
+  unfolding askedOf
+  asked-broken e a b z = refusal-is e (refuses _ _ _ (ap not a) ∙ rw b) z
+
+  module _ (a : allowed s start (length t) ≡ true) where
+    pub asked-outside :
+        (e : Refusal) → within start size x ≡ false → e ≡ outside → t′ ≡ zeros (length t)
+        → WhosePromise s start size parent x t (Refused e) t′
+    unfolding askedOf
+    asked-outside e w b z = refusal-is e (passes _ _ _ (ap not a) ∙ refuses _ _ _ (ap not w) ∙ rw b) z
+
+    module _ (w : within start size x ≡ true) where
+      -- Past 14 and 15 the question's outcome is the reading's.
+      asked-read : askedOf s start size parent x (length t) ≡ readOf s start size parent (length t)
+      unfolding askedOf readOf
+      asked-read = passes _ _ _ (ap not a) ∙ passes _ _ _ (ap not w) ∙ sym (passes _ _ _ (ap not a))
+
+      pub asked-refused :
+          (e : Refusal) → ReadPromise s start size parent t (ReadRefused e) t′
+          → WhosePromise s start size parent x t (Refused e) t′
+      asked-refused e p =
+          record {
+            reply = rw asked-read (refusal-told start x (readOf s start size parent (length t)) e (p .reply));
+            table = rw asked-read (p .table);
+          }
+
+      pub asked-found :
+          (n : ℕ) (r : WhoseReply) → ReadPromise s start size parent t (Rows n) t′
+          → told r ≡ whoseIn (rowsOf t′ n) 0 n x → WhosePromise s start size parent x t r t′
+      asked-found n r p q =
+          let i = accepted-read s start size parent t n t′ p in
+          let o = asked-read ∙ i .outcome in
+          record {
+            reply = q ∙ rw (i .rows-are, i .number) (sym (ap (whoseOf start x) o));
+            table = rw asked-read (p .table);
+          }
+
+  -- The rows that were read are rows of the table.
+  pub asked-rows : (n : ℕ) → ReadPromise s start size parent t (Rows n) t′ → n ≤ length t′ / width
+  asked-rows n p = let i = accepted-read s start size parent t n t′ p in rw (i .as-long) (i .fits)

@@ -1,0 +1,91 @@
+-- `find` meets its contract: the rows before row n do not hold the address. Assumes nothing.
+use Prim.Native.Nat.{_-_}
+use mathlib.Core.Path.{sym, _∙_}
+use native.Mathlib.Omega.{arith}
+use borrow.Author.Needs.{needs}
+use Rattle.places.proofs.Spots.{Walk, walk-from, walk-step, walk-on, walk-ends}
+use Rattle.places.specs.declared.whose.Part.the-variants.{Header, Payload}
+use mathlib.Core.Path.{refl, sym, _∙_}
+use Rattle.places.proofs.whose.find.Statement.{statement}
+use Rattle.places.proofs.whose.find.Tie as tie
+use Rattle.places.proofs.whose.find.Reads as reads
+use Rattle.places.proofs.whose.find.Lts as lts
+use Rattle.elements.proofs.row_at.Reads as row-at-reads
+use Rattle.header.proofs.refusal.Refusal.outside.Reads as outside-reads
+use Rattle.places.proofs.whose.part_of.Reads as part-of-reads
+
+-- `find` meets its contract: the rows before row n do not hold the address. Assumes nothing.
+
+abbrev Inv-loop : tie.InvT-loop
+Inv-loop table rows address n₀ n = Walk table rows address n
+
+abbrev μ-loop : tie.MeasureT-loop
+μ-loop table rows address n₀ n = rows - n
+
+loop-holds : tie.Need-loop-holds Inv-loop μ-loop
+loop-holds c = walk-from _ _ _
+
+row-at-requires : tie.Need-row-at-requires Inv-loop μ-loop
+row-at-requires c κs = omega arith
+
+part-of-requires : tie.Need-part-of-requires Inv-loop μ-loop
+part-of-requires c κs = search needs
+
+enum-told : tie.Need-enum-told Inv-loop μ-loop
+enum-told c = search needs
+
+returns : tie.Need-returns Inv-loop μ-loop
+returns c =
+    let r = c .before .before .before .row-at in
+    let q = sym (c .enum-told .given .1) ∙ c .before .before .part-of .ensures in
+    sym (walk-step _ _ _ _ (c .before .before .before .before .before .loop .inv) (c .before .before .before .before .loop-test .taken) (r .result) (r .ensures) Header q)
+
+enum-told-2 : tie.Need-enum-told-2 Inv-loop μ-loop
+enum-told-2 c = search needs
+
+returns-2 : tie.Need-returns-2 Inv-loop μ-loop
+returns-2 c =
+    let r = c .before .before .before .row-at in
+    let q = sym (c .enum-told2 .given .1) ∙ c .before .before .part-of .ensures in
+    sym (walk-step _ _ _ _ (c .before .before .before .before .before .loop .inv) (c .before .before .before .before .loop-test .taken) (r .result) (r .ensures) Payload q)
+
+enum-told-3 : tie.Need-enum-told-3 Inv-loop μ-loop
+enum-told-3 c = search needs
+
+add-n : tie.Need-add-n Inv-loop μ-loop
+add-n c = omega arith
+
+loop-less : tie.Need-loop-less Inv-loop μ-loop
+loop-less c = omega arith
+
+loop-again : tie.Need-loop-again Inv-loop μ-loop
+loop-again c =
+    let r = c .before .before .before .row-at in
+    let q = sym (c .enum-told3 .given .1) ∙ c .before .before .part-of .ensures in
+    walk-on _ _ _ _ (c .before .before .before .before .before .loop .inv) (c .before .before .before .before .loop-test .taken) (r .result) (r .ensures) q
+
+outside-requires : tie.Need-outside-requires Inv-loop μ-loop
+outside-requires c κs = search needs
+
+returns-3 : tie.Need-returns-3 Inv-loop μ-loop
+returns-3 c = walk-ends _ _ _ _ (c .before .before .loop .inv) _ (c .outside .ensures) (c .before .loop-test .left)
+
+pub find-spec : {M : Type 1} → statement M
+find-spec =
+    tie.close
+    (tie.spec
+    Inv-loop
+    μ-loop
+    loop-holds
+    row-at-requires
+    part-of-requires
+    enum-told
+    returns
+    enum-told-2
+    returns-2
+    enum-told-3
+    add-n
+    loop-less
+    loop-again
+    outside-requires
+    returns-3)

@@ -1,0 +1,99 @@
+-- `whose_byte` meets its contract: 14, 15, the reading into the cleared table, and the walk over its rows. Assumes nothing.
+use mathlib.Core.Path.{sym, _∙_}
+use Rattle.laws.proofs.Turned.{failed, passed}
+use Rattle.elements.proofs.Whole.{zeros-as, allowed-as, as-lent}
+use Rattle.places.proofs.Asked.{asked-broken, asked-outside, asked-refused, asked-rows, asked-found}
+use borrow.Author.Needs.{needs}
+use Rattle.places.proofs.whose.whose_byte.Statement.{statement}
+use Rattle.places.proofs.whose.whose_byte.Tie as tie
+use Rattle.places.proofs.whose.whose_byte.Reads as reads
+use Rattle.places.proofs.whose.whose_byte.Lts as lts
+use Rattle.elements.proofs.clear.Reads as clear-reads
+use Rattle.elements.proofs.fill.Reads as fill-reads
+use Rattle.elements.proofs.is_allowed.Reads as is-allowed-reads
+use Rattle.header.proofs.refusal.Refusal.bad_argument.Reads as bad-argument-reads
+use Rattle.header.proofs.refusal.Refusal.outside.Reads as outside-reads
+use Rattle.places.proofs.whose.find.Reads as find-reads
+use Rattle.places.proofs.whose.is_within.Reads as is-within-reads
+
+clear-requires : tie.Need-clear-requires
+clear-requires c κs = search needs
+
+is-allowed-requires : tie.Need-is-allowed-requires
+is-allowed-requires c κs = search needs
+
+bad-argument-requires : tie.Need-bad-argument-requires
+bad-argument-requires c κs = search needs
+
+same-length : tie.Need-same-length
+same-length c = search needs
+
+returns : tie.Need-returns
+returns c =
+    let k = c .before .before .before .before .before .before .clear in
+    let a = failed _ _ (c .before .before .is-allowed .ensures ∙ allowed-as _ _ (k .kept .0)) (c .before .if1 .taken) in
+    asked-broken _ _ _ _ _ _ _ _ a (c .bad-argument .ensures) (k .ensures)
+
+is-within-requires : tie.Need-is-within-requires
+is-within-requires c κs = search needs
+
+outside-requires : tie.Need-outside-requires
+outside-requires c κs = search needs
+
+same-length-2 : tie.Need-same-length-2
+same-length-2 c = search needs
+
+returns-2 : tie.Need-returns-2
+returns-2 c =
+    let k = c .before .before .before .before .before .before .before .before .clear in
+    let a = passed _ _ (c .before .before .before .before .is-allowed .ensures ∙ allowed-as _ _ (k .kept .0)) (c .before .before .before .if1 .left) in
+    let w = failed _ _ (c .before .before .is-within .ensures) (c .before .if2 .taken) in
+    asked-outside _ _ _ _ _ _ _ a _ w (c .outside .ensures) (k .ensures)
+
+fill-requires : tie.Need-fill-requires
+fill-requires c κs =
+    let k = c .before .before .before .before .before .before .before .before .clear in
+    (passed _ _ (c .before .before .before .before .is-allowed .ensures) (c .before .before .before .if1 .left), k .ensures ∙ zeros-as (sym (k .kept .0)))
+
+enum-known-refusal : tie.Need-enum-known-refusal
+enum-known-refusal c = search needs
+
+enum-known-rows : tie.Need-enum-known-rows
+enum-known-rows c = search needs
+
+find-requires : tie.Need-find-requires
+find-requires c κs = ?
+
+same-length-3 : tie.Need-same-length-3
+same-length-3 c = search needs
+
+returns-3 : tie.Need-returns-3
+returns-3 c = ?
+
+same-length-4 : tie.Need-same-length-4
+same-length-4 c = search needs
+
+returns-4 : tie.Need-returns-4
+returns-4 c = ?
+
+pub whose-byte-spec : {M : Type 1} → statement M
+whose-byte-spec =
+    tie.close
+    (tie.spec
+    clear-requires
+    is-allowed-requires
+    bad-argument-requires
+    same-length
+    returns
+    is-within-requires
+    outside-requires
+    same-length-2
+    returns-2
+    fill-requires
+    enum-known-refusal
+    enum-known-rows
+    find-requires
+    same-length-3
+    returns-3
+    same-length-4
+    returns-4)
