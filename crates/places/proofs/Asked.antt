@@ -27,6 +27,14 @@ refusal-told : (start x : ℕ) (o : Outcome) (e : Refusal) → refusalOf e ≡ r
 refusal-told start x (done f) e q = let z : _≡_ {A = ℕ} 0 1 = cc in absurd (omega arith)
 refusal-told start x (refused e′) e q = q
 
+-- The rows that were read are rows of the table.
+pub asked-rows :
+    (s : List ℕ) (start size parent : ℕ) (t t′ : List ℕ) (n : ℕ) → ReadPromise s start size parent t (Rows n) t′
+    → n ≤ length t′ / width
+asked-rows s start size parent t t′ n p =
+    let i = accepted-read s start size parent t n t′ p in
+    rw (i .as-long) (i .fits)
+
 module _ (s : List ℕ) (start size parent x : ℕ) (t t′ : List ℕ) where
   refusal-is :
       (e : Refusal) → askedOf s start size parent x (length t) ≡ refused e → t′ ≡ zeros (length t)
@@ -69,10 +77,10 @@ module _ (s : List ℕ) (start size parent x : ℕ) (t t′ : List ℕ) where
           let i = accepted-read s start size parent t n t′ p in
           let o = asked-read ∙ i .outcome in
           record {
-            reply = q ∙ rw (i .rows-are, i .number) (sym (ap (whoseOf start x) o));
+            reply =
+                q
+                ∙ ap (λ (rs : List Row). whoseIn rs 0 n x) (i .rows-are)
+                ∙ ap (λ (m : ℕ). whoseIn (rows 0 0 start 0 (i .forest)) 0 m x) (i .number)
+                ∙ sym (ap (whoseOf start x) o);
             table = rw asked-read (p .table);
           }
-
-  -- The rows that were read are rows of the table.
-  pub asked-rows : (n : ℕ) → ReadPromise s start size parent t (Rows n) t′ → n ≤ length t′ / width
-  asked-rows n p = let i = accepted-read s start size parent t n t′ p in rw (i .as-long) (i .fits)

@@ -2,3 +2,5 @@
 pub mod Ranges
 pub mod Spots
 pub mod Asked
+pub mod Unique
+pub mod Owners

@@ -16,6 +16,10 @@ use Rattle.header.proofs.refusal.Refusal.outside.Reads as outside-reads
 use Rattle.places.proofs.whose.find.Reads as find-reads
 use Rattle.places.proofs.whose.is_within.Reads as is-within-reads
 
+-- `whose_byte` meets its contract: 14, 15, the reading into the cleared table, and the walk over its rows. Assumes nothing.
+
+-- `whose_byte` meets its contract: 14, 15, the reading into the cleared table, and the walk over its rows. Assumes nothing.
+
 clear-requires : tie.Need-clear-requires
 clear-requires c κs = search needs
 
@@ -62,19 +66,30 @@ enum-known-rows : tie.Need-enum-known-rows
 enum-known-rows c = search needs
 
 find-requires : tie.Need-find-requires
-find-requires c κs = ?
+find-requires c κs =
+    asked-rows _ _ _ _ _ _ _ (rw (c .before .before .rows .given .1) at (c .before .before .before .before .before .before .fill .ensures))
 
 same-length-3 : tie.Need-same-length-3
 same-length-3 c = search needs
 
 returns-3 : tie.Need-returns-3
-returns-3 c = ?
+returns-3 c =
+    let k = c .before .before .before .before .before .before .before .before .before .before .before .before .before .before .clear in
+    let a = passed _ _ (c .before .before .before .before .before .before .before .before .before .before .is-allowed .ensures ∙ allowed-as _ _ (k .kept .0)) (c .before .before .before .before .before .before .before .before .before .if1 .left) in
+    let w = passed _ _ (c .before .before .before .before .before .before .before .before .is-within .ensures) (c .before .before .before .before .before .before .before .if2 .left) in
+    let p = rw (c .before .refusal .given .1) at (c .before .before .before .before .before .fill .ensures) in
+    asked-refused _ _ _ _ _ _ _ a w _ (as-lent _ _ _ _ _ _ _ _ (k .kept .0) p)
 
 same-length-4 : tie.Need-same-length-4
 same-length-4 c = search needs
 
 returns-4 : tie.Need-returns-4
-returns-4 c = ?
+returns-4 c =
+    let k = c .before .before .before .before .before .before .before .before .before .before .before .before .before .before .before .before .clear in
+    let a = passed _ _ (c .before .before .before .before .before .before .before .before .before .before .before .before .is-allowed .ensures ∙ allowed-as _ _ (k .kept .0)) (c .before .before .before .before .before .before .before .before .before .before .before .if1 .left) in
+    let w = passed _ _ (c .before .before .before .before .before .before .before .before .before .before .is-within .ensures) (c .before .before .before .before .before .before .before .before .before .if2 .left) in
+    let p = rw (c .before .before .before .rows .given .1) at (c .before .before .before .before .before .before .before .fill .ensures) in
+    asked-found _ _ _ _ _ _ _ a w _ _ (as-lent _ _ _ _ _ _ _ _ (k .kept .0) p) (c .find .ensures)
 
 pub whose-byte-spec : {M : Type 1} → statement M
 whose-byte-spec =
