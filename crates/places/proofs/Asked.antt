@@ -1,14 +1,13 @@
 -- The address question: its refusals one after another, and the reply from the rows that were read. Assumes nothing.
 use Prim.Native.Nat.{ℕ, _/_, _≤_}
-use mathlib.Core.Path.{_≡_, refl, sym, ap, _∙_}
-use mathlib.Core.List.{List, [], _∷_}
+use mathlib.Core.Path.{_≡_, sym, ap, _∙_}
+use mathlib.Core.List.{List}
 use mathlib.Core.Bool.{true, false, not}
 use native.Mathlib.Omega.{arith}
 use lib.ListN.{length}
 use Rattle.header.specs.Refusals.{badArgument, outside}
-use Rattle.header.specs.Reply.{Reply, accepted, refusalOf}
+use Rattle.header.specs.Reply.{refusalOf}
 use Rattle.header.specs.declared.refusal.Refusal.{Refusal}
-use Rattle.elements.specs.Forest.{count}
 use Rattle.elements.specs.Reading.{Outcome, done, refused}
 use Rattle.elements.specs.Rows.{rows, width, rowsOf}
 use Rattle.elements.specs.Holds.{within}

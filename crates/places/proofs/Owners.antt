@@ -1,28 +1,27 @@
 -- Where the payload is read, exactly one row holds the address, and the reply names it (`OneRowOwns`). Assumes nothing.
 use Prim.Native.Nat.{ℕ, zero, suc, _+_, _≤_, _<_}
-use mathlib.Core.Path.{_≡_, refl, sym, ap, _∙_, subst}
+use mathlib.Core.Path.{_≡_, refl, sym, ap, _∙_}
 use mathlib.Core.List.{List, [], _∷_}
 use mathlib.Core.Logic.{_⊎_, inl, inr, ⊎-elim}
-use mathlib.Core.Bool.{Bool, true, false, not, _||_}
+use mathlib.Core.Bool.{Bool, true, false, _||_}
 use native.Mathlib.Nat.{zero-add}
 use native.Mathlib.Omega.{arith}
 use lib.ListN.{length}
 use borrow.Author.Tests.{not-false}
-use Rattle.header.specs.Reply.{Reply, accepted}
+use Rattle.header.specs.Reply.{accepted}
 use Rattle.elements.specs.Forest.{Forest, count}
 use Rattle.elements.specs.Reading.{done}
 use Rattle.elements.specs.Rows.{rows}
 use Rattle.elements.specs.Holds.{within, inHeader, inLeaf, one, holders}
-use Rattle.elements.specs.Promise.{allowed, readOf}
+use Rattle.elements.specs.Promise.{readOf}
 use Rattle.elements.specs.Theorems.{nth}
 use Rattle.elements.specs.declared.row.Row.{Row}
 use Rattle.elements.proofs.Forests.{length-rows}
 use Rattle.elements.proofs.Outcomes.{passes, of-refuse}
 use Rattle.elements.proofs.Partition.{covered}
 use Rattle.places.specs.Whose.{partIn, whoseIn, askedOf, whoseOf}
-use Rattle.places.specs.Promise.{told, WhosePromise}
-use Rattle.places.specs.Theorems.{Owner, OneRowOwns}
-use Rattle.places.specs.declared.whose.WhoseReply.{WhoseReply}
+use Rattle.places.specs.Promise.{told}
+use Rattle.places.specs.Theorems.{OneRowOwns}
 use Rattle.places.specs.declared.whose.WhoseReply.the-variants.{Header, Payload}
 use Rattle.places.proofs.Unique.{replied, replied-back}
 
@@ -146,8 +145,12 @@ row-owns s start size parent x t r t′ f p q =
       which =
           ⊎-elim
           (λ d. inl (
-            sym (replied-back r) ∙ ap replied (y ∙ d .0) ∙ ap (λ (m : ℕ). Header m (count f)) k, d .1))
+            sym (replied-back r) ∙ ap replied (y ∙ d .0) ∙ ap (λ (m : ℕ). Header m (count f)) k,
+            d .1,
+          ))
           (λ d. inr (
-            sym (replied-back r) ∙ ap replied (y ∙ d .0) ∙ ap (λ (m : ℕ). Payload m (count f)) k, d .1))
+            sym (replied-back r) ∙ ap replied (y ∙ d .0) ∙ ap (λ (m : ℕ). Payload m (count f)) k,
+            d .1,
+          ))
           (g .which);
     }

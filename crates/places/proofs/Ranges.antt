@@ -1,7 +1,7 @@
 -- A row's payload: its range and the part of the recording, and when there is none. Assumes nothing.
 use Prim.Native.Nat.{ℕ, _+_, _-_, _/_, _≤_, _<_}
-use mathlib.Core.Path.{_≡_, refl, sym, ap, _∙_}
-use mathlib.Core.List.{List, [], _∷_}
+use mathlib.Core.Path.{_≡_, refl, sym, ap}
+use mathlib.Core.List.{List, []}
 use mathlib.Core.Bool.{Bool, true, false, cond, _&&_}
 use native.Mathlib.Omega.{arith}
 use lib.ListN.{length, take, drop}
@@ -9,7 +9,6 @@ use lib.Dec.{ltb, leb}
 use borrow.Author.Tests.{leb-true, le-leb, lt-leb, lt-ltb, le-ltb}
 use Rattle.header.specs.Promise.{mostBytes}
 use Rattle.header.specs.Refusals.{badArgument}
-use Rattle.header.specs.Reply.{Reply, accepted, refusalOf}
 use Rattle.header.specs.declared.refusal.Refusal.{Refusal}
 use Rattle.bodies.specs.declared.body.Range.{Range}
 use Rattle.elements.specs.Rows.{width, rowAt}
@@ -78,7 +77,8 @@ place-inside s t k at n q =
     go r true e true true g w =
         let first : r .address + r .header ≡ at = cc in
         let many : r .payload ≡ n = cc in
-        record { ends = omega (arith, leb-true (r .address + r .header + r .payload) (length s) g); short = within s 0 (length t) e .bytes }
+        let end = leb-true (r .address + r .header + r .payload) (length s) g in
+        record { ends = omega arith; short = within s 0 (length t) e .bytes }
     go r true e true false g w = let z : _≡_ {A = ℕ} 0 1 = cc in absurd (omega arith)
     go r true e false c g w = let z : _≡_ {A = ℕ} 0 1 = cc in absurd (omega arith)
     go r false e b c g w = let z : _≡_ {A = ℕ} 0 1 = cc in absurd (omega arith)

@@ -10,9 +10,9 @@ use lib.Seq.{drop-drop}
 use lib.Dec.{ltb}
 use borrow.Author.Tests.{ltb-true, ltb-false, le-leb, lt-leb, lt-ltb, le-ltb, eq-eqb, ne-eqb}
 use Rattle.header.specs.Refusals.{outside}
-use Rattle.header.specs.Reply.{Reply, refusalOf}
+use Rattle.header.specs.Reply.{refusalOf}
 use Rattle.header.specs.declared.refusal.Refusal.{Refusal}
-use Rattle.elements.specs.Rows.{width, firstRow, rowAt, rowsOf}
+use Rattle.elements.specs.Rows.{width, rowAt, rowsOf}
 use Rattle.elements.specs.Holds.{within}
 use Rattle.elements.specs.declared.row.Row.{Row}
 use Rattle.places.specs.Whose.{partIn, named, whoseIn}
@@ -70,7 +70,8 @@ module _ (r : Row) (x : ℕ) where
               le-ltb x (r .address + r .header) behind,
               ne-eqb (r .kind) 1 k,
               le-leb (r .address + r .header) x behind,
-              lt-ltb x (r .address + r .header + r .payload) m)
+              lt-ltb x (r .address + r .header + r .payload) m,
+            )
 
         pub part-behind : r .payload ≤ x - r .address - r .header → Neither ≡ partIn r x
         unfolding partIn
@@ -81,7 +82,8 @@ module _ (r : Row) (x : ℕ) where
               le-ltb x (r .address + r .header) behind,
               ne-eqb (r .kind) 1 k,
               le-leb (r .address + r .header) x behind,
-              le-ltb x (r .address + r .header + r .payload) m)
+              le-ltb x (r .address + r .header + r .payload) m,
+            )
 
 -- ---- the walk
 

@@ -4,8 +4,6 @@ use mathlib.Core.Bool.{cond}
 use lib.ListN.{getD}
 use lib.Dec.{eqb}
 use Rattle.header.specs.Reply.{Reply, accepted, refusal}
-use Rattle.elements.specs.Promise.{tableOf}
-use Rattle.places.specs.Whose.{askedOf, whoseOf}
 use Rattle.places.specs.Promise.{rangeTold, told}
 use Rattle.places.specs.Theorems.{OneRange, OnePayload, OneOwner}
 use Rattle.places.specs.declared.payload.RangeReply.{RangeReply}

@@ -5,11 +5,6 @@ use Rattle.places.proofs.Ranges.{not-allowed, no-row, past-end, range-i
 use borrow.Author.Needs.{needs}
 use Rattle.places.proofs.payload.payload_range.Statement.{statement}
 use Rattle.places.proofs.payload.payload_range.Tie as tie
-use Rattle.places.proofs.payload.payload_range.Reads as reads
-use Rattle.places.proofs.payload.payload_range.Lts as lts
-use Rattle.elements.proofs.is_allowed.Reads as is-allowed-reads
-use Rattle.elements.proofs.row_at.Reads as row-at-reads
-use Rattle.header.proofs.refusal.Refusal.bad_argument.Reads as bad-argument-reads
 
 is-allowed-requires : tie.Need-is-allowed-requires
 is-allowed-requires c κs = search needs
@@ -19,7 +14,8 @@ bad-argument-requires c κs = search needs
 
 returns : tie.Need-returns
 returns c =
-    not-allowed _ _ _ _ (failed _ _ (c .before .before .is-allowed .ensures) (c .before .if1 .taken)) (c .bad-argument .ensures)
+    let a = failed _ _ (c .before .before .is-allowed .ensures) (c .before .if1 .taken) in
+    not-allowed _ _ _ _ a (c .bad-argument .ensures)
 
 bad-argument-requires-2 : tie.Need-bad-argument-requires-2
 bad-argument-requires-2 c κs = search needs
@@ -37,34 +33,41 @@ bad-argument-requires-3 c κs = search needs
 
 returns-3 : tie.Need-returns-3
 returns-3 c =
-    let a = passed _ _ (c .before .before .before .before .before .is-allowed .ensures) (c .before .before .before .before .if1 .left) in
+    let d = c .before .before .before .before in
+    let a = passed _ _ (d .before .is-allowed .ensures) (d .if1 .left) in
     let r = c .before .before .row-at in
-    past-end _ _ _ a (c .before .before .before .if2 .left) (r .result) (r .ensures) _ (omega arith) (c .bad-argument3 .ensures)
+    past-end _ _ _ a (c .before .before .before .if2 .left) (r .result) (r .ensures) _
+    (omega arith) (c .bad-argument3 .ensures)
 
 bad-argument-requires-4 : tie.Need-bad-argument-requires-4
 bad-argument-requires-4 c κs = search needs
 
 returns-4 : tie.Need-returns-4
 returns-4 c =
-    let a = passed _ _ (c .before .before .before .before .before .before .is-allowed .ensures) (c .before .before .before .before .before .if1 .left) in
+    let d = c .before .before .before .before .before in
+    let a = passed _ _ (d .before .is-allowed .ensures) (d .if1 .left) in
     let r = c .before .before .before .row-at in
-    past-end _ _ _ a (c .before .before .before .before .if2 .left) (r .result) (r .ensures) _ (omega arith) (c .bad-argument4 .ensures)
+    past-end _ _ _ a (c .before .before .before .before .if2 .left) (r .result) (r .ensures) _
+    (omega arith) (c .bad-argument4 .ensures)
 
 bad-argument-requires-5 : tie.Need-bad-argument-requires-5
 bad-argument-requires-5 c κs = search needs
 
 returns-5 : tie.Need-returns-5
 returns-5 c =
-    let a = passed _ _ (c .before .before .before .before .before .before .before .is-allowed .ensures) (c .before .before .before .before .before .before .if1 .left) in
+    let d = c .before .before .before .before .before .before in
+    let a = passed _ _ (d .before .is-allowed .ensures) (d .if1 .left) in
     let r = c .before .before .before .before .row-at in
-    past-end _ _ _ a (c .before .before .before .before .before .if2 .left) (r .result) (r .ensures) _ (omega arith) (c .bad-argument5 .ensures)
+    past-end _ _ _ a (c .before .before .before .before .before .if2 .left) (r .result) (r .ensures) _
+    (omega arith) (c .bad-argument5 .ensures)
 
 add-at : tie.Need-add-at
 add-at c = search needs
 
 returns-6 : tie.Need-returns-6
 returns-6 c =
-    let a = passed _ _ (c .before .before .before .before .before .before .is-allowed .ensures) (c .before .before .before .before .before .if1 .left) in
+    let d = c .before .before .before .before .before in
+    let a = passed _ _ (d .before .is-allowed .ensures) (d .if1 .left) in
     let r = c .before .before .before .row-at in
     range-is _ _ _ a (c .before .before .before .before .if2 .left) (r .result) (r .ensures) (omega arith)
 

@@ -4,9 +4,6 @@ use Rattle.places.proofs.Ranges.{range-inside, part-is, part-none}
 use borrow.Author.Needs.{needs}
 use Rattle.places.proofs.payload.row_payload.Statement.{statement}
 use Rattle.places.proofs.payload.row_payload.Tie as tie
-use Rattle.places.proofs.payload.row_payload.Reads as reads
-use Rattle.places.proofs.payload.row_payload.Lts as lts
-use Rattle.places.proofs.payload.payload_range.Reads as payload-range-reads
 
 payload-range-requires : tie.Need-payload-range-requires
 payload-range-requires c κs = search needs
@@ -22,7 +19,8 @@ enum-known-range c = search needs
 
 add-end : tie.Need-add-end
 add-end c =
-    let i = range-inside _ _ _ _ (rw (c .before .before .range .given .1) at (c .before .before .before .before .payload-range .ensures)) in
+    let d = c .before .before in
+    let i = range-inside _ _ _ _ (rw (d .range .given .1) at (d .before .before .payload-range .ensures)) in
     omega (arith, i .ends, i .short)
 
 sub-result : tie.Need-sub-result
@@ -33,16 +31,19 @@ part-result-start c = search needs
 
 part-result-end : tie.Need-part-result-end
 part-result-end c =
-    let i = range-inside _ _ _ _ (rw (c .before .before .range .given .1) at (c .before .before .before .before .payload-range .ensures)) in
+    let d = c .before .before in
+    let i = range-inside _ _ _ _ (rw (d .range .given .1) at (d .before .before .payload-range .ensures)) in
     omega (arith, i .ends)
 
 returns : tie.Need-returns
 returns c =
-    part-none _ _ _ _ (rw (c .before .enum-told .given .1) at (c .before .before .before .payload-range .ensures))
+    let d = c .before in
+    part-none _ _ _ _ (rw (d .enum-told .given .1) at (d .before .before .payload-range .ensures))
 
 returns-2 : tie.Need-returns-2
 returns-2 c =
-    part-is _ _ _ _ (rw (c .before .before .before .range .given .1) at (c .before .before .before .before .before .payload-range .ensures))
+    let d = c .before .before .before in
+    part-is _ _ _ _ (rw (d .range .given .1) at (d .before .before .payload-range .ensures))
 
 pub row-payload-spec : {M : Type 1} → statement M
 row-payload-spec =

@@ -3,18 +3,10 @@ use Prim.Native.Nat.{_-_}
 use mathlib.Core.Path.{sym, _∙_}
 use native.Mathlib.Omega.{arith}
 use borrow.Author.Needs.{needs}
-use Rattle.places.proofs.Spots.{Walk, walk-from, walk-step, walk-on, walk-ends}
 use Rattle.places.specs.declared.whose.Part.the-variants.{Header, Payload}
-use mathlib.Core.Path.{refl, sym, _∙_}
+use Rattle.places.proofs.Spots.{Walk, walk-from, walk-step, walk-on, walk-ends}
 use Rattle.places.proofs.whose.find.Statement.{statement}
 use Rattle.places.proofs.whose.find.Tie as tie
-use Rattle.places.proofs.whose.find.Reads as reads
-use Rattle.places.proofs.whose.find.Lts as lts
-use Rattle.elements.proofs.row_at.Reads as row-at-reads
-use Rattle.header.proofs.refusal.Refusal.outside.Reads as outside-reads
-use Rattle.places.proofs.whose.part_of.Reads as part-of-reads
-
--- `find` meets its contract: the rows before row n do not hold the address. Assumes nothing.
 
 abbrev Inv-loop : tie.InvT-loop
 Inv-loop table rows address n₀ n = Walk table rows address n
@@ -36,18 +28,20 @@ enum-told c = search needs
 
 returns : tie.Need-returns Inv-loop μ-loop
 returns c =
+    let d = c .before .before .before .before in
     let r = c .before .before .before .row-at in
     let q = sym (c .enum-told .given .1) ∙ c .before .before .part-of .ensures in
-    sym (walk-step _ _ _ _ (c .before .before .before .before .before .loop .inv) (c .before .before .before .before .loop-test .taken) (r .result) (r .ensures) Header q)
+    sym (walk-step _ _ _ _ (d .before .loop .inv) (d .loop-test .taken) (r .result) (r .ensures) Header q)
 
 enum-told-2 : tie.Need-enum-told-2 Inv-loop μ-loop
 enum-told-2 c = search needs
 
 returns-2 : tie.Need-returns-2 Inv-loop μ-loop
 returns-2 c =
+    let d = c .before .before .before .before in
     let r = c .before .before .before .row-at in
     let q = sym (c .enum-told2 .given .1) ∙ c .before .before .part-of .ensures in
-    sym (walk-step _ _ _ _ (c .before .before .before .before .before .loop .inv) (c .before .before .before .before .loop-test .taken) (r .result) (r .ensures) Payload q)
+    sym (walk-step _ _ _ _ (d .before .loop .inv) (d .loop-test .taken) (r .result) (r .ensures) Payload q)
 
 enum-told-3 : tie.Need-enum-told-3 Inv-loop μ-loop
 enum-told-3 c = search needs
@@ -60,9 +54,10 @@ loop-less c = omega arith
 
 loop-again : tie.Need-loop-again Inv-loop μ-loop
 loop-again c =
+    let d = c .before .before .before .before in
     let r = c .before .before .before .row-at in
     let q = sym (c .enum-told3 .given .1) ∙ c .before .before .part-of .ensures in
-    walk-on _ _ _ _ (c .before .before .before .before .before .loop .inv) (c .before .before .before .before .loop-test .taken) (r .result) (r .ensures) q
+    walk-on _ _ _ _ (d .before .loop .inv) (d .loop-test .taken) (r .result) (r .ensures) q
 
 outside-requires : tie.Need-outside-requires Inv-loop μ-loop
 outside-requires c κs = search needs

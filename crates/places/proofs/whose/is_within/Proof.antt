@@ -2,8 +2,6 @@
 use Rattle.places.proofs.Spots.{before-span, by-difference}
 use Rattle.places.proofs.whose.is_within.Statement.{statement}
 use Rattle.places.proofs.whose.is_within.Tie as tie
-use Rattle.places.proofs.whose.is_within.Reads as reads
-use Rattle.places.proofs.whose.is_within.Lts as lts
 
 returns : tie.Need-returns
 returns c = before-span _ _ _ (c .if1 .taken)

@@ -2,8 +2,6 @@
 use Rattle.places.proofs.Spots.{part-before, part-header, part-master, part-payload, part-behind}
 use Rattle.places.proofs.whose.part_of.Statement.{statement}
 use Rattle.places.proofs.whose.part_of.Tie as tie
-use Rattle.places.proofs.whose.part_of.Reads as reads
-use Rattle.places.proofs.whose.part_of.Lts as lts
 
 returns : tie.Need-returns
 returns c = part-before _ _ (c .if1 .taken)
@@ -13,15 +11,20 @@ returns-2 c = part-header _ _ (c .before .before .before .if1 .left) (c .if2 .ta
 
 returns-3 : tie.Need-returns-3
 returns-3 c =
-    part-master _ _ (c .before .before .before .before .before .if1 .left) (c .before .before .if2 .left) (c .if3 .taken)
+    let d = c .before .before in
+    part-master _ _ (d .before .before .before .if1 .left) (d .if2 .left) (c .if3 .taken)
 
 returns-4 : tie.Need-returns-4
 returns-4 c =
-    part-payload _ _ (c .before .before .before .before .before .before .before .before .if1 .left) (c .before .before .before .before .before .if2 .left) (c .before .before .before .if3 .left) (c .if4 .taken)
+    let b = c .before .before .before in
+    let d = b .before .before in
+    part-payload _ _ (d .before .before .before .if1 .left) (d .if2 .left) (b .if3 .left) (c .if4 .taken)
 
 returns-5 : tie.Need-returns-5
 returns-5 c =
-    part-behind _ _ (c .before .before .before .before .before .before .before .before .if1 .left) (c .before .before .before .before .before .if2 .left) (c .before .before .before .if3 .left) (c .if4 .left)
+    let b = c .before .before .before in
+    let d = b .before .before in
+    part-behind _ _ (d .before .before .before .if1 .left) (d .if2 .left) (b .if3 .left) (c .if4 .left)
 
 pub part-of-spec : {M : Type 1} → statement M
 part-of-spec = tie.close (tie.spec returns returns-2 returns-3 returns-4 returns-5)

@@ -1,4 +1,4 @@
--- `whose_byte` meets its contract: 14, 15, the reading into the cleared table, and the walk over its rows. Assumes nothing.
+-- `whose_byte` meets its contract: 14, 15, the reading into the cleared table, the walk over its rows. Assumes nothing.
 use mathlib.Core.Path.{sym, _∙_}
 use Rattle.laws.proofs.Turned.{failed, passed}
 use Rattle.elements.proofs.Whole.{zeros-as, allowed-as, as-lent}
@@ -6,19 +6,6 @@ use Rattle.places.proofs.Asked.{asked-broken, asked-outside, asked-refu
 use borrow.Author.Needs.{needs}
 use Rattle.places.proofs.whose.whose_byte.Statement.{statement}
 use Rattle.places.proofs.whose.whose_byte.Tie as tie
-use Rattle.places.proofs.whose.whose_byte.Reads as reads
-use Rattle.places.proofs.whose.whose_byte.Lts as lts
-use Rattle.elements.proofs.clear.Reads as clear-reads
-use Rattle.elements.proofs.fill.Reads as fill-reads
-use Rattle.elements.proofs.is_allowed.Reads as is-allowed-reads
-use Rattle.header.proofs.refusal.Refusal.bad_argument.Reads as bad-argument-reads
-use Rattle.header.proofs.refusal.Refusal.outside.Reads as outside-reads
-use Rattle.places.proofs.whose.find.Reads as find-reads
-use Rattle.places.proofs.whose.is_within.Reads as is-within-reads
-
--- `whose_byte` meets its contract: 14, 15, the reading into the cleared table, and the walk over its rows. Assumes nothing.
-
--- `whose_byte` meets its contract: 14, 15, the reading into the cleared table, and the walk over its rows. Assumes nothing.
 
 clear-requires : tie.Need-clear-requires
 clear-requires c κs = search needs
@@ -34,8 +21,9 @@ same-length c = search needs
 
 returns : tie.Need-returns
 returns c =
-    let k = c .before .before .before .before .before .before .clear in
-    let a = failed _ _ (c .before .before .is-allowed .ensures ∙ allowed-as _ _ (k .kept .0)) (c .before .if1 .taken) in
+    let d = c .before .before in
+    let k = d .before .before .before .before .clear in
+    let a = failed _ _ (d .is-allowed .ensures ∙ allowed-as _ _ (k .kept .0)) (c .before .if1 .taken) in
     asked-broken _ _ _ _ _ _ _ _ a (c .bad-argument .ensures) (k .ensures)
 
 is-within-requires : tie.Need-is-within-requires
@@ -49,15 +37,17 @@ same-length-2 c = search needs
 
 returns-2 : tie.Need-returns-2
 returns-2 c =
-    let k = c .before .before .before .before .before .before .before .before .clear in
-    let a = passed _ _ (c .before .before .before .before .is-allowed .ensures ∙ allowed-as _ _ (k .kept .0)) (c .before .before .before .if1 .left) in
+    let d = c .before .before .before in
+    let k = d .before .before .before .before .before .clear in
+    let a = passed _ _ (d .before .is-allowed .ensures ∙ allowed-as _ _ (k .kept .0)) (d .if1 .left) in
     let w = failed _ _ (c .before .before .is-within .ensures) (c .before .if2 .taken) in
     asked-outside _ _ _ _ _ _ _ a _ w (c .outside .ensures) (k .ensures)
 
 fill-requires : tie.Need-fill-requires
 fill-requires c κs =
-    let k = c .before .before .before .before .before .before .before .before .clear in
-    (passed _ _ (c .before .before .before .before .is-allowed .ensures) (c .before .before .before .if1 .left), k .ensures ∙ zeros-as (sym (k .kept .0)))
+    let d = c .before .before .before in
+    let k = d .before .before .before .before .before .clear in
+    (passed _ _ (d .before .is-allowed .ensures) (d .if1 .left), k .ensures ∙ zeros-as (sym (k .kept .0)))
 
 enum-known-refusal : tie.Need-enum-known-refusal
 enum-known-refusal c = search needs
@@ -67,17 +57,21 @@ enum-known-rows c = search needs
 
 find-requires : tie.Need-find-requires
 find-requires c κs =
-    asked-rows _ _ _ _ _ _ _ (rw (c .before .before .rows .given .1) at (c .before .before .before .before .before .before .fill .ensures))
+    let d = c .before .before in
+    asked-rows _ _ _ _ _ _ _ (rw (d .rows .given .1) at (d .before .before .before .before .fill .ensures))
 
 same-length-3 : tie.Need-same-length-3
 same-length-3 c = search needs
 
 returns-3 : tie.Need-returns-3
 returns-3 c =
-    let k = c .before .before .before .before .before .before .before .before .before .before .before .before .before .before .clear in
-    let a = passed _ _ (c .before .before .before .before .before .before .before .before .before .before .is-allowed .ensures ∙ allowed-as _ _ (k .kept .0)) (c .before .before .before .before .before .before .before .before .before .if1 .left) in
-    let w = passed _ _ (c .before .before .before .before .before .before .before .before .is-within .ensures) (c .before .before .before .before .before .before .before .if2 .left) in
-    let p = rw (c .before .refusal .given .1) at (c .before .before .before .before .before .fill .ensures) in
+    let b = c .before in
+    let d = b .before .before .before .before .before .before in
+    let e = d .before .before in
+    let k = e .before .before .before .before .before .clear in
+    let a = passed _ _ (e .before .is-allowed .ensures ∙ allowed-as _ _ (k .kept .0)) (e .if1 .left) in
+    let w = passed _ _ (d .before .is-within .ensures) (d .if2 .left) in
+    let p = rw (b .refusal .given .1) at (b .before .before .before .before .fill .ensures) in
     asked-refused _ _ _ _ _ _ _ a w _ (as-lent _ _ _ _ _ _ _ _ (k .kept .0) p)
 
 same-length-4 : tie.Need-same-length-4
@@ -85,10 +79,13 @@ same-length-4 c = search needs
 
 returns-4 : tie.Need-returns-4
 returns-4 c =
-    let k = c .before .before .before .before .before .before .before .before .before .before .before .before .before .before .before .before .clear in
-    let a = passed _ _ (c .before .before .before .before .before .before .before .before .before .before .before .before .is-allowed .ensures ∙ allowed-as _ _ (k .kept .0)) (c .before .before .before .before .before .before .before .before .before .before .before .if1 .left) in
-    let w = passed _ _ (c .before .before .before .before .before .before .before .before .before .before .is-within .ensures) (c .before .before .before .before .before .before .before .before .before .if2 .left) in
-    let p = rw (c .before .before .before .rows .given .1) at (c .before .before .before .before .before .before .before .fill .ensures) in
+    let b = c .before .before .before in
+    let d = b .before .before .before .before .before .before in
+    let e = d .before .before in
+    let k = e .before .before .before .before .before .clear in
+    let a = passed _ _ (e .before .is-allowed .ensures ∙ allowed-as _ _ (k .kept .0)) (e .if1 .left) in
+    let w = passed _ _ (d .before .is-within .ensures) (d .if2 .left) in
+    let p = rw (b .rows .given .1) at (b .before .before .before .before .fill .ensures) in
     asked-found _ _ _ _ _ _ _ a w _ _ (as-lent _ _ _ _ _ _ _ _ (k .kept .0) p) (c .find .ensures)
 
 pub whose-byte-spec : {M : Type 1} → statement M
