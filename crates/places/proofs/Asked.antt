@@ -1,6 +1,6 @@
 -- The address question: its refusals one after another, and the reply from the rows that were read. Assumes nothing.
 use Prim.Native.Nat.{ℕ, _/_, _≤_}
-use mathlib.Core.Path.{_≡_, sym, ap, _∙_}
+use mathlib.Core.Path.{_≡_, refl, sym, ap, _∙_}
 use mathlib.Core.List.{List}
 use mathlib.Core.Bool.{true, false, not}
 use native.Mathlib.Omega.{arith}
@@ -35,11 +35,17 @@ asked-rows s start size parent t t′ n p =
     rw (i .as-long) (i .fits)
 
 module _ (s : List ℕ) (start size parent x : ℕ) (t t′ : List ℕ) where
+  -- The reply and the table that tell the question's outcome.
+  outcome-told :
+      (r : WhoseReply) (o : Outcome) → askedOf s start size parent x (length t) ≡ o → told r ≡ whoseOf start x o
+      → t′ ≡ tableOf start (length t) o → WhosePromise s start size parent x t r t′
+  outcome-told r o e q z = record { reply = rw e q; table = rw e z }
+
   refusal-is :
       (e : Refusal) → askedOf s start size parent x (length t) ≡ refused e → t′ ≡ zeros (length t)
       → WhosePromise s start size parent x t (Refused e) t′
   unfolding tableOf
-  refusal-is e q z = record { reply = sym (ap (whoseOf start x) q); table = z ∙ sym (ap (tableOf start (length t)) q) }
+  refusal-is e q z = outcome-told (Refused e) (refused e) q refl z
 
   pub asked-broken :
       (e : Refusal) → allowed s start (length t) ≡ false → e ≡ badArgument → t′ ≡ zeros (length t)
@@ -64,22 +70,18 @@ module _ (s : List ℕ) (start size parent x : ℕ) (t t′ : List ℕ) where
           (e : Refusal) → ReadPromise s start size parent t (ReadRefused e) t′
           → WhosePromise s start size parent x t (Refused e) t′
       asked-refused e p =
-          record {
-            reply = rw asked-read (refusal-told start x (readOf s start size parent (length t)) e (p .reply));
-            table = rw asked-read (p .table);
-          }
+          let o = readOf s start size parent (length t) in
+          outcome-told (Refused e) o asked-read (refusal-told start x o e (p .reply)) (p .table)
 
       pub asked-found :
           (n : ℕ) (r : WhoseReply) → ReadPromise s start size parent t (Rows n) t′
           → told r ≡ whoseIn (rowsOf t′ n) 0 n x → WhosePromise s start size parent x t r t′
       asked-found n r p q =
           let i = accepted-read s start size parent t n t′ p in
-          let o = asked-read ∙ i .outcome in
-          record {
-            reply =
-                q
-                ∙ ap (λ (rs : List Row). whoseIn rs 0 n x) (i .rows-are)
-                ∙ ap (λ (m : ℕ). whoseIn (rows 0 0 start 0 (i .forest)) 0 m x) (i .number)
-                ∙ sym (ap (whoseOf start x) o);
-            table = rw asked-read (p .table);
-          }
+          let o = readOf s start size parent (length t) in
+          outcome-told r o asked-read
+          (q
+          ∙ ap (λ (rs : List Row). whoseIn rs 0 n x) (i .rows-are)
+          ∙ ap (λ (m : ℕ). whoseIn (rows 0 0 start 0 (i .forest)) 0 m x) (i .number)
+          ∙ sym (ap (whoseOf start x) (i .outcome)))
+          (p .table)

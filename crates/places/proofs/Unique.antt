@@ -1,9 +1,12 @@
 -- Any two replies that a promise permits are equal (`OneRange`, `OnePayload`, `OneOwner`). Assumes nothing.
+use Prim.Native.Nat.{ℕ}
 use mathlib.Core.Path.{_≡_, refl, sym, ap, _∙_}
 use mathlib.Core.Bool.{cond}
 use lib.ListN.{getD}
 use lib.Dec.{eqb}
 use Rattle.header.specs.Reply.{Reply, accepted, refusal}
+use Rattle.elements.specs.Promise.{tableOf}
+use Rattle.places.specs.Whose.{askedOf, whoseOf}
 use Rattle.places.specs.Promise.{rangeTold, told}
 use Rattle.places.specs.Theorems.{OneRange, OnePayload, OneOwner}
 use Rattle.places.specs.declared.payload.RangeReply.{RangeReply}
@@ -43,6 +46,7 @@ payload-unique s t row part part′ p q = p .reply ∙ sym (q .reply)
 
 pub owner-unique : OneOwner
 owner-unique s start size parent x t u r r′ t′ u′ l p q =
-    let a = rw l at (p .reply) in
-    let b = rw l at (p .table) in
-    (sym (replied-back r) ∙ ap replied (a ∙ sym (q .reply)) ∙ replied-back r′, b ∙ sym (q .table))
+    let asked = λ (n : ℕ). askedOf s start size parent x n in
+    let a = p .reply ∙ ap (λ (n : ℕ). whoseOf start x (asked n)) l ∙ sym (q .reply) in
+    let b = p .table ∙ ap (λ (n : ℕ). tableOf start n (asked n)) l ∙ sym (q .table) in
+    (sym (replied-back r) ∙ ap replied a ∙ replied-back r′, b)

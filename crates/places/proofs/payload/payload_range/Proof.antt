@@ -23,7 +23,7 @@ bad-argument-requires-2 c κs = search needs
 returns-2 : tie.Need-returns-2
 returns-2 c =
     let a = passed _ _ (c .before .before .before .is-allowed .ensures) (c .before .before .if1 .left) in
-    no-row _ _ _ a _ (c .before .if2 .taken) (c .bad-argument2 .ensures)
+    no-row _ _ _ a _ (omega arith) (c .bad-argument2 .ensures)
 
 row-at-requires : tie.Need-row-at-requires
 row-at-requires c κs = search needs
