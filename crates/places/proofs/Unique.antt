@@ -5,6 +5,7 @@ use mathlib.Core.Bool.{cond}
 use lib.ListN.{getD}
 use lib.Dec.{eqb}
 use Rattle.header.specs.Reply.{Reply, accepted, refusal}
+use Rattle.elements.specs.Reading.{Outcome}
 use Rattle.elements.specs.Promise.{tableOf}
 use Rattle.places.specs.Whose.{askedOf, whoseOf}
 use Rattle.places.specs.Promise.{rangeTold, told}
@@ -46,7 +47,7 @@ payload-unique s t row part part′ p q = p .reply ∙ sym (q .reply)
 
 pub owner-unique : OneOwner
 owner-unique s start size parent x t u r r′ t′ u′ l p q =
-    let asked = λ (n : ℕ). askedOf s start size parent x n in
+    let asked : ℕ → Outcome = λ n. askedOf s start size parent x n in
     let a = p .reply ∙ ap (λ (n : ℕ). whoseOf start x (asked n)) l ∙ sym (q .reply) in
     let b = p .table ∙ ap (λ (n : ℕ). tableOf start n (asked n)) l ∙ sym (q .table) in
     (sym (replied-back r) ∙ ap replied a ∙ replied-back r′, b)
