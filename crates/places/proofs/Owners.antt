@@ -1,7 +1,7 @@
 -- Where the payload is read, exactly one row holds the address, and the reply names it (`OneRowOwns`). Assumes nothing.
-use Prim.Native.Nat.{ℕ, zero, suc, _+_, _≤_, _<_}
-use mathlib.Core.Path.{_≡_, refl, sym, ap, _∙_}
-use mathlib.Core.List.{List, [], _∷_}
+use Prim.Native.Nat.{ℕ, zero, suc, _+_, _-_, _*_, _≤_, _<_}
+use mathlib.Core.Path.{_≡_, refl, sym, ap, _∙_, subst}
+use mathlib.Core.List.{List, [], _∷_, _++_}
 use mathlib.Core.Logic.{_⊎_, inl, inr, ⊎-elim}
 use mathlib.Core.Bool.{Bool, true, false, _||_}
 use native.Mathlib.Nat.{zero-add}
@@ -11,17 +11,19 @@ use borrow.Author.Tests.{not-false}
 use Rattle.header.specs.Reply.{accepted}
 use Rattle.elements.specs.Forest.{Forest, count}
 use Rattle.elements.specs.Reading.{done}
-use Rattle.elements.specs.Rows.{rows}
+use Rattle.elements.specs.Rows.{rows, width, flatten, rowsOf}
 use Rattle.elements.specs.Holds.{within, inHeader, inLeaf, one, holders}
-use Rattle.elements.specs.Promise.{readOf}
+use Rattle.elements.specs.Promise.{readOf, zeros, tableOf}
 use Rattle.elements.specs.Theorems.{nth}
 use Rattle.elements.specs.declared.row.Row.{Row}
 use Rattle.elements.proofs.Forests.{length-rows}
 use Rattle.elements.proofs.Outcomes.{passes, of-refuse}
 use Rattle.elements.proofs.Partition.{covered}
-use Rattle.places.specs.Whose.{partIn, whoseIn, askedOf, whoseOf}
-use Rattle.places.specs.Promise.{told}
-use Rattle.places.specs.Theorems.{OneRowOwns}
+use Rattle.elements.proofs.Readback.{rows-back}
+use Rattle.places.specs.Whose.{holderIn, whoseIn, askedOf, whoseOf}
+use Rattle.places.specs.Promise.{told, WhosePromise}
+use Rattle.places.specs.Theorems.{Owner, OneRowOwns}
+use Rattle.places.specs.declared.whose.WhoseReply.{WhoseReply}
 use Rattle.places.specs.declared.whose.WhoseReply.the-variants.{Header, Payload}
 use Rattle.places.proofs.Unique.{replied, replied-back}
 
@@ -67,7 +69,7 @@ only-later r rs x n e o (suc m) l q = ap suc (o m (omega arith) q)
 
 module _ (r : Row) (rs : List Row) (k total x : ℕ) where
   by-header : inHeader r x ≡ true → holders rs x ≡ 0 → Found (r ∷ rs) k total x
-  unfolding whoseIn partIn nth
+  unfolding whoseIn holderIn nth
   by-header e z =
       let first : k ≡ k + 0 = omega arith in
       record {
@@ -78,7 +80,7 @@ module _ (r : Row) (rs : List Row) (k total x : ℕ) where
       }
 
   by-payload : inHeader r x ≡ false → inLeaf r x ≡ true → holders rs x ≡ 0 → Found (r ∷ rs) k total x
-  unfolding whoseIn partIn nth
+  unfolding whoseIn holderIn nth
   by-payload d e z =
       let first : k ≡ k + 0 = omega arith in
       record {
@@ -89,7 +91,7 @@ module _ (r : Row) (rs : List Row) (k total x : ℕ) where
       }
 
   by-later : inHeader r x ≡ false → inLeaf r x ≡ false → Found rs (k + 1) total x → Found (r ∷ rs) k total x
-  unfolding whoseIn partIn nth
+  unfolding whoseIn holderIn nth
   by-later d e f =
       let next : k + 1 + f .n ≡ k + suc (f .n) = omega arith in
       record {
@@ -129,28 +131,43 @@ asked-done s start size parent x numbers f q =
     let b = of-refuse _ _ _ (a .1) in
     (not-false _ (b .0), passes _ _ _ (a .0) ∙ b .1)
 
+-- The table holds the rows that were read.
+table-rows : (s : List ℕ) (start size parent x : ℕ) (t : List ℕ) (r : WhoseReply) (t′ : List ℕ) (f : Forest)
+    → WhosePromise s start size parent x t r t′ → askedOf s start size parent x (length t) ≡ done f
+    → rowsOf t′ (count f) ≡ rows 0 0 start 0 f
+unfolding tableOf
+table-rows s start size parent x t r t′ f p q =
+    let rs = rows 0 0 start 0 f in
+    let w = p .table ∙ ap (tableOf start (length t)) q in
+    ap (λ (u : List ℕ). rowsOf u (count f)) w
+    ∙ ap (rowsOf (flatten rs ++ zeros (length t - count f * width))) (sym (length-rows 0 0 start 0 f))
+    ∙ rows-back rs (zeros (length t - count f * width))
+
 pub row-owns : OneRowOwns
 row-owns s start size parent x t r t′ f p q =
     let (i, o) = asked-done s start size parent x (length t) f q in
     let rs = rows 0 0 start 0 f in
     let h : holders rs x ≡ 1 = covered s start size parent (length t) f o x ∙ ap one i in
     let g = found rs 0 (count f) x h in
-    let c : length rs ≡ count f = length-rows 0 0 start 0 f in
+    let c : count f ≡ length rs = sym (length-rows 0 0 start 0 f) in
     let y : told r ≡ whoseIn rs 0 (count f) x = p .reply ∙ ap (whoseOf start x) q in
     let k : 0 + g .n ≡ g .n = zero-add (g .n) in
-    record {
+    subst (λ (us : List Row). Owner us x r) (sym (table-rows s start size parent x t r t′ f p q))
+    (record {
       row = g .n;
-      there = omega (arith, g .there);
-      only = λ m l e. g .only m (omega arith) e;
+      there = g .there;
+      only = g .only;
       which =
           ⊎-elim
           (λ d. inl (
-            sym (replied-back r) ∙ ap replied (y ∙ d .0) ∙ ap (λ (m : ℕ). Header m (count f)) k,
+            sym (replied-back r) ∙ ap replied (y ∙ d .0) ∙ ap (λ (m : ℕ). Header m (count f)) k
+            ∙ ap (λ (m : ℕ). Header (g .n) m) c,
             d .1,
           ))
           (λ d. inr (
-            sym (replied-back r) ∙ ap replied (y ∙ d .0) ∙ ap (λ (m : ℕ). Payload m (count f)) k,
+            sym (replied-back r) ∙ ap replied (y ∙ d .0) ∙ ap (λ (m : ℕ). Payload m (count f)) k
+            ∙ ap (λ (m : ℕ). Payload (g .n) m) c,
             d .1,
           ))
           (g .which);
-    }
+    })

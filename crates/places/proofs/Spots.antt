@@ -15,9 +15,9 @@ use Rattle.header.specs.declared.refusal.Refusal.{Refusal}
 use Rattle.elements.specs.Rows.{width, rowAt, rowsOf}
 use Rattle.elements.specs.Holds.{within}
 use Rattle.elements.specs.declared.row.Row.{Row}
-use Rattle.places.specs.Whose.{partIn, named, whoseIn}
-use Rattle.places.specs.declared.whose.Part.{Part}
-use Rattle.places.specs.declared.whose.Part.the-variants.{Header, Payload, Neither}
+use Rattle.places.specs.Whose.{holderIn, named, whoseIn}
+use Rattle.places.specs.declared.whose.Holder.{Holder}
+use Rattle.places.specs.declared.whose.Holder.the-variants.{Header, Payload, Neither}
 
 -- ---- a span, tested without a sum
 
@@ -39,16 +39,16 @@ and-false false = refl
 -- ---- one row
 
 module _ (r : Row) (x : ℕ) where
-  pub part-before : x < r .address → Neither ≡ partIn r x
-  unfolding partIn
-  part-before l =
+  pub holder-before : x < r .address → Neither ≡ holderIn r x
+  unfolding holderIn
+  holder-before l =
       let m : x < r .address + r .header = omega arith in
       rw (lt-leb (r .address) x l, lt-leb (r .address + r .header) x m, and-false)
 
   module _ (l : r .address ≤ x) where
-    pub part-header : x - r .address < r .header → Header ≡ partIn r x
-    unfolding partIn
-    part-header h =
+    pub holder-header : x - r .address < r .header → Header ≡ holderIn r x
+    unfolding holderIn
+    holder-header h =
         let m : x < r .address + r .header = omega arith in
         rw (le-leb (r .address) x l, lt-ltb x (r .address + r .header) m)
 
@@ -56,14 +56,14 @@ module _ (r : Row) (x : ℕ) where
       behind : r .address + r .header ≤ x
       behind = omega arith
 
-      pub part-master : r .kind ≡ 1 → Neither ≡ partIn r x
-      unfolding partIn
-      part-master k = rw (le-leb (r .address) x l, le-ltb x (r .address + r .header) behind, eq-eqb (r .kind) 1 k)
+      pub holder-master : r .kind ≡ 1 → Neither ≡ holderIn r x
+      unfolding holderIn
+      holder-master k = rw (le-leb (r .address) x l, le-ltb x (r .address + r .header) behind, eq-eqb (r .kind) 1 k)
 
       module _ (k : r .kind ≡ 1 → ⊥) where
-        pub part-payload : x - r .address - r .header < r .payload → Payload ≡ partIn r x
-        unfolding partIn
-        part-payload p =
+        pub holder-payload : x - r .address - r .header < r .payload → Payload ≡ holderIn r x
+        unfolding holderIn
+        holder-payload p =
             let m : x < r .address + r .header + r .payload = omega arith in
             rw (
               le-leb (r .address) x l,
@@ -73,9 +73,9 @@ module _ (r : Row) (x : ℕ) where
               lt-ltb x (r .address + r .header + r .payload) m,
             )
 
-        pub part-behind : r .payload ≤ x - r .address - r .header → Neither ≡ partIn r x
-        unfolding partIn
-        part-behind p =
+        pub holder-behind : r .payload ≤ x - r .address - r .header → Neither ≡ holderIn r x
+        unfolding holderIn
+        holder-behind p =
             let m : r .address + r .header + r .payload ≤ x = omega arith in
             rw (
               le-leb (r .address) x l,
@@ -103,7 +103,7 @@ module _ (t : List ℕ) (rows x n : ℕ) (w : Walk t rows x n) where
 
   module _ (l : n < rows) (r : Row) (e : r ≡ rowAt t n) where
     pub walk-step :
-        (p : Part) → p ≡ partIn r x
+        (p : Holder) → p ≡ holderIn r x
         → whoseIn (rowsOf t rows) 0 rows x
         ≡ named p n rows (whoseIn (rowsOf (drop ((n + 1) * width) t) (rows - (n + 1))) (n + 1) rows x)
     unfolding whoseIn rowsOf rowAt
@@ -112,5 +112,5 @@ module _ (t : List ℕ) (rows x n : ℕ) (w : Walk t rows x n) where
         let d : n * width + width ≡ (n + 1) * width = omega arith in
         w .rest ∙ rw (f, drop-drop width (n * width) t, d, q, e)
 
-    pub walk-on : Neither ≡ partIn r x → Walk t rows x (n + 1)
+    pub walk-on : Neither ≡ holderIn r x → Walk t rows x (n + 1)
     walk-on q = record { some = omega arith; rest = walk-step Neither q }

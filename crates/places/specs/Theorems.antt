@@ -1,5 +1,5 @@
 -- What is proved of the definitions beside the contracts: the statements of the theorems.
-use Prim.Native.Nat.{ℕ, _+_, _<_}
+use Prim.Native.Nat.{ℕ, _<_}
 use mathlib.Core.Path.{_≡_}
 use mathlib.Core.List.{List}
 use mathlib.Core.Logic.{_⊎_}
@@ -7,9 +7,10 @@ use mathlib.Core.Bool.{true, _||_}
 use lib.ListN.{length}
 use Rattle.elements.specs.Forest.{Forest, count}
 use Rattle.elements.specs.Reading.{done}
-use Rattle.elements.specs.Rows.{rows}
+use Rattle.elements.specs.Rows.{rowsOf}
 use Rattle.elements.specs.Holds.{inHeader, inLeaf}
 use Rattle.elements.specs.Theorems.{nth}
+use Rattle.elements.specs.declared.row.Row.{Row}
 use Rattle.places.specs.Whose.{askedOf}
 use Rattle.places.specs.Promise.{RangePromise, PayloadPromise, WhosePromise}
 use Rattle.places.specs.declared.payload.RangeReply.{RangeReply}
@@ -33,20 +34,18 @@ OneOwner =
 
 -- The owner of an address among rows: one of them holds it, by its header or by its leaf payload as the reply says, and
 -- no other row holds it.
-pub record Owner (start x : ℕ) (f : Forest) (r : WhoseReply) : Type 0 where
+pub record Owner (rs : List Row) (x : ℕ) (r : WhoseReply) : Type 0 where
   pub row : ℕ
-  pub there : row < count f
-  pub only :
-      (m : ℕ) → m < count f
-      → (inHeader (nth (rows 0 0 start 0 f) m) x || inLeaf (nth (rows 0 0 start 0 f) m) x) ≡ true → m ≡ row
+  pub there : row < length rs
+  pub only : (m : ℕ) → m < length rs → (inHeader (nth rs m) x || inLeaf (nth rs m) x) ≡ true → m ≡ row
   pub which :
-      ((r ≡ Header row (count f)) × (inHeader (nth (rows 0 0 start 0 f) row) x ≡ true))
-      ⊎ ((r ≡ Payload row (count f)) × (inLeaf (nth (rows 0 0 start 0 f) row) x ≡ true))
+      ((r ≡ Header row (length rs)) × (inHeader (nth rs row) x ≡ true))
+      ⊎ ((r ≡ Payload row (length rs)) × (inLeaf (nth rs row) x ≡ true))
 
--- Where the payload is read, the address has exactly one owner, and the reply names it: 'no such row' is never the
--- reason of a refusal.
+-- Where the payload is read, the address has exactly one owner among the rows that the table holds at exit, and the
+-- reply names it: 'no such row' is never the reason of a refusal.
 abbrev pub OneRowOwns : Type 0
 OneRowOwns =
     (s : List ℕ) (start size parent x : ℕ) (t : List ℕ) (r : WhoseReply) (t′ : List ℕ) (f : Forest)
     → WhosePromise s start size parent x t r t′ → askedOf s start size parent x (length t) ≡ done f
-    → Owner start x f r
+    → Owner (rowsOf t′ (count f)) x r

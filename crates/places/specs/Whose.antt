@@ -10,23 +10,24 @@ use Rattle.elements.specs.Rows.{rows}
 use Rattle.elements.specs.Holds.{within, inHeader, inLeaf}
 use Rattle.elements.specs.Promise.{allowed, filled}
 use Rattle.elements.specs.declared.row.Row.{Row}
-use Rattle.places.specs.declared.whose.Part.{Part}
-use Rattle.places.specs.declared.whose.Part.the-variants.{Header, Payload, Neither}
+use Rattle.places.specs.declared.whose.Holder.{Holder}
+use Rattle.places.specs.declared.whose.Holder.the-variants.{Header, Payload, Neither}
 
 -- What of a row holds the address.
-unfoldable pub partIn : Row → ℕ → Part
-partIn r x = cond (inHeader r x) Header (cond (inLeaf r x) Payload Neither)
+unfoldable pub holderIn : Row → ℕ → Holder
+holderIn r x = cond (inHeader r x) Header (cond (inLeaf r x) Payload Neither)
 
 -- The reply: the row, 0 for its header or 1 for its payload, and how many rows there are.
-abbrev pub named : Part → ℕ → ℕ → Reply → Reply
-named Header row rows others = accepted (row ∷ 0 ∷ rows ∷ [])
-named Payload row rows others = accepted (row ∷ 1 ∷ rows ∷ [])
-named Neither row rows others = others
+abbrev pub named : Holder → ℕ → ℕ → Reply → Reply
+named Header row total others = accepted (row ∷ 0 ∷ total ∷ [])
+named Payload row total others = accepted (row ∷ 1 ∷ total ∷ [])
+named Neither row total others = others
 
--- The first row that holds the address, the rows counted from `row` on; 15 where none does.
+-- The first row that holds the address, the rows counted from `row` on. Where none does the answer would be 15; that
+-- one always does is a theorem (`OneRowOwns`).
 unfoldable pub whoseIn : List Row → ℕ → ℕ → ℕ → Reply
-whoseIn [] row rows x = refusalOf outside
-whoseIn (r ∷ rs) row rows x = named (partIn r x) row rows (whoseIn rs (row + 1) rows x)
+whoseIn [] row total x = refusalOf outside
+whoseIn (r ∷ rs) row total x = named (holderIn r x) row total (whoseIn rs (row + 1) total x)
 
 -- 14; then 15 for an address outside the payload that the caller named; then the reading.
 unfoldable pub askedOf : List ℕ → ℕ → ℕ → ℕ → ℕ → ℕ → Outcome

@@ -4,7 +4,7 @@ ghost use Prim.Native.Nat.{_/_, _≤_};
 ghost use lib.ListN.{length};
 ghost use Rattle.elements.specs.Rows.{width, rowsOf};
 ghost use Rattle.elements.specs.Holds.{within};
-ghost use Rattle.places.specs.Whose.{partIn, whoseIn};
+ghost use Rattle.places.specs.Whose.{holderIn, whoseIn};
 ghost use Rattle.places.specs.Promise.{told, WhosePromise};
 use elements::ReadReply;
 use elements::Row;
@@ -13,9 +13,7 @@ use elements::fill;
 use elements::is_allowed;
 use elements::row_at;
 use header::Refusal;
-
-// The number of the kind that holds elements.
-const MASTER: u64 = 1;
+use kinds::MASTER;
 
 // The row that holds the address by its header or by its payload, and how many rows there are; or a refusal.
 pub enum WhoseReply {
@@ -25,7 +23,7 @@ pub enum WhoseReply {
 }
 
 // What of a row holds an address.
-pub enum Part {
+pub enum Holder {
     Header,
     Payload,
     Neither,
@@ -42,24 +40,24 @@ fn is_within(start: u64, size: u64, address: u64) -> bool
 }
 
 // A header is its row's own, and so is a leaf's payload; a master's payload is its children's.
-fn part_of(row: Row, address: u64) -> Part
-    ensures { λ r. ⌜ r ≡ partIn row address ⌝ }
+fn held_by(row: Row, address: u64) -> Holder
+    ensures { λ r. ⌜ r ≡ holderIn row address ⌝ }
 {
     if address < row.address {
-        return Part::Neither;
+        return Holder::Neither;
     }
     let past = address - row.address;
     if past < row.header {
-        return Part::Header;
+        return Holder::Header;
     }
     if row.kind == MASTER {
-        return Part::Neither;
+        return Holder::Neither;
     }
     let into = past - row.header;
     if into < row.payload {
-        return Part::Payload;
+        return Holder::Payload;
     }
-    Part::Neither
+    Holder::Neither
 }
 
 // The first of the table's rows that holds the address.
@@ -69,20 +67,20 @@ fn find(table: &[u64], rows: usize, address: u64) -> WhoseReply
 {
     let mut n: usize = 0;
     while n < rows {
-        match part_of(row_at(table, n), address) {
-            Part::Header => {
+        match held_by(row_at(table, n), address) {
+            Holder::Header => {
                 return WhoseReply::Header {
                     row: n as u64,
                     rows: rows as u64,
                 };
             }
-            Part::Payload => {
+            Holder::Payload => {
                 return WhoseReply::Payload {
                     row: n as u64,
                     rows: rows as u64,
                 };
             }
-            Part::Neither => {
+            Holder::Neither => {
                 n += 1;
             }
         }

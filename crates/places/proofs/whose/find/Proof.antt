@@ -3,7 +3,7 @@ use Prim.Native.Nat.{_-_}
 use mathlib.Core.Path.{sym, _∙_}
 use native.Mathlib.Omega.{arith}
 use borrow.Author.Needs.{needs}
-use Rattle.places.specs.declared.whose.Part.the-variants.{Header, Payload}
+use Rattle.places.specs.declared.whose.Holder.the-variants.{Header, Payload}
 use Rattle.places.proofs.Spots.{Walk, walk-from, walk-step, walk-on, walk-ends}
 use Rattle.places.proofs.whose.find.Statement.{statement}
 use Rattle.places.proofs.whose.find.Tie as tie
@@ -20,8 +20,8 @@ loop-holds c = walk-from _ _ _
 row-at-requires : tie.Need-row-at-requires Inv-loop μ-loop
 row-at-requires c κs = omega arith
 
-part-of-requires : tie.Need-part-of-requires Inv-loop μ-loop
-part-of-requires c κs = search needs
+held-by-requires : tie.Need-held-by-requires Inv-loop μ-loop
+held-by-requires c κs = search needs
 
 enum-told : tie.Need-enum-told Inv-loop μ-loop
 enum-told c = search needs
@@ -30,7 +30,7 @@ returns : tie.Need-returns Inv-loop μ-loop
 returns c =
     let d = c .before .before .before .before in
     let r = c .before .before .before .row-at in
-    let q = sym (c .enum-told .given .1) ∙ c .before .before .part-of .ensures in
+    let q = sym (c .enum-told .given .1) ∙ c .before .before .held-by .ensures in
     sym (walk-step _ _ _ _ (d .before .loop .inv) (d .loop-test .taken) (r .result) (r .ensures) Header q)
 
 enum-told-2 : tie.Need-enum-told-2 Inv-loop μ-loop
@@ -40,7 +40,7 @@ returns-2 : tie.Need-returns-2 Inv-loop μ-loop
 returns-2 c =
     let d = c .before .before .before .before in
     let r = c .before .before .before .row-at in
-    let q = sym (c .enum-told2 .given .1) ∙ c .before .before .part-of .ensures in
+    let q = sym (c .enum-told2 .given .1) ∙ c .before .before .held-by .ensures in
     sym (walk-step _ _ _ _ (d .before .loop .inv) (d .loop-test .taken) (r .result) (r .ensures) Payload q)
 
 enum-told-3 : tie.Need-enum-told-3 Inv-loop μ-loop
@@ -56,7 +56,7 @@ loop-again : tie.Need-loop-again Inv-loop μ-loop
 loop-again c =
     let d = c .before .before .before .before in
     let r = c .before .before .before .row-at in
-    let q = sym (c .enum-told3 .given .1) ∙ c .before .before .part-of .ensures in
+    let q = sym (c .enum-told3 .given .1) ∙ c .before .before .held-by .ensures in
     walk-on _ _ _ _ (d .before .loop .inv) (d .loop-test .taken) (r .result) (r .ensures) q
 
 outside-requires : tie.Need-outside-requires Inv-loop μ-loop
@@ -73,7 +73,7 @@ find-spec =
     μ-loop
     loop-holds
     row-at-requires
-    part-of-requires
+    held-by-requires
     enum-told
     returns
     enum-told-2
