@@ -17,3 +17,4 @@ pub mod Family
 pub mod Lossless
 pub mod Cases
 pub mod Useless
+pub mod Depths

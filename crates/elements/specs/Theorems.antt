@@ -1,5 +1,5 @@
 -- What is proved of the definitions beside the contracts: the statements of the theorems.
-use Prim.Native.Nat.{ℕ, zero, suc, _+_, _≤_, _<_}
+use Prim.Native.Nat.{ℕ, zero, suc, _+_, _/_, _≤_, _<_}
 use mathlib.Core.Path.{_≡_}
 use mathlib.Core.List.{List, [], _∷_, _++_}
 use mathlib.Core.Logic.{_⊎_}
@@ -12,7 +12,8 @@ use Rattle.kinds.specs.Entries.{kindOf}
 use Rattle.kinds.specs.Kinds.{numberOf, kindUnder}
 use Rattle.bodies.specs.Bodies.{bodyOf}
 use Rattle.elements.specs.Forest.{Forest, span, count}
-use Rattle.elements.specs.Rows.{rows, rowsOf}
+use Rattle.elements.specs.Reading.{depths}
+use Rattle.elements.specs.Rows.{rows, width, rowsOf}
 use Rattle.elements.specs.Stands.{IsValue, Stands}
 use Rattle.elements.specs.Holds.{isLeaf, holders}
 use Rattle.elements.specs.Promise.{ReadPromise}
@@ -113,3 +114,15 @@ abbrev pub RowsSound : Type 0
 RowsSound =
     (s : List ℕ) (start size parent : ℕ) (t : List ℕ) (n : ℕ) (t′ : List ℕ)
     → ReadPromise s start size parent t (Rows n) t′ → Each (Sound s) (rowsOf t′ n)
+
+-- The direct rows have depth 0, so no row is deeper than 15.
+abbrev pub DepthsAllowed : Type 0
+DepthsAllowed =
+    (s : List ℕ) (start size parent : ℕ) (t : List ℕ) (n : ℕ) (t′ : List ℕ)
+    → ReadPromise s start size parent t (Rows n) t′ → Each (λ r. r .depth < depths) (rowsOf t′ n)
+
+-- There are no more rows than the table has, and it stays as long as it was.
+abbrev pub RowsFit : Type 0
+RowsFit =
+    (s : List ℕ) (start size parent : ℕ) (t : List ℕ) (n : ℕ) (t′ : List ℕ)
+    → ReadPromise s start size parent t (Rows n) t′ → (n ≤ length t / width) × (length t′ ≡ length t)

@@ -161,12 +161,12 @@ row-owns s start size parent x t r t′ f p q =
           ⊎-elim
           (λ d. inl (
             sym (replied-back r) ∙ ap replied (y ∙ d .0) ∙ ap (λ (m : ℕ). Header m (count f)) k
-            ∙ ap (λ (m : ℕ). Header (g .n) m) c,
+                ∙ ap (λ (m : ℕ). Header (g .n) m) c,
             d .1,
           ))
           (λ d. inr (
             sym (replied-back r) ∙ ap replied (y ∙ d .0) ∙ ap (λ (m : ℕ). Payload m (count f)) k
-            ∙ ap (λ (m : ℕ). Payload (g .n) m) c,
+                ∙ ap (λ (m : ℕ). Payload (g .n) m) c,
             d .1,
           ))
           (g .which);
