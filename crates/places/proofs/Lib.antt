@@ -4,3 +4,4 @@ pub mod Spots
 pub mod Asked
 pub mod Unique
 pub mod Owners
+pub mod Accepted

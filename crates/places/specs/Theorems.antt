@@ -1,5 +1,5 @@
 -- What is proved of the definitions beside the contracts: the statements of the theorems.
-use Prim.Native.Nat.{ℕ, _<_}
+use Prim.Native.Nat.{ℕ, _+_, _<_}
 use mathlib.Core.Path.{_≡_}
 use mathlib.Core.List.{List}
 use mathlib.Core.Logic.{_⊎_}
@@ -7,10 +7,13 @@ use mathlib.Core.Bool.{true, _||_}
 use lib.ListN.{length}
 use Rattle.elements.specs.Forest.{Forest, count}
 use Rattle.elements.specs.Reading.{done}
-use Rattle.elements.specs.Rows.{rowsOf}
+use Rattle.elements.specs.Rows.{rowAt, rowsOf}
 use Rattle.elements.specs.Holds.{inHeader, inLeaf}
 use Rattle.elements.specs.Theorems.{nth}
+use Rattle.elements.specs.Promise.{ReadPromise}
 use Rattle.elements.specs.declared.row.Row.{Row}
+use Rattle.elements.specs.declared.reply.ReadReply.the-variants.{Rows}
+use Rattle.places.specs.Payload.{range, placeOf}
 use Rattle.places.specs.Whose.{askedOf}
 use Rattle.places.specs.Promise.{RangePromise, PayloadPromise, WhosePromise}
 use Rattle.places.specs.declared.payload.RangeReply.{RangeReply}
@@ -49,3 +52,11 @@ OneRowOwns =
     (s : List ℕ) (start size parent x : ℕ) (t : List ℕ) (r : WhoseReply) (t′ : List ℕ) (f : Forest)
     → WhosePromise s start size parent x t r t′ → askedOf s start size parent x (length t) ≡ done f
     → Owner (rowsOf t′ (count f)) x r
+
+-- Each row of an accepted read has its payload in the recording: its range is not refused.
+abbrev pub RowsHaveRanges : Type 0
+RowsHaveRanges =
+    (s : List ℕ) (start size parent : ℕ) (t : List ℕ) (n : ℕ) (t′ : List ℕ)
+    → ReadPromise s start size parent t (Rows n) t′
+    → (k : ℕ) → k < n
+    → placeOf s t′ k ≡ range (rowAt t′ k .address + rowAt t′ k .header) (rowAt t′ k .payload)
