@@ -70,7 +70,8 @@ was-allowed s start size parent numbers q = not-false _ (of-refuse _ _ _ q .0)
 pub rows-have-ranges : RowsHaveRanges
 rows-have-ranges s start size parent t n t′ p k l =
     let a = accepted-read s start size parent t n t′ p in
-    let sound = each-at (Sound s) (rowsOf t′ n) k (rw (length-rows-of t′ n) l) (rows-sound s start size parent t n t′ p) in
+    let all = rows-sound s start size parent t n t′ p in
+    let sound = each-at (Sound s) (rowsOf t′ n) k (rw (length-rows-of t′ n) l) all in
     let mine = subst (Sound s) (row-of t′ n k l) sound in
     let free = from-zero s start (length t) (was-allowed s start size parent (length t) (a .outcome)) in
     let few = a .fits in

@@ -35,7 +35,7 @@ pub struct Pairs {
 const PAIRS: usize = 16_384;
 
 /// What stands in a recording's head: a parent, and its children in a usual order.
-const HEAD: [(u32, &[u32]); 16] = [
+pub const HEAD: [(u32, &[u32]); 16] = [
     (SEGMENT, &[SEEKHEAD, INFO, TRACKS, CHAPTERS, TAGS]),
     (SEEKHEAD, &[SEEK, SEEK, SEEK, SEEK]),
     (SEEK, &[SEEKID, SEEKPOSITION]),
@@ -94,7 +94,7 @@ const HEAD: [(u32, &[u32]); 16] = [
 ];
 
 /// The children of a track. Some flags are younger than the sets, and so unlisted.
-const TRACK: [u32; 17] = [
+pub const TRACK: [u32; 17] = [
     TRACKNUMBER,
     TRACKUID,
     TRACKTYPE,
@@ -180,6 +180,9 @@ impl Texts {
 /// The length of the long texts.
 const LENGTH: usize = 32_768;
 
+/// How many short names there are.
+pub const NAMES: usize = 2_048;
+
 /// Characters of one, two, three and four bytes.
 const SPANS: [(u32, u32); 4] = [
     (0x20, 0x7e),
@@ -237,19 +240,15 @@ pub fn texts() -> Vec<Texts> {
     .collect::<Vec<_>>();
     sorts.push(Texts {
         name: "short names",
-        texts: short(chance),
+        texts: (0..NAMES).map(|_| name(chance)).collect(),
     });
     sorts
 }
 
-/// Names of 4 to 43 bytes: ASCII, and one of four in words of two-byte letters.
-fn short(chance: &mut Chance) -> Vec<Vec<u8>> {
+/// A name of 4 to 43 bytes: ASCII, and one of four in words of two-byte letters.
+pub fn name(chance: &mut Chance) -> Vec<u8> {
     let [ascii, two, ..] = SPANS;
-    (0..LENGTH / 16)
-        .map(|_| {
-            let length = 4 + chance.below(39);
-            let span = if chance.below(4) == 0 { two } else { ascii };
-            text(length, || of_words(chance, span))
-        })
-        .collect()
+    let length = 4 + chance.below(39);
+    let span = if chance.below(4) == 0 { two } else { ascii };
+    text(length, || of_words(chance, span))
 }

@@ -1,8 +1,11 @@
-//! Times our lookups of kinds and our tests of UTF-8 beside Rust's: bench ROUNDS.
-//! First all answers have to agree; status 1 and one line if they don't.
+//! Times our lookups of kinds, tests of UTF-8 and reads of elements beside Rust's: bench ROUNDS.
+//! First all answers have to agree and the checks to pass; status 1 and one line if they don't.
 
+mod checks;
 mod inputs;
 mod ours;
+mod payloads;
+mod reads;
 mod sorted;
 mod timing;
 
@@ -25,12 +28,15 @@ fn main() {
     let sorted = Sorted::new();
     let pairs = inputs::pairs();
     let texts = inputs::texts();
+    let payloads = payloads::payloads();
     for pairs in &pairs {
         check_kinds(pairs, &sorted);
     }
     for texts in &texts {
         check_utf8(texts);
     }
+    reads::check(&payloads);
+    checks::run();
     println!(
         "All answers agree. {rounds} rounds: the median, least to most, and the median's rate."
     );
@@ -39,6 +45,9 @@ fn main() {
     }
     for texts in &texts {
         time_utf8(texts, rounds);
+    }
+    for payload in &payloads {
+        reads::time(payload, rounds);
     }
 }
 
