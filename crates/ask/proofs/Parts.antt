@@ -5,9 +5,9 @@ use Prim.Native.Nat.{ℕ, _≤_}
 use native.Mathlib.Omega.{arith}
 use lib.ListN.{length, take}
 use lib.Seq.{length-take-le}
-use Rattle.ask.specs.Bounds.{Few}
-use Rattle.ask.specs.declared.words.Spelt.{Spelt}
-use Rattle.ask.specs.declared.words.Spelt.the-variants.{Bytes}
+use Rattle.lines.specs.Bounds.{Few}
+use Rattle.lines.specs.declared.words.Spelt.{Spelt}
+use Rattle.lines.specs.declared.words.Spelt.the-variants.{Bytes}
 
 pub spelt-part :
     (r : Spelt) (n : ℕ) → r ≡ Bytes n → Few r → (buffer : List ℕ) → length buffer ≡ 65536

@@ -1,12 +1,12 @@
 // The questions by their first word, and how many words each has.
-ghost use Rattle.ask.specs.Bounds.{Fits};
+ghost use Rattle.lines.specs.Bounds.{Fits};
 use crate::ask_body::body;
 use crate::ask_header::header;
 use crate::ask_kind::kind;
 use crate::ask_utf8::utf8;
-use crate::out::Held;
 use crate::told::bad;
-use crate::words;
+use lines::out::Held;
+use lines::words;
 
 // Answers one line. A line that was too long to hold is no question.
 pub fn answer(

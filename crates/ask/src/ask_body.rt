@@ -1,16 +1,17 @@
 // `body ID PARENT AT SIZE BYTES`: the body of an id under a parent id, at a place of a recording.
-ghost use Rattle.ask.specs.Bounds.{Fits};
-use crate::out;
-use crate::out::Held;
+ghost use Rattle.lines.specs.Bounds.{Fits};
 use crate::told;
 use crate::told::bad;
 use crate::told::refused;
-use crate::words;
-use crate::words::Count;
-use crate::words::Named;
-use crate::words::Spelt;
 use bodies::Body;
 use bodies::BodyReply;
+use lines::numbers;
+use lines::out;
+use lines::out::Held;
+use lines::words;
+use lines::words::Count;
+use lines::words::Named;
+use lines::words::Spelt;
 
 // The numbers of the question.
 pub enum Asked {
@@ -87,19 +88,19 @@ fn value_told(body: Body, out: &mut [u8; 65536], held: Held) -> Held
     match body {
         Body::Integer(value) => {
             let n = out::put(out, held, b"int ");
-            told::integer(value, out, n)
+            numbers::put_integer(out, n, value)
         }
         Body::Unsigned(value) => {
             let n = out::put(out, held, b"uint ");
-            out::put_decimal(out, n, value)
+            numbers::put_decimal(out, n, value)
         }
         Body::Float(value) => {
             let n = out::put(out, held, b"float ");
-            told::float(value, out, n)
+            numbers::put_float(out, n, value)
         }
         Body::Date(value) => {
             let n = out::put(out, held, b"date ");
-            told::integer(value, out, n)
+            numbers::put_integer(out, n, value)
         }
         Body::Text(range) => {
             let n = out::put(out, held, b"text ");

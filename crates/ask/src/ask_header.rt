@@ -1,13 +1,14 @@
 // `header AT BYTES`: the header at a place of a recording.
-ghost use Rattle.ask.specs.Bounds.{Fits};
-use crate::out;
-use crate::out::Held;
+ghost use Rattle.lines.specs.Bounds.{Fits};
 use crate::told::bad;
 use crate::told::refused;
-use crate::words;
-use crate::words::Count;
-use crate::words::Spelt;
 use header::HeaderReply;
+use lines::numbers;
+use lines::out;
+use lines::out::Held;
+use lines::words;
+use lines::words::Count;
+use lines::words::Spelt;
 
 pub fn header(line: &[u8], recording: &mut [u8; 65536], out: &mut [u8; 65536], held: Held) -> Held
     requires { ⌜ Fits held ⌝ }
@@ -36,11 +37,11 @@ fn header_told(reply: HeaderReply, out: &mut [u8; 65536], held: Held) -> Held
         HeaderReply::Refused(refusal) => refused(refusal, out, held),
         HeaderReply::Header(header) => {
             let n = out::put(out, held, b"id ");
-            let n = out::put_hex(out, n, header.id as u64, 1);
+            let n = numbers::put_hex(out, n, header.id as u64, 1);
             let n = out::put(out, n, b" size ");
-            let n = out::put_decimal(out, n, header.size);
+            let n = numbers::put_decimal(out, n, header.size);
             let n = out::put(out, n, b" length ");
-            out::put_decimal(out, n, header.length)
+            numbers::put_decimal(out, n, header.length)
         }
     }
 }

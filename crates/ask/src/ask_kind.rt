@@ -1,11 +1,11 @@
 // `kind ID PARENT`: the kind of an id under a parent id.
-ghost use Rattle.ask.specs.Bounds.{Fits};
-use crate::out;
-use crate::out::Held;
+ghost use Rattle.lines.specs.Bounds.{Fits};
 use crate::told::bad;
-use crate::words;
-use crate::words::Named;
 use kinds::Kind;
+use lines::out;
+use lines::out::Held;
+use lines::words;
+use lines::words::Named;
 
 pub fn kind(line: &[u8], out: &mut [u8; 65536], held: Held) -> Held
     requires { ⌜ Fits held ⌝ }

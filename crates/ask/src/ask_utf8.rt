@@ -1,10 +1,10 @@
 // `utf8 BYTES`: whether the bytes are UTF-8.
-ghost use Rattle.ask.specs.Bounds.{Fits};
-use crate::out;
-use crate::out::Held;
+ghost use Rattle.lines.specs.Bounds.{Fits};
 use crate::told::bad;
-use crate::words;
-use crate::words::Spelt;
+use lines::out;
+use lines::out::Held;
+use lines::words;
+use lines::words::Spelt;
 
 pub fn utf8(line: &[u8], recording: &mut [u8; 65536], out: &mut [u8; 65536], held: Held) -> Held
     requires { ⌜ Fits held ⌝ }

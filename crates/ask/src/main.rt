@@ -4,11 +4,9 @@ mod ask_body;
 mod ask_header;
 mod ask_kind;
 mod ask_utf8;
-mod lines;
-mod out;
+mod stream;
 mod told;
-mod words;
 
 fn main() {
-    lines::answer_all();
+    stream::answer_all();
 }

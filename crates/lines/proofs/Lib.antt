@@ -1,0 +1,4 @@
+-- The laws that the proofs of `lines` use.
+pub mod Signs
+pub mod Parted
+pub mod Alike
