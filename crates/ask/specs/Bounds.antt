@@ -1,14 +1,12 @@
 -- How far the counts of the program go.
-use Prim.Native.Nat.{ℕ, _≤_, _<_}
-use Rattle.lines.specs.Bounds.{Fits}
+use Prim.Native.Nat.{_≤_, _<_}
+use Rattle.ask.specs.declared.asked.Asked.{Asked}
 use Rattle.ask.specs.declared.stream.State.{State}
-use Rattle.ask.specs.declared.stream.Answered.{Answered}
+
+-- What a call is lent lies in the room for a recording.
+abbrev pub Lent : Asked → Type 0
+Lent a = a .bytes ≤ 65536
 
 -- There is room behind the unfinished line.
 abbrev pub Roomy : State → Type 0
 Roomy s = s .held < 1048576
-
--- The unfinished line begins within the bytes read, and the answers gathered fit their buffer.
-pub record Within (filled : ℕ) (a : Answered) : Type 0 where
-  pub begun : a .from ≤ filled
-  pub fits : Fits (a .gathered)

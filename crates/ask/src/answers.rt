@@ -1,48 +1,71 @@
-// The questions by their first word, and how many words each has.
-ghost use Rattle.lines.specs.Bounds.{Fits};
+// The questions by their first word, and the form of each.
+ghost use Prim.Native.Nat.{_≤_};
+ghost use lib.ListN.{length};
 use crate::ask_body::body;
 use crate::ask_header::header;
 use crate::ask_kind::kind;
 use crate::ask_utf8::utf8;
+use crate::asked::Asked;
+use crate::asked::asked_of;
 use crate::told::bad;
-use lines::out::Held;
+use lines::out;
 use lines::words;
 
-// Answers one line. A line that was too long to hold is no question.
-pub fn answer(
+// The answer to a line, and its line feed. A line that was too long to hold is no question.
+pub fn answer_line(
     line: &[u8],
     too_long: bool,
     recording: &mut [u8; 65536],
     out: &mut [u8; 65536],
-    held: Held,
-) -> Held
-    requires { ⌜ Fits held ⌝ }
-    ensures { λ r. ⌜ Fits r ⌝ }
-{
+    held: usize,
+) -> usize {
     if too_long {
+        let n = bad(out, held);
+        return out::put(out, n, b"\n");
+    }
+    let n = answer(line, recording, out, held);
+    out::put(out, n, b"\n")
+}
+
+// The forms stand in the order of the names (crates/ask/src/asked.rt has their letters).
+fn answer(line: &[u8], recording: &mut [u8; 65536], out: &mut [u8; 65536], held: usize) -> usize {
+    let names = b"header kind utf8 body";
+    let forms = b"ab ip b ipasb";
+    let question = words::place_of(words::word(line, 0), names);
+    let asked = asked_of(line, words::word(forms, question), recording);
+    if !asked.good {
         return bad(out, held);
     }
-    let name = words::word(line, 0);
-    let count = words::word_count(line);
-    if words::same(name, b"header") {
-        if count == 3 {
-            return header(line, recording, out, held);
-        }
+    lend(question, asked, recording, out, held)
+}
+
+// Lends the question its recording: the part of the room that its word filled.
+fn lend(
+    question: usize,
+    asked: Asked,
+    recording: &[u8],
+    out: &mut [u8; 65536],
+    held: usize,
+) -> usize
+    requires { ⌜ asked .bytes ≤ length (now recording) ⌝ }
+{
+    let bytes = asked.bytes;
+    reply(question, asked, &recording[..bytes], out, held)
+}
+
+// The answer to a question, by its place among the names; a place behind them is no question.
+fn reply(
+    question: usize,
+    asked: Asked,
+    recording: &[u8],
+    out: &mut [u8; 65536],
+    held: usize,
+) -> usize {
+    match question {
+        0 => header(asked, recording, out, held),
+        1 => kind(asked, out, held),
+        2 => utf8(recording, out, held),
+        3 => body(asked, recording, out, held),
+        _ => bad(out, held),
     }
-    if words::same(name, b"kind") {
-        if count == 3 {
-            return kind(line, out, held);
-        }
-    }
-    if words::same(name, b"utf8") {
-        if count == 2 {
-            return utf8(line, recording, out, held);
-        }
-    }
-    if words::same(name, b"body") {
-        if count == 6 {
-            return body(line, recording, out, held);
-        }
-    }
-    bad(out, held)
 }

@@ -1,38 +1,27 @@
 // `kind ID PARENT`: the kind of an id under a parent id.
-ghost use Rattle.lines.specs.Bounds.{Fits};
-use crate::told::bad;
+use crate::asked::Asked;
 use kinds::Kind;
 use lines::out;
-use lines::out::Held;
 use lines::words;
-use lines::words::Named;
 
-pub fn kind(line: &[u8], out: &mut [u8; 65536], held: Held) -> Held
-    requires { ⌜ Fits held ⌝ }
-    ensures { λ r. ⌜ Fits r ⌝ }
-{
-    match words::id(words::word(line, 1)) {
-        Named::Bad => bad(out, held),
-        Named::Is(id) => match words::id(words::word(line, 2)) {
-            Named::Bad => bad(out, held),
-            Named::Is(parent) => kind_told(kinds::kind_of(id, parent), out, held),
-        },
-    }
+// `kind K`
+pub fn kind(asked: Asked, out: &mut [u8; 65536], held: usize) -> usize {
+    let kind = kinds::kind_of(asked.id, asked.parent);
+    let names = b"master int uint string utf8 binary float date";
+    let n = out::put(out, held, b"kind ");
+    out::put(out, n, words::word(names, place_of(kind)))
 }
 
-// `kind K`, in document 01's names.
-fn kind_told(kind: Kind, out: &mut [u8; 65536], held: Held) -> Held
-    requires { ⌜ Fits held ⌝ }
-    ensures { λ r. ⌜ Fits r ⌝ }
-{
+// The place of the kind's name in the list.
+fn place_of(kind: Kind) -> usize {
     match kind {
-        Kind::Master => out::put(out, held, b"kind master\n"),
-        Kind::Int => out::put(out, held, b"kind int\n"),
-        Kind::Uint => out::put(out, held, b"kind uint\n"),
-        Kind::String => out::put(out, held, b"kind string\n"),
-        Kind::Utf8 => out::put(out, held, b"kind utf8\n"),
-        Kind::Binary => out::put(out, held, b"kind binary\n"),
-        Kind::Float => out::put(out, held, b"kind float\n"),
-        Kind::Date => out::put(out, held, b"kind date\n"),
+        Kind::Master => 0,
+        Kind::Int => 1,
+        Kind::Uint => 2,
+        Kind::String => 3,
+        Kind::Utf8 => 4,
+        Kind::Binary => 5,
+        Kind::Float => 6,
+        Kind::Date => 7,
     }
 }

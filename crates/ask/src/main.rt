@@ -4,6 +4,7 @@ mod ask_body;
 mod ask_header;
 mod ask_kind;
 mod ask_utf8;
+mod asked;
 mod stream;
 mod told;
 

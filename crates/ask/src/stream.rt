@@ -1,13 +1,11 @@
 // Reads standard input line by line, and has each line answered.
 ghost use Prim.Native.Nat.{_≤_};
 ghost use lib.ListN.{length};
-ghost use Rattle.lines.specs.Bounds.{Fits};
-ghost use Rattle.ask.specs.Bounds.{Roomy, Within};
-use crate::answers;
+ghost use Rattle.ask.specs.Bounds.{Roomy};
+use crate::answers::answer_line;
 use lines::input;
 use lines::input::Got;
 use lines::out;
-use lines::out::Held;
 use lines::words;
 
 // Room for the longest line that is a question, and more. A longer line is none.
@@ -21,19 +19,17 @@ struct State {
     more: bool,
 }
 
-// After the finished lines were answered: where the unfinished one begins, the answers that are gathered,
-// and whether the unfinished line began before the room.
+// After the finished lines were answered: where the unfinished one begins, whether it began before the
+// room, and whether the answers were written.
 struct Answered {
     from: usize,
-    gathered: Held,
     too_long: bool,
+    written: bool,
 }
 
 // Answers every line, until the input ends or an answer can't be written.
 pub fn answer_all() {
     let mut room = [0u8; 1_048_576];
-    let mut recording = [0u8; 65536];
-    let mut out = [0u8; 65536];
     let mut state = State {
         held: 0,
         too_long: false,
@@ -45,18 +41,13 @@ pub fn answer_all() {
         if !state.more {
             return;
         }
-        state = turn(state, &mut room, &mut recording, &mut out);
+        state = turn(state, &mut room);
         turns -= 1;
     }
 }
 
 // One read, and the answers to the lines that it finished.
-fn turn(
-    state: State,
-    room: &mut [u8; 1_048_576],
-    recording: &mut [u8; 65536],
-    out: &mut [u8; 65536],
-) -> State
+fn turn(state: State, room: &mut [u8; 1_048_576]) -> State
     requires { ⌜ Roomy state ⌝ }
     ensures { λ r. ⌜ Roomy r ⌝ }
 {
@@ -66,13 +57,10 @@ fn turn(
             io::write_all(2, b"ask: standard input can't be read\n");
             ended()
         }
-        Got::Ended => {
-            answer_last(state, room, recording, out);
-            ended()
-        }
+        Got::Ended => answer_last(state, room),
         Got::Bytes(n) => {
             let filled = held + n;
-            answer_some(filled, state, room, recording, out)
+            answer_read(filled, state, room)
         }
     }
 }
@@ -88,21 +76,30 @@ fn ended() -> State
     }
 }
 
+// The input ended: a last line that has no line feed is given one.
+fn answer_last(state: State, room: &mut [u8; 1_048_576]) -> State
+    requires { ⌜ Roomy state ⌝ }
+    ensures { λ r. ⌜ Roomy r ⌝ }
+{
+    let held = state.held;
+    if held == 0 {
+        if !state.too_long {
+            return ended();
+        }
+    }
+    room[held] = b'\n';
+    let filled = held + 1;
+    answer_read(filled, state, room);
+    ended()
+}
+
 // Answers the lines that the last read finished, and keeps the unfinished one.
-fn answer_some(
-    filled: usize,
-    state: State,
-    room: &mut [u8; 1_048_576],
-    recording: &mut [u8; 65536],
-    out: &mut [u8; 65536],
-) -> State
+fn answer_read(filled: usize, state: State, room: &mut [u8; 1_048_576]) -> State
     requires { ⌜ (state .held ≤ filled) × (filled ≤ 1048576) ⌝ }
     ensures { λ r. ⌜ Roomy r ⌝ }
 {
     let whole: &[u8] = room;
-    let answered = answer_lines(&whole[..filled], state.held, state.too_long, recording, out);
-    let gathered = answered.gathered;
-    let written = write_away(out, gathered);
+    let answered = answer_lines(&whole[..filled], state.held, state.too_long);
     let from = answered.from;
     let left = filled - from;
     input::keep(room, from, left);
@@ -110,85 +107,46 @@ fn answer_some(
         return State {
             held: 0,
             too_long: true,
-            more: written,
+            more: answered.written,
         };
     }
     State {
         held: left,
         too_long: answered.too_long,
-        more: written,
+        more: answered.written,
     }
 }
 
-// Answers a last line that no line feed ends.
-fn answer_last(
-    state: State,
-    room: &[u8; 1_048_576],
-    recording: &mut [u8; 65536],
-    out: &mut [u8; 65536],
-)
-    requires { ⌜ Roomy state ⌝ }
+// Answers the finished lines of what was read. The first `old` bytes hold no line feed.
+fn answer_lines(read: &[u8], old: usize, too_long: bool) -> Answered
+    requires { ⌜ old ≤ length (now read) ⌝ }
+    ensures { λ r. ⌜ r .from ≤ length (now (read .entry)) ⌝ }
 {
-    let held = state.held;
-    if held == 0 {
-        if !state.too_long {
-            return;
-        }
+    let mut recording = [0u8; 65536];
+    let mut out = [0u8; 65536];
+    let mut gathered: usize = 0;
+    let mut from: usize = 0;
+    let mut cut = too_long;
+    let mut end = words::find(read, old, b'\n');
+    while end < read.len() {
+        let line = &read[from..end];
+        gathered = answer_line(line, cut, &mut recording, &mut out, gathered);
+        cut = false;
+        from = end + 1;
+        end = words::find(read, from, b'\n');
     }
-    let whole: &[u8] = room;
-    let gathered = answers::answer(
-        &whole[..held],
-        state.too_long,
-        recording,
-        out,
-        out::nothing(),
-    );
-    write_away(out, gathered);
+    Answered {
+        from,
+        too_long: cut,
+        written: write_away(&out, gathered),
+    }
 }
 
 // Writes what was gathered, and answers whether all was written. A failure is told.
-fn write_away(out: &[u8; 65536], gathered: Held) -> bool
-    requires { ⌜ Fits gathered ⌝ }
-{
+fn write_away(out: &[u8; 65536], gathered: usize) -> bool {
     if out::flush(out, gathered) {
         return true;
     }
     io::write_all(2, b"ask: standard output can't be written\n");
     false
-}
-
-// Answers the finished lines of what was read. The first `old` bytes hold no line feed.
-fn answer_lines(
-    read: &[u8],
-    old: usize,
-    too_long: bool,
-    recording: &mut [u8; 65536],
-    out: &mut [u8; 65536],
-) -> Answered
-    requires { ⌜ old ≤ length (now read) ⌝ }
-    ensures { λ r. ⌜ Within (length (now (read .entry))) r ⌝ }
-{
-    let mut from: usize = 0;
-    let mut scanned = old;
-    let mut cut = too_long;
-    let mut gathered = out::nothing();
-    while scanned < read.len() {
-        let end = words::find(read, scanned, b'\n');
-        if end == read.len() {
-            return Answered {
-                from,
-                gathered,
-                too_long: cut,
-            };
-        }
-        gathered = answers::answer(&read[from..end], cut, recording, out, gathered);
-        cut = false;
-        from = end + 1;
-        scanned = end + 1;
-    }
-    Answered {
-        from,
-        gathered,
-        too_long: cut,
-    }
 }

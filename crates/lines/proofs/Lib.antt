@@ -2,3 +2,4 @@
 pub mod Signs
 pub mod Parted
 pub mod Alike
+pub mod Moved

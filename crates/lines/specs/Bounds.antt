@@ -1,14 +1,9 @@
 -- How far the counts of a program's input and output go.
 use Prim.Native.Nat.{ℕ, _+_, _≤_}
-use Rattle.lines.specs.declared.out.Held.{Held}
 use Rattle.lines.specs.declared.words.Spelt.{Spelt}
 use Rattle.lines.specs.declared.words.Spelt.the-variants.{Bytes, Bad}
 use Rattle.lines.specs.declared.input.Got.{Got}
 use Rattle.lines.specs.declared.input.Got.the-variants.{Bytes as More, Ended, Failed}
-
--- The buffer holds no more than it has room for.
-abbrev pub Fits : Held → Type 0
-Fits h = h .count ≤ 65536
 
 -- No more bytes than a recording of a question may have.
 abbrev pub Few : Spelt → Type 0

@@ -1,6 +1,7 @@
 // Standard input, read piece by piece into room that is lent.
+ghost use mathlib.Core.Path.{_≡_};
 ghost use Prim.Native.Nat.{_+_, _≤_};
-ghost use lib.ListN.{length};
+ghost use lib.ListN.{length, take, drop};
 ghost use Rattle.lines.specs.Bounds.{Behind};
 
 // What one read brought: bytes behind those held, the end of the input, or a failure.
@@ -28,6 +29,7 @@ pub fn read_more(room: &mut [u8], held: usize) -> Got
 // Moves the n bytes from `from` on to the start of the room.
 pub fn keep(room: &mut [u8], from: usize, n: usize)
     requires { ⌜ from + n ≤ length (now room) ⌝ }
+    ensures { λ _. ⌜ take n (now (room .exit)) ≡ take n (drop from (now (room .entry))) ⌝ }
 {
     if from == 0 {
         return;

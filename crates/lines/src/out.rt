@@ -1,65 +1,16 @@
 // Gathers what a program writes to standard output, and hands it on in large pieces.
-ghost use Prim.Native.Nat.{_<_};
-ghost use Rattle.lines.specs.Bounds.{Fits};
+//
+// The program lends the buffer, and hands on how many bytes it holds. A count beyond the room says that a
+// write failed: nothing more is gathered then.
 
-pub const ROOM: usize = 65536;
+// The buffer's room.
+const ROOM: usize = 65536;
 
-// How many bytes the buffer holds, and whether a write failed: then nothing more is written.
-pub struct Held {
-    pub count: usize,
-    pub lost: bool,
-}
-
-// An empty buffer.
-pub fn nothing() -> Held
-    ensures { λ r. ⌜ Fits r ⌝ }
-{
-    Held {
-        count: 0,
-        lost: false,
-    }
-}
-
-// Room for one byte more: a full buffer is written away.
-fn room_for_one(out: &mut [u8; 65536], held: Held) -> Held
-    requires { ⌜ Fits held ⌝ }
-    ensures { λ r. ⌜ r .count < 65536 ⌝ }
-{
-    if held.count < ROOM {
-        return held;
-    }
-    if held.lost {
-        return Held {
-            count: 0,
-            lost: true,
-        };
-    }
-    let written = io::write_all(1, out);
-    Held {
-        count: 0,
-        lost: !written,
-    }
-}
-
-fn put_one(out: &mut [u8; 65536], held: Held, byte: u8) -> Held
-    requires { ⌜ Fits held ⌝ }
-    ensures { λ r. ⌜ Fits r ⌝ }
-{
-    let room = room_for_one(out, held);
-    let at = room.count;
-    out[at] = byte;
-    let next = at + 1;
-    Held {
-        count: next,
-        lost: room.lost,
-    }
-}
+// The count that says that a write failed.
+const LOST: usize = 65537;
 
 // Bytes as they are.
-pub fn put(out: &mut [u8; 65536], held: Held, bytes: &[u8]) -> Held
-    requires { ⌜ Fits held ⌝ }
-    ensures { λ r. ⌜ Fits r ⌝ }
-{
+pub fn put(out: &mut [u8; 65536], held: usize, bytes: &[u8]) -> usize {
     let mut now = held;
     let mut i: usize = 0;
     while i < bytes.len() {
@@ -69,14 +20,31 @@ pub fn put(out: &mut [u8; 65536], held: Held, bytes: &[u8]) -> Held
     now
 }
 
+fn put_one(out: &mut [u8; 65536], held: usize, byte: u8) -> usize {
+    let at = place_for_one(out, held);
+    if at < ROOM {
+        out[at] = byte;
+        return at + 1;
+    }
+    at
+}
+
+// A full buffer is written away first.
+fn place_for_one(out: &[u8; 65536], held: usize) -> usize {
+    if held != ROOM {
+        return held;
+    }
+    if io::write_all(1, out) {
+        return 0;
+    }
+    LOST
+}
+
 // Writes away what the buffer holds, and answers whether all of the output was written.
-pub fn flush(out: &[u8; 65536], held: Held) -> bool
-    requires { ⌜ Fits held ⌝ }
-{
-    if held.lost {
+pub fn flush(out: &[u8; 65536], held: usize) -> bool {
+    if ROOM < held {
         return false;
     }
     let whole: &[u8] = out;
-    let count = held.count;
-    io::write_all(1, &whole[..count])
+    io::write_all(1, &whole[..held])
 }

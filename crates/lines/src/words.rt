@@ -6,7 +6,7 @@ ghost use Rattle.lines.specs.Bounds.{Few};
 ghost use Rattle.lines.specs.Words.{First, Same, wordOf};
 
 // A recording of a question has at most so many bytes.
-pub const MOST: usize = 65536;
+const MOST: usize = 65536;
 
 // What a word spells, where it is a decimal number.
 pub enum Count {
@@ -72,6 +72,24 @@ pub fn word(line: &[u8], k: usize) -> &[u8]
     }
     let end = find(line, at, b' ');
     &line[at..end]
+}
+
+// The place of a word among the words of a list, or how many words the list has.
+pub fn place_of(word: &[u8], list: &[u8]) -> usize {
+    let mut k: usize = 0;
+    let mut at: usize = 0;
+    while at < list.len() {
+        let end = find(list, at, b' ');
+        if same(&list[at..end], word) {
+            return k;
+        }
+        k += 1;
+        if end == list.len() {
+            return k;
+        }
+        at = end + 1;
+    }
+    k
 }
 
 // Whether the two hold the same bytes.

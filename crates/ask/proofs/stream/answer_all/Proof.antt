@@ -1,14 +1,14 @@
 -- `answer_all` is safe and ends, by its count of turns. Assumes nothing.
 use borrow.Author.Needs.{needs}
-use Prim.Native.Nat.{_<_}
+use Rattle.ask.specs.Bounds.{Roomy}
 use Rattle.ask.proofs.stream.answer_all.Statement.{statement}
 use Rattle.ask.proofs.stream.answer_all.Tie as tie
 
 abbrev Inv-loop : tie.InvT-loop
-Inv-loop room₀ recording₀ out₀ state₀ turns₀ room recording out state turns = state .held < 1048576
+Inv-loop room₀ state₀ turns₀ room state turns = Roomy state
 
 abbrev μ-loop : tie.MeasureT-loop
-μ-loop room₀ recording₀ out₀ state₀ turns₀ room recording out state turns = turns
+μ-loop room₀ state₀ turns₀ room state turns = turns
 
 loop-holds : tie.Need-loop-holds Inv-loop μ-loop
 loop-holds c = search needs

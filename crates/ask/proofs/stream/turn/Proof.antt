@@ -33,17 +33,14 @@ enum-told-2 c = search needs
 answer-last-requires : tie.Need-answer-last-requires
 answer-last-requires c κs = search needs
 
-ended-requires-2 : tie.Need-ended-requires-2
-ended-requires-2 c κs = search needs
-
 enum-known-n : tie.Need-enum-known-n
 enum-known-n c = search needs
 
 add-filled : tie.Need-add-filled
 add-filled c = omega (arith, brought c)
 
-answer-some-requires : tie.Need-answer-some-requires
-answer-some-requires c κs = (omega arith, brought (c .before .before .before))
+answer-read-requires : tie.Need-answer-read-requires
+answer-read-requires c κs = (omega arith, brought (c .before))
 
 returns : tie.Need-returns
 returns c = search needs
@@ -65,10 +62,9 @@ turn-spec =
     ended-requires
     enum-told-2
     answer-last-requires
-    ended-requires-2
     enum-known-n
     add-filled
-    answer-some-requires
+    answer-read-requires
     returns
     returns-2
     returns-3)

@@ -1,22 +1,26 @@
--- `keep` is safe and ends. Assumes nothing.
+-- `keep` meets its contract: the bytes that are still to move stay as they were. Assumes nothing.
 use borrow.Author.Needs.{needs}
-use mathlib.Core.Path.{_≡_}
-use Prim.Native.Nat.{_≤_, _-_}
-use lib.ListN.{length}
+use mathlib.Core.Path.{_≡_, refl}
+use native.Mathlib.Omega.{arith}
+use Prim.Native.Nat.{_≤_, _+_, _-_}
+use lib.ListN.{length, take, drop}
+use Rattle.lines.proofs.Moved.{moved, to-move}
 use Rattle.lines.proofs.input.keep.Statement.{statement}
 use Rattle.lines.proofs.input.keep.Tie as tie
 
 abbrev Inv-loop : tie.InvT-loop
-Inv-loop room₀ from n i₀ room i = (i ≤ n) × (length room ≡ length room₀)
+Inv-loop room₀ from n i₀ room i =
+    (i ≤ n) × (length room ≡ length room₀) × (take i room ≡ take i (drop from room₀))
+    × (drop (from + i) room ≡ drop (from + i) room₀)
 
 abbrev μ-loop : tie.MeasureT-loop
 μ-loop room₀ from n i₀ room i = n - i
 
 returns : tie.Need-returns Inv-loop μ-loop
-returns c = search needs
+returns c = rw (c .if1 .taken)
 
 loop-holds : tie.Need-loop-holds Inv-loop μ-loop
-loop-holds c = search needs
+loop-holds c = (omega arith, refl, refl, refl)
 
 add-room : tie.Need-add-room Inv-loop μ-loop
 add-room c = search needs
@@ -34,13 +38,21 @@ loop-less : tie.Need-loop-less Inv-loop μ-loop
 loop-less c = search needs
 
 loop-again : tie.Need-loop-again Inv-loop μ-loop
-loop-again c = search needs
+loop-again c =
+    let a = c .before .before .before .before .args in
+    let l = c .before .before .loop in
+    let m = moved (a .room .now) (l .room) (a .from) (l .i) (omega arith) (l .inv .1) (l .inv .2) (l .inv .3) in
+    let t = to-move (a .room .now) (l .room) (a .from) (l .i) (omega arith) (l .inv .1) (l .inv .2) (l .inv .3) in
+    (omega arith, search needs, m, t)
 
 same-length : tie.Need-same-length Inv-loop μ-loop
 same-length c = search needs
 
 returns-2 : tie.Need-returns-2 Inv-loop μ-loop
-returns-2 c = search needs
+returns-2 c =
+    let a = c .before .before .before .args in
+    let all : c .before .loop .i ≡ a .n = omega arith in
+    rw all at (c .before .loop .inv .2)
 
 pub keep-spec : {M : Type 1} → statement M
 keep-spec =

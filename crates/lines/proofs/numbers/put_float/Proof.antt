@@ -5,7 +5,7 @@ use Rattle.lines.proofs.numbers.put_float.Statement.{statement}
 use Rattle.lines.proofs.numbers.put_float.Tie as tie
 
 float-to-bits-put-hex : tie.Need-float-to-bits-put-hex
-float-to-bits-put-hex c = no-nan (c .before .before .args .value) (c .before .if1 .taken)
+float-to-bits-put-hex c = no-nan (c .before .before .before .args .value) (c .before .if1 .taken)
 
 put-hex-requires : tie.Need-put-hex-requires
 put-hex-requires c κs = search needs
@@ -13,11 +13,14 @@ put-hex-requires c κs = search needs
 returns : tie.Need-returns
 returns c = search needs
 
+put-requires : tie.Need-put-requires
+put-requires c κs = search needs
+
 slice-aggregate-put : tie.Need-slice-aggregate-put
 slice-aggregate-put c = search needs
 
-put-requires : tie.Need-put-requires
-put-requires c κs = search needs
+put-requires-2 : tie.Need-put-requires-2
+put-requires-2 c κs = search needs
 
 returns-2 : tie.Need-returns-2
 returns-2 c = search needs
@@ -29,6 +32,7 @@ put-float-spec =
     float-to-bits-put-hex
     put-hex-requires
     returns
-    slice-aggregate-put
     put-requires
+    slice-aggregate-put
+    put-requires-2
     returns-2)

@@ -12,7 +12,7 @@ returns c = search needs
 slice-aggregate-write-all : tie.Need-slice-aggregate-write-all
 slice-aggregate-write-all c =
     let a = c .before .before .before .args in
-    sym (length-take-le (a .held .count) (a .out .now) (omega arith))
+    sym (length-take-le (a .held) (a .out .now) (omega arith))
 
 write-all-requires : tie.Need-write-all-requires
 write-all-requires c κs = search needs
@@ -21,10 +21,4 @@ returns-2 : tie.Need-returns-2
 returns-2 c = search needs
 
 pub flush-spec : {M : Type 1} → statement M
-flush-spec =
-    tie.close
-    (tie.spec
-    returns
-    slice-aggregate-write-all
-    write-all-requires
-    returns-2)
+flush-spec = tie.close (tie.spec returns slice-aggregate-write-all write-all-requires returns-2)

@@ -1,4 +1,4 @@
--- `put` meets its contract: the buffer never holds more than it has room for. Assumes nothing.
+-- `put` is safe and ends. Assumes nothing.
 use borrow.Author.Needs.{needs}
 use Prim.Native.Nat.{_≤_, _-_}
 use lib.ListN.{length}
@@ -6,10 +6,10 @@ use Rattle.lines.proofs.out.put.Statement.{statement}
 use Rattle.lines.proofs.out.put.Tie as tie
 
 abbrev Inv-loop : tie.InvT-loop
-Inv-loop out₀ bytes now₀ i₀ out now i = (now .count ≤ 65536) × (i ≤ length bytes)
+Inv-loop out₀ held bytes now₀ i₀ out now i = i ≤ length bytes
 
 abbrev μ-loop : tie.MeasureT-loop
-μ-loop out₀ bytes now₀ i₀ out now i = length bytes - i
+μ-loop out₀ held bytes now₀ i₀ out now i = length bytes - i
 
 loop-holds : tie.Need-loop-holds Inv-loop μ-loop
 loop-holds c = search needs

@@ -1,18 +1,18 @@
--- `answer_some` meets its contract: what is left of a full room is given up. Assumes nothing.
+-- `answer_read` meets its contract: what is left of a full room is given up. Assumes nothing.
 use borrow.Author.Needs.{needs}
 use mathlib.Core.Path.{sym}
 use native.Mathlib.Omega.{arith}
 use Prim.Native.Nat.{_≤_}
 use lib.Seq.{length-take-le}
-use Rattle.ask.proofs.stream.answer_some.Statement.{statement}
-use Rattle.ask.proofs.stream.answer_some.Tie as tie
+use Rattle.ask.proofs.stream.answer_read.Statement.{statement}
+use Rattle.ask.proofs.stream.answer_read.Tie as tie
 
 -- the unfinished line begins within what was read
 begun : (c : tie.After-answer-lines)
-    → c .answer-lines .result .from ≤ c .before .before .before .before .before .before .args .filled
+    → c .answer-lines .result .from ≤ c .before .before .before .before .args .filled
 begun c =
-    let a = c .before .before .before .before .before .before .args in
-    rw (length-take-le (a .filled) (a .room .now) (omega arith)) at (c .answer-lines .ensures .begun)
+    let a = c .before .before .before .before .args in
+    rw (length-take-le (a .filled) (a .room .now) (omega arith)) at (c .answer-lines .ensures)
 
 slice-aggregate-answer-lines : tie.Need-slice-aggregate-answer-lines
 slice-aggregate-answer-lines c =
@@ -21,17 +21,14 @@ slice-aggregate-answer-lines c =
 
 answer-lines-requires : tie.Need-answer-lines-requires
 answer-lines-requires c κs =
-    let a = c .before .before .before .before .before .args in
+    let a = c .before .before .before .args in
     rw (length-take-le (a .filled) (a .room .now) (omega arith)) (omega arith)
 
-write-away-requires : tie.Need-write-away-requires
-write-away-requires c κs = search needs
-
 sub-left : tie.Need-sub-left
-sub-left c = begun (c .before .before .before)
+sub-left c = begun c
 
 keep-requires : tie.Need-keep-requires
-keep-requires c κs = let b = begun (c .before .before .before .before) in omega arith
+keep-requires c κs = let b = begun (c .before) in omega arith
 
 returns : tie.Need-returns
 returns c = search needs
@@ -39,13 +36,12 @@ returns c = search needs
 returns-2 : tie.Need-returns-2
 returns-2 c = search needs
 
-pub answer-some-spec : {M : Type 1} → statement M
-answer-some-spec =
+pub answer-read-spec : {M : Type 1} → statement M
+answer-read-spec =
     tie.close
     (tie.spec
     slice-aggregate-answer-lines
     answer-lines-requires
-    write-away-requires
     sub-left
     keep-requires
     returns

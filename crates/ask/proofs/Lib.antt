@@ -1,2 +1,0 @@
--- The laws that the proofs of `ask` use.
-pub mod Parts

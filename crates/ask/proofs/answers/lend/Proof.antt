@@ -1,0 +1,21 @@
+-- `lend` is safe: what a question is lent lies in the room for it. Assumes nothing.
+use borrow.Author.Needs.{needs}
+use mathlib.Core.Path.{sym}
+use native.Mathlib.Omega.{arith}
+use lib.Seq.{length-take-le}
+use Rattle.ask.proofs.answers.lend.Statement.{statement}
+use Rattle.ask.proofs.answers.lend.Tie as tie
+
+slice-aggregate-reply : tie.Need-slice-aggregate-reply
+slice-aggregate-reply c =
+    let a = c .before .before .args in
+    sym (length-take-le (a .asked .bytes) (a .recording .now) (omega arith))
+
+reply-requires : tie.Need-reply-requires
+reply-requires c κs = search needs
+
+returns : tie.Need-returns
+returns c = search needs
+
+pub lend-spec : {M : Type 1} → statement M
+lend-spec = tie.close (tie.spec slice-aggregate-reply reply-requires returns)

@@ -1,0 +1,115 @@
+// What a line asks: the words behind its first one, read by the form of its question.
+//
+// A form has a letter for each word: `i` ID, `p` PARENT, `a` AT, `s` SIZE, `b` BYTES.
+ghost use Rattle.lines.specs.Bounds.{Few};
+ghost use Rattle.ask.specs.Bounds.{Lent};
+use lines::words;
+use lines::words::Count;
+use lines::words::Named;
+use lines::words::Spelt;
+
+// What the words spell, and how many bytes of the recording the call is lent.
+// A line that spells something else is not good.
+pub struct Asked {
+    pub good: bool,
+    pub id: u32,
+    pub parent: u32,
+    pub at: u64,
+    pub size: u64,
+    pub bytes: usize,
+}
+
+pub fn asked_of(line: &[u8], form: &[u8], recording: &mut [u8; 65536]) -> Asked
+    ensures { λ r. ⌜ Lent r ⌝ }
+{
+    if words::word_count(line) != form.len() + 1 {
+        return nothing(false);
+    }
+    let mut asked = nothing(true);
+    let mut k: usize = 0;
+    while k < form.len() {
+        let word = words::word(line, k + 1);
+        asked = with_word(asked, form[k], word, recording);
+        if !asked.good {
+            return asked;
+        }
+        k += 1;
+    }
+    asked
+}
+
+// No word yet, or none that counts.
+fn nothing(good: bool) -> Asked
+    ensures { λ r. ⌜ Lent r ⌝ }
+{
+    Asked {
+        good,
+        id: 0,
+        parent: 0,
+        at: 0,
+        size: 0,
+        bytes: 0,
+    }
+}
+
+fn with_word(asked: Asked, letter: u8, word: &[u8], recording: &mut [u8; 65536]) -> Asked
+    requires { ⌜ Lent asked ⌝ }
+    ensures { λ r. ⌜ Lent r ⌝ }
+{
+    match letter {
+        b'b' => with_bytes(asked, words::spell(word, recording)),
+        b'i' | b'p' => with_id(asked, letter, words::id(word)),
+        _ => with_value(asked, letter, words::decimal(word)),
+    }
+}
+
+fn with_bytes(asked: Asked, spelt: Spelt) -> Asked
+    requires { ⌜ Few spelt × Lent asked ⌝ }
+    ensures { λ r. ⌜ Lent r ⌝ }
+{
+    match spelt {
+        Spelt::Bad => nothing(false),
+        Spelt::Bytes(length) => {
+            let mut next = asked;
+            next.bytes = length;
+            next
+        }
+    }
+}
+
+fn with_id(asked: Asked, letter: u8, spelt: Named) -> Asked
+    requires { ⌜ Lent asked ⌝ }
+    ensures { λ r. ⌜ Lent r ⌝ }
+{
+    let Named::Is(id) = spelt else {
+        return nothing(false);
+    };
+    let mut next = asked;
+    if letter == b'p' {
+        next.parent = id;
+        return next;
+    }
+    next.id = id;
+    next
+}
+
+fn with_value(asked: Asked, letter: u8, spelt: Count) -> Asked
+    requires { ⌜ Lent asked ⌝ }
+    ensures { λ r. ⌜ Lent r ⌝ }
+{
+    let Count::Is(value) = spelt else {
+        return nothing(false);
+    };
+    let mut next = asked;
+    match letter {
+        b'a' => {
+            next.at = value;
+            next
+        }
+        b's' => {
+            next.size = value;
+            next
+        }
+        _ => nothing(false),
+    }
+}
