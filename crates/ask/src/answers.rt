@@ -4,7 +4,11 @@ ghost use lib.ListN.{length};
 use crate::ask_body::body;
 use crate::ask_header::header;
 use crate::ask_kind::kind;
+use crate::ask_payload::payload;
+use crate::ask_range::range;
+use crate::ask_read::read;
 use crate::ask_utf8::utf8;
+use crate::ask_whose::whose;
 use crate::asked::Asked;
 use crate::asked::asked_of;
 use crate::told::bad;
@@ -16,6 +20,7 @@ pub fn answer_line(
     line: &[u8],
     too_long: bool,
     recording: &mut [u8; 65536],
+    table: &mut [u64; 30000],
     out: &mut [u8; 65536],
     held: usize,
 ) -> usize {
@@ -23,34 +28,49 @@ pub fn answer_line(
         let n = bad(out, held);
         return out::put(out, n, b"\n");
     }
-    let n = answer(line, recording, out, held);
+    let n = answer(line, recording, table, out, held);
     out::put(out, n, b"\n")
 }
 
 // The forms stand in the order of the names (crates/ask/src/asked.rt has their letters).
-fn answer(line: &[u8], recording: &mut [u8; 65536], out: &mut [u8; 65536], held: usize) -> usize {
-    let names = b"header kind utf8 body";
-    let forms = b"ab ip b ipasb";
+fn answer(
+    line: &[u8],
+    recording: &mut [u8; 65536],
+    table: &mut [u64; 30000],
+    out: &mut [u8; 65536],
+    held: usize,
+) -> usize {
+    let names = b"header kind utf8 body read whose payload range";
+    let forms = b"ab ip b ipasb asptb aspdtb asptrb lrb";
     let question = words::place_of(words::word(line, 0), names);
-    let asked = asked_of(line, words::word(forms, question), recording);
+    let asked = asked_of(line, words::word(forms, question), recording, table);
     if !asked.good {
         return bad(out, held);
     }
-    lend(question, asked, recording, out, held)
+    lend(question, asked, recording, table, out, held)
 }
 
-// Lends the question its recording: the part of the room that its word filled.
+// Lends the question its recording and its table: the parts of the room that its words filled.
 fn lend(
     question: usize,
     asked: Asked,
     recording: &[u8],
+    table: &mut [u64],
     out: &mut [u8; 65536],
     held: usize,
 ) -> usize
-    requires { ⌜ asked .bytes ≤ length (now recording) ⌝ }
+    requires { ⌜ (asked .bytes ≤ length (now recording)) × (asked .numbers ≤ length (now table)) ⌝ }
 {
     let bytes = asked.bytes;
-    reply(question, asked, &recording[..bytes], out, held)
+    let numbers = asked.numbers;
+    reply(
+        question,
+        asked,
+        &recording[..bytes],
+        &mut table[..numbers],
+        out,
+        held,
+    )
 }
 
 // The answer to a question, by its place among the names; a place behind them is no question.
@@ -58,6 +78,7 @@ fn reply(
     question: usize,
     asked: Asked,
     recording: &[u8],
+    table: &mut [u64],
     out: &mut [u8; 65536],
     held: usize,
 ) -> usize {
@@ -66,6 +87,10 @@ fn reply(
         1 => kind(asked, out, held),
         2 => utf8(recording, out, held),
         3 => body(asked, recording, out, held),
+        4 => read(asked, recording, table, out, held),
+        5 => whose(asked, recording, table, out, held),
+        6 => payload(asked, recording, table, out, held),
+        7 => range(asked, recording, table, out, held),
         _ => bad(out, held),
     }
 }

@@ -1,14 +1,17 @@
 // What a line asks: the words behind its first one, read by the form of its question.
 //
-// A form has a letter for each word: `i` ID, `p` PARENT, `a` AT, `s` SIZE, `b` BYTES.
+// A form has a letter for each word: `i` ID, `p` PARENT, `a` AT or START, `s` SIZE, `d` ADDRESS, `r` ROW,
+// `b` BYTES, `t` NUMBERS, `l` the table's numbers themselves.
 ghost use Rattle.lines.specs.Bounds.{Few};
-ghost use Rattle.ask.specs.Bounds.{Lent};
+ghost use Rattle.ask.specs.Bounds.{InTable, Lent};
+use crate::table;
+use crate::table::Given;
 use lines::words;
 use lines::words::Count;
 use lines::words::Named;
 use lines::words::Spelt;
 
-// What the words spell, and how many bytes of the recording the call is lent.
+// What the words spell, and how many bytes of the recording and numbers of the table the call is lent.
 // A line that spells something else is not good.
 pub struct Asked {
     pub good: bool,
@@ -16,10 +19,18 @@ pub struct Asked {
     pub parent: u32,
     pub at: u64,
     pub size: u64,
+    pub address: u64,
+    pub row: u64,
     pub bytes: usize,
+    pub numbers: usize,
 }
 
-pub fn asked_of(line: &[u8], form: &[u8], recording: &mut [u8; 65536]) -> Asked
+pub fn asked_of(
+    line: &[u8],
+    form: &[u8],
+    recording: &mut [u8; 65536],
+    table: &mut [u64; 30000],
+) -> Asked
     ensures { λ r. ⌜ Lent r ⌝ }
 {
     if words::word_count(line) != form.len() + 1 {
@@ -29,7 +40,7 @@ pub fn asked_of(line: &[u8], form: &[u8], recording: &mut [u8; 65536]) -> Asked
     let mut k: usize = 0;
     while k < form.len() {
         let word = words::word(line, k + 1);
-        asked = with_word(asked, form[k], word, recording);
+        asked = with_word(asked, form[k], word, recording, table);
         if !asked.good {
             return asked;
         }
@@ -48,16 +59,27 @@ fn nothing(good: bool) -> Asked
         parent: 0,
         at: 0,
         size: 0,
+        address: 0,
+        row: 0,
         bytes: 0,
+        numbers: 0,
     }
 }
 
-fn with_word(asked: Asked, letter: u8, word: &[u8], recording: &mut [u8; 65536]) -> Asked
+fn with_word(
+    asked: Asked,
+    letter: u8,
+    word: &[u8],
+    recording: &mut [u8; 65536],
+    table: &mut [u64; 30000],
+) -> Asked
     requires { ⌜ Lent asked ⌝ }
     ensures { λ r. ⌜ Lent r ⌝ }
 {
     match letter {
         b'b' => with_bytes(asked, words::spell(word, recording)),
+        b't' => with_numbers(asked, table::filled(word, table)),
+        b'l' => with_numbers(asked, table::listed(word, table)),
         b'i' | b'p' => with_id(asked, letter, words::id(word)),
         _ => with_value(asked, letter, words::decimal(word)),
     }
@@ -72,6 +94,20 @@ fn with_bytes(asked: Asked, spelt: Spelt) -> Asked
         Spelt::Bytes(length) => {
             let mut next = asked;
             next.bytes = length;
+            next
+        }
+    }
+}
+
+fn with_numbers(asked: Asked, given: Given) -> Asked
+    requires { ⌜ InTable given × Lent asked ⌝ }
+    ensures { λ r. ⌜ Lent r ⌝ }
+{
+    match given {
+        Given::Bad => nothing(false),
+        Given::Numbers(count) => {
+            let mut next = asked;
+            next.numbers = count;
             next
         }
     }
@@ -108,6 +144,14 @@ fn with_value(asked: Asked, letter: u8, spelt: Count) -> Asked
         }
         b's' => {
             next.size = value;
+            next
+        }
+        b'd' => {
+            next.address = value;
+            next
+        }
+        b'r' => {
+            next.row = value;
             next
         }
         _ => nothing(false),

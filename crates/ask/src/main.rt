@@ -3,9 +3,14 @@ mod answers;
 mod ask_body;
 mod ask_header;
 mod ask_kind;
+mod ask_payload;
+mod ask_range;
+mod ask_read;
 mod ask_utf8;
+mod ask_whose;
 mod asked;
 mod stream;
+mod table;
 mod told;
 
 fn main() {

@@ -123,6 +123,7 @@ fn answer_lines(read: &[u8], old: usize, too_long: bool) -> Answered
     ensures { λ r. ⌜ r .from ≤ length (now (read .entry)) ⌝ }
 {
     let mut recording = [0u8; 65536];
+    let mut table = [0u64; 30000];
     let mut out = [0u8; 65536];
     let mut gathered: usize = 0;
     let mut from: usize = 0;
@@ -130,7 +131,7 @@ fn answer_lines(read: &[u8], old: usize, too_long: bool) -> Answered
     let mut end = words::find(read, old, b'\n');
     while end < read.len() {
         let line = &read[from..end];
-        gathered = answer_line(line, cut, &mut recording, &mut out, gathered);
+        gathered = answer_line(line, cut, &mut recording, &mut table, &mut out, gathered);
         cut = false;
         from = end + 1;
         end = words::find(read, from, b'\n');

@@ -7,10 +7,10 @@ use Rattle.ask.proofs.asked.asked_of.Statement.{statement}
 use Rattle.ask.proofs.asked.asked_of.Tie as tie
 
 abbrev Inv-loop : tie.InvT-loop
-Inv-loop line form recording₀ asked₀ k₀ recording asked k = Lent asked × (k ≤ length form)
+Inv-loop line form recording₀ table₀ asked₀ k₀ recording table asked k = Lent asked × (k ≤ length form)
 
 abbrev μ-loop : tie.MeasureT-loop
-μ-loop line form recording₀ asked₀ k₀ recording asked k = length form - k
+μ-loop line form recording₀ table₀ asked₀ k₀ recording table asked k = length form - k
 
 word-count-requires : tie.Need-word-count-requires Inv-loop μ-loop
 word-count-requires c κs = search needs

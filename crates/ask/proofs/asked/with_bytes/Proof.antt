@@ -19,7 +19,7 @@ returns c = search needs
 returns-2 : tie.Need-returns-2
 returns-2 c =
     let fits = rw (c .before .spelt .given .1) at (c .before .before .before .pre .0) in
-    omega arith
+    (omega arith, omega arith)
 
 pub with-bytes-spec : {M : Type 1} → statement M
 with-bytes-spec =

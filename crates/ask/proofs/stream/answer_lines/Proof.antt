@@ -6,10 +6,10 @@ use Rattle.ask.proofs.stream.answer_lines.Statement.{statement}
 use Rattle.ask.proofs.stream.answer_lines.Tie as tie
 
 abbrev Inv-loop : tie.InvT-loop
-Inv-loop read _ _ _ _ _ _ _ _ _ _ _ from _ end = (from ≤ end) × (end ≤ length read)
+Inv-loop read _ _ _ _ _ _ _ _ _ _ _ _ _ from _ end = (from ≤ end) × (end ≤ length read)
 
 abbrev μ-loop : tie.MeasureT-loop
-μ-loop read _ _ _ _ _ _ _ _ _ _ _ _ _ end = length read - end
+μ-loop read _ _ _ _ _ _ _ _ _ _ _ _ _ _ _ end = length read - end
 
 find-requires : tie.Need-find-requires Inv-loop μ-loop
 find-requires c κs = search needs
