@@ -15,25 +15,20 @@ use crate::told::bad;
 use lines::out;
 use lines::words;
 
-// The answer to a line, and its line feed. A line that was too long to hold is no question.
-pub fn answer_line(
+// The answer to a line, and its line feed.
+pub fn answer(
     line: &[u8],
-    too_long: bool,
     recording: &mut [u8; 65536],
     table: &mut [u64; 30000],
     out: &mut [u8; 65536],
     held: usize,
 ) -> usize {
-    if too_long {
-        let n = bad(out, held);
-        return out::put(out, n, b"\n");
-    }
-    let n = answer(line, recording, table, out, held);
+    let n = line_told(line, recording, table, out, held);
     out::put(out, n, b"\n")
 }
 
-// The forms stand in the order of the names (crates/ask/src/asked.rt has their letters).
-fn answer(
+// The forms stand in the order of the names; crates/ask/src/asked.rt has their letters.
+fn line_told(
     line: &[u8],
     recording: &mut [u8; 65536],
     table: &mut [u64; 30000],

@@ -6,10 +6,12 @@ use Rattle.ask.proofs.stream.answer_lines.Statement.{statement}
 use Rattle.ask.proofs.stream.answer_lines.Tie as tie
 
 abbrev Inv-loop : tie.InvT-loop
-Inv-loop read _ _ _ _ _ _ _ _ _ _ _ _ _ from _ end = (from ≤ end) × (end ≤ length read)
+Inv-loop read old recording₀ table₀ out₀ gathered₀ from₀ end₀ recording table out gathered from end =
+    (from ≤ end) × (end ≤ length read)
 
 abbrev μ-loop : tie.MeasureT-loop
-μ-loop read _ _ _ _ _ _ _ _ _ _ _ _ _ _ _ end = length read - end
+μ-loop read old recording₀ table₀ out₀ gathered₀ from₀ end₀ recording table out gathered from end =
+    length read - end
 
 find-requires : tie.Need-find-requires Inv-loop μ-loop
 find-requires c κs = search needs
@@ -26,8 +28,8 @@ part-line-start c = search needs
 part-line-end : tie.Need-part-line-end Inv-loop μ-loop
 part-line-end c = search needs
 
-answer-line-requires : tie.Need-answer-line-requires Inv-loop μ-loop
-answer-line-requires c κs = search needs
+answer-requires : tie.Need-answer-requires Inv-loop μ-loop
+answer-requires c κs = search needs
 
 add-from : tie.Need-add-from Inv-loop μ-loop
 add-from c = search needs
@@ -58,7 +60,7 @@ answer-lines-spec =
     sub-line
     part-line-start
     part-line-end
-    answer-line-requires
+    answer-requires
     add-from
     find-requires-2
     loop-less

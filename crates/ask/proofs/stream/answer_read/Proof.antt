@@ -27,11 +27,14 @@ answer-lines-requires c κs =
 sub-left : tie.Need-sub-left
 sub-left c = begun c
 
-keep-requires : tie.Need-keep-requires
-keep-requires c κs = let b = begun (c .before) in omega arith
+element-write-room : tie.Need-element-write-room
+element-write-room c = search needs
 
 returns : tie.Need-returns
 returns c = search needs
+
+keep-requires : tie.Need-keep-requires
+keep-requires c κs = let b = begun (c .before .before) in omega arith
 
 returns-2 : tie.Need-returns-2
 returns-2 c = search needs
@@ -43,6 +46,7 @@ answer-read-spec =
     slice-aggregate-answer-lines
     answer-lines-requires
     sub-left
-    keep-requires
+    element-write-room
     returns
+    keep-requires
     returns-2)

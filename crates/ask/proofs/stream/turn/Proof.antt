@@ -7,7 +7,7 @@ use Rattle.ask.proofs.stream.turn.Tie as tie
 
 -- what the read brought fits the room
 brought : (c : tie.After-known-told)
-    → c .before .before .before .before .before .args .state .held + c .before .n .given .0 .0 ≤ 1048576
+    → c .before .before .before .before .before .args .held + c .before .n .given .0 .0 ≤ 1048576
 brought c =
     let r = rw (c .before .n .given .1) at (c .before .before .before .read-more .ensures) in
     omega arith
@@ -36,8 +36,8 @@ answer-last-requires c κs = search needs
 enum-known-n : tie.Need-enum-known-n
 enum-known-n c = search needs
 
-add-filled : tie.Need-add-filled
-add-filled c = omega (arith, brought c)
+add-answer-read : tie.Need-add-answer-read
+add-answer-read c = omega (arith, brought c)
 
 answer-read-requires : tie.Need-answer-read-requires
 answer-read-requires c κs = (omega arith, brought (c .before))
@@ -63,7 +63,7 @@ turn-spec =
     enum-told-2
     answer-last-requires
     enum-known-n
-    add-filled
+    add-answer-read
     answer-read-requires
     returns
     returns-2
