@@ -4,20 +4,18 @@ use Prim.Native.Nat.{ℕ, zero, suc, _+_, _-_, _/_, _≤_, _<_}
 use mathlib.Core.Path.{_≡_, sym, subst}
 use mathlib.Core.List.{List}
 use native.Mathlib.Omega.{arith}
-use lib.ListN.{length, drop}
-use lib.Dec.{eqb}
-use Rattle.header.specs.Header.{headerOf}
-use Rattle.header.specs.Refusals.{tooDeep}
+use lib.ListN.{length}
 use Rattle.kinds.specs.Kinds.{kindUnder}
 use Rattle.bodies.specs.Bodies.{bodyOf}
 use Rattle.elements.specs.Forest.{Element, Forest, none, node, whole, span, count, join}
-use Rattle.elements.specs.Reading.{Outcome, done, refused, siblings, element, elementOf, depths, masterBody}
+use Rattle.elements.specs.Reading.{Outcome, done, siblings, element, elementOf, depths, masterBody}
 use Rattle.elements.specs.Rows.{rows, width}
 use Rattle.elements.specs.Promise.{keeping, filled, readOf}
 use Rattle.elements.specs.Theorems.{Each, DepthsAllowed, RowsFit}
 use Rattle.elements.specs.declared.row.Row.{Row}
 use Rattle.elements.specs.declared.row.Mode.{Mode}
-use Rattle.elements.proofs.Outcomes.{never, of-refuse, of-prepend, of-above, of-then, of-headed, of-cond}
+use Rattle.elements.proofs.Outcomes.{of-refuse}
+use Rattle.elements.proofs.Parts.{of-siblings, of-none, no-depth, of-element}
 use Rattle.elements.proofs.Bodies.{of-held}
 use Rattle.elements.proofs.Readback.{accepted-read}
 use Rattle.elements.proofs.Sound.{each-append}
@@ -46,30 +44,24 @@ low-node l e kids f q a = rw q (a, low-none (suc l))
 module _ (s : List ℕ) (mode : Mode) (cap : ℕ) where
   siblings-low : (l : ℕ) (read : ℕ → ℕ → Outcome) → ((at n : ℕ) (f : Forest) → read at n ≡ done f → Low l f)
       → (most at left n : ℕ) (f : Forest) → siblings read most at left n ≡ done f → Low l f
-  unfolding siblings
-  siblings-low l read good zero at left n f q = let e : none ≡ f = cc in subst (Low l) e (low-none l)
+  siblings-low l read good zero at left n f q = subst (Low l) (sym (of-none read at left n f q)) (low-none l)
   siblings-low l read good (suc most) at left n f q =
-      of-cond (eqb left 0) q
-      (λ t w. let e : none ≡ f = cc in subst (Low l) e (low-none l))
-      (λ t w.
-      let (g, e, v) = of-then w in
-      let u = of-refuse _ _ _ v in
-      let (r, x, y) = of-prepend g (siblings read most (at + span g) (left - span g) (n + count g)) f (u .1) in
+      of-siblings read most at left n f q
+      (λ z e. subst (Low l) (sym e) (low-none l))
+      (λ g r e o x y.
       let i = siblings-low l read good most (at + span g) (left - span g) (n + count g) r x in
       subst (Low l) (sym y) (low-join l g r (good at n g e) i))
 
   element-low : (l parent at n : ℕ) (f : Forest) → element s mode cap l parent at n ≡ done f → Low l f
-  unfolding element
-  element-low zero parent at n f q =
-      never (of-headed {x = headerOf (drop at s)} {k = λ h. refused tooDeep} q .2)
+  element-low zero parent at n f q = no-depth s mode cap parent at n f q
   element-low (suc l) parent at n f q =
-      let (h, e, w) = of-headed {x = headerOf (drop at s)} q in
-      let (kids, v, a) = of-above (elementOf parent h) _ f (of-refuse _ _ _ w .1) in
-      low-node l (elementOf parent h) kids f a
-      (of-held (bodyOf s (at + h .length) (h .size) (kindUnder parent (h .id))) _ kids v
+      let o = of-element s mode cap l parent at n f q in
+      let h = o .header in
+      low-node l (elementOf parent h) (o .kids) f (o .is)
+      (of-held (bodyOf s (at + h .length) (h .size) (kindUnder parent (h .id))) _ (o .kids) (o .inner)
       (λ b u.
       siblings-low l (element s mode cap l (h .id)) (element-low l (h .id)) (h .size) (at + h .length) (h .size) (n + 1)
-      kids u)
+      (o .kids) u)
       (λ b u. subst (Low l) (sym u) (low-none l)))
 
 -- The rows of elements within so many depths.

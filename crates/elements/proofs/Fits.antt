@@ -4,18 +4,15 @@ use mathlib.Core.Path.{_≡_, sym, subst}
 use mathlib.Core.List.{List}
 use mathlib.Core.Bool.{false}
 use native.Mathlib.Omega.{arith}
-use lib.ListN.{drop}
-use lib.Dec.{eqb}
 use borrow.Author.Tests.{leb-false}
-use Rattle.header.specs.Header.{headerOf}
-use Rattle.header.specs.Refusals.{tooDeep}
 use Rattle.kinds.specs.Kinds.{kindUnder}
 use Rattle.bodies.specs.Bodies.{bodyOf}
 use Rattle.elements.specs.Forest.{Element, Forest, none, node, span, count}
-use Rattle.elements.specs.Reading.{Outcome, done, refused, full, siblings, element, elementOf, masterBody}
+use Rattle.elements.specs.Reading.{Outcome, done, full, siblings, element, elementOf, masterBody}
 use Rattle.elements.specs.Rows.{width}
 use Rattle.elements.specs.Promise.{keeping, filled, readOf}
-use Rattle.elements.proofs.Outcomes.{never, of-refuse, of-prepend, of-above, of-then, of-headed, of-cond}
+use Rattle.elements.proofs.Outcomes.{of-refuse}
+use Rattle.elements.proofs.Parts.{of-siblings, of-none, no-depth, of-element}
 use Rattle.elements.proofs.Bodies.{of-held}
 use Rattle.elements.proofs.Forests.{count-join}
 
@@ -26,15 +23,12 @@ module _ (s : List ℕ) (cap : ℕ) where
 
   siblings-fit : (read : ℕ → ℕ → Outcome) → Keeps read → (most at left n : ℕ) (f : Forest) → n ≤ cap
       → siblings read most at left n ≡ done f → n + count f ≤ cap
-  unfolding siblings Keeps count
-  siblings-fit read good zero at left n f l q = let e : none ≡ f = cc in rw (← e) (omega arith)
+  unfolding Keeps count
+  siblings-fit read good zero at left n f l q = rw (of-none read at left n f q) (omega arith)
   siblings-fit read good (suc most) at left n f l q =
-      of-cond (eqb left 0) q
-      (λ t w. let e : none ≡ f = cc in rw (← e) (omega arith))
-      (λ t w.
-      let (g, e, v) = of-then w in
-      let u = of-refuse _ _ _ v in
-      let (r, x, y) = of-prepend g (siblings read most (at + span g) (left - span g) (n + count g)) f (u .1) in
+      of-siblings read most at left n f q
+      (λ z e. rw e (omega arith))
+      (λ g r e o x y.
       let k = good at n g l e in
       let i = siblings-fit read good most (at + span g) (left - span g) (n + count g) r k x in
       let j = count-join g r in
@@ -54,22 +48,20 @@ module _ (s : List ℕ) (cap : ℕ) where
   more-none n l = omega arith
 
   element-fit : (levels parent : ℕ) → Keeps (element s keeping cap levels parent)
-  unfolding element Keeps
-  element-fit zero parent at n f l q =
-      never (of-headed {x = headerOf (drop at s)} {k = λ h. refused tooDeep} q .2)
+  unfolding Keeps
+  element-fit zero parent at n f l q = no-depth s keeping cap parent at n f q
   element-fit (suc levels) parent at n f l q =
-      let (h, e, w) = of-headed {x = headerOf (drop at s)} q in
-      let o = of-refuse _ _ _ w in
-      let more = free n (o .0) in
-      let (kids, v, a) = of-above (elementOf parent h) _ f (o .1) in
-      of-held (bodyOf s (at + h .length) (h .size) (kindUnder parent (h .id))) _ kids v
+      let o = of-element s keeping cap levels parent at n f q in
+      let h = o .header in
+      let more = free n (o .free) in
+      of-held (bodyOf s (at + h .length) (h .size) (kindUnder parent (h .id))) _ (o .kids) (o .inner)
       (λ b u.
       let i = siblings-fit (element s keeping cap levels (h .id)) (element-fit levels (h .id)) (h .size)
-      (at + h .length) (h .size) (n + 1) kids more u in
-      fits-node n (elementOf parent h) kids f a i)
+      (at + h .length) (h .size) (n + 1) (o .kids) more u in
+      fits-node n (elementOf parent h) (o .kids) f (o .is) i)
       (λ b u.
-      let z : n + 1 + count none ≤ cap = more-none n more in
-      fits-node n (elementOf parent h) kids f a (subst (λ (x : Forest). n + 1 + count x ≤ cap) (sym u) z))
+      let z = subst (λ (x : Forest). n + 1 + count x ≤ cap) (sym u) (more-none n more) in
+      fits-node n (elementOf parent h) (o .kids) f (o .is) z)
 
 module _ (s : List ℕ) (start size parent numbers : ℕ) (f : Forest) where
   pub filled-fit : filled s start size parent numbers ≡ done f → count f ≤ numbers / width

@@ -1,6 +1,7 @@
 -- The laws that the proofs of `elements` share, and its theorems.
 pub mod Limits
 pub mod Outcomes
+pub mod Parts
 pub mod Bodies
 pub mod Forests
 pub mod Tables

@@ -73,10 +73,6 @@ module _ (parent depth at x : ℕ) (e : Element) where
   master-holds : IsMaster e → row-holds ≡ one (within at (e .header .length) x)
   master-holds m = rw (eq-eqb (numberOf (e .kind)) 1 m) (add-zero (one (within at (e .header .length) x)))
 
-no-holders : (parent depth at n x : ℕ) (f : Forest) → f ≡ none → holders (rows parent depth at n f) x ≡ 0
-unfolding rows holders
-no-holders parent depth at n x f e = rw e
-
 -- What stands has one holder for each of its bytes.
 covers : (s : List ℕ) (id parent depth at n : ℕ) (f : Forest) → Stands s id at f → (x : ℕ)
     → holders (rows parent depth at n f) x ≡ one (within at (span f) x)

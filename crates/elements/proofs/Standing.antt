@@ -4,23 +4,22 @@ use mathlib.Core.Path.{_≡_, refl, subst}
 use mathlib.Core.List.{List}
 use mathlib.Core.Bool.{Bool, true, false}
 use native.Mathlib.Omega.{arith}
-use lib.ListN.{length, drop}
+use lib.ListN.{length}
 use lib.Dec.{eqb}
-use borrow.Author.Tests.{eqb-true, eqb-false, ltb-false}
-use Rattle.header.specs.Header.{headerOf}
-use Rattle.header.specs.Refusals.{tooDeep}
+use borrow.Author.Tests.{eqb-true, eqb-false}
 use Rattle.header.proofs.Inside.{header-inside}
 use Rattle.kinds.specs.Kinds.{numberOf, kindUnder}
 use Rattle.kinds.specs.declared.kind.Kind.{Kind}
 use Rattle.bodies.specs.Bodies.{master, bodyOf}
 use Rattle.elements.specs.Forest.{Element, Forest, none, node, whole, span, join}
-use Rattle.elements.specs.Reading.{Outcome, done, refused, siblings, element, elementOf, depths, masterBody}
+use Rattle.elements.specs.Reading.{Outcome, done, siblings, element, elementOf, depths, masterBody}
 use Rattle.elements.specs.Rows.{width}
 use Rattle.elements.specs.Promise.{keeping, filled, readOf}
 use Rattle.elements.specs.Stands.{IsValue, StandsAt, Stands}
 use Rattle.elements.specs.declared.row.Mode.{Mode}
 use Rattle.elements.proofs.Limits.{start-inside}
-use Rattle.elements.proofs.Outcomes.{never, of-refuse, of-prepend, of-above, of-then, of-headed, of-cond}
+use Rattle.elements.proofs.Outcomes.{of-refuse}
+use Rattle.elements.proofs.Parts.{of-siblings, of-none, no-depth, of-element}
 use Rattle.elements.proofs.Bodies.{Leaf, a-refusal, a-value, leaf-body, master-body, of-held}
 use Rattle.elements.proofs.Forests.{span-join}
 
@@ -48,18 +47,13 @@ module _ (s : List ℕ) where
   siblings-stand :
       (parent : ℕ) (read : ℕ → ℕ → Outcome) → Reads parent read → (most at left n : ℕ) (f : Forest) → left ≤ most
       → at ≤ length s → siblings read most at left n ≡ done f → (span f ≡ left) × Stands s parent at f
-  unfolding siblings Reads Stands span
-  siblings-stand parent read good zero at left n f l i q =
-      let e : none ≡ f = cc in rw (← e) (omega arith, i)
+  unfolding Reads Stands span
+  siblings-stand parent read good zero at left n f l i q = rw (of-none read at left n f q) (omega arith, i)
   siblings-stand parent read good (suc most) at left n f l i q =
-      of-cond (eqb left 0) q
-      (λ t w. let e : none ≡ f = cc in let z = eqb-true left 0 t in rw (← e) (omega arith, i))
-      (λ t w.
-      let (g, e, v) = of-then w in
-      let u = of-refuse _ _ _ v in
-      let (r, x, y) = of-prepend g (siblings read most (at + span g) (left - span g) _) f (u .1) in
+      of-siblings read most at left n f q
+      (λ z e. rw e (omega arith, i))
+      (λ g r e o x y.
       let k = good at n g e in
-      let o = ltb-false left (span g) (u .0) in
       let inside = stands-inside parent at g (k .1) in
       let c = siblings-stand parent read good most (at + span g) (left - span g) _ r (omega arith) inside x in
       rw y (omega (arith, span-join g r), stands-join parent at g r (k .1) (c .1)))
@@ -94,15 +88,17 @@ module _ (s : List ℕ) where
   stands-node parent at e kids h k i = (h, k, i)
 
   element-stands : (mode : Mode) (cap levels parent : ℕ) → Reads parent (element s mode cap levels parent)
-  unfolding element Reads Stands span
-  element-stands mode cap zero parent at n f q =
-      never (of-headed {x = headerOf (drop at s)} {k = λ h. refused tooDeep} q .2)
+  unfolding Reads Stands span
+  element-stands mode cap zero parent at n f q = no-depth s mode cap parent at n f q
   element-stands mode cap (suc levels) parent at n f q =
-      let (h, e, w) = of-headed q in
+      let o = of-element s mode cap levels parent at n f q in
+      let h = o .header in
+      let e = o .head in
+      let kids = o .kids in
+      let a = o .is in
       let i = header-inside s at h e in
-      let (kids, v, a) = of-above (elementOf parent h) _ f (of-refuse _ _ _ w .1) in
       let k = kindUnder parent (h .id) in
-      of-held (bodyOf s (at + h .length) (h .size) k) _ kids v
+      of-held (bodyOf s (at + h .length) (h .size) k) _ kids (o .inner)
       (λ b u.
       let m = is-master (at + h .length) (h .size) k b in
       let g = siblings-stand (h .id) (element s mode cap levels (h .id)) (element-stands mode cap levels (h .id))
