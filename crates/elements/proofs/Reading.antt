@@ -66,29 +66,29 @@ module _ (s : List ℕ) (mode : Mode) (cap depth parent at n : ℕ) where
 
       module _ (f : full mode cap n ≡ false) where
         -- What is left to do where a row is free.
-        by-body : element-here
+        pub el-body : element-here
             ≡ above (elementOf parent h)
             (held (bodyOf s (at + h .length) (h .size) (kindUnder parent (h .id)))
             (masterBody s mode cap (depth + 1) (h .id) (at + h .length) (h .size) (n + 1)))
         unfolding element masterBody
-        by-body = rw (levels, head) (passes _ _ _ f)
+        el-body = rw (levels, head) (passes _ _ _ f)
 
         pub el-master : numberOf (kindUnder parent (h .id)) ≡ 1
             → element-here
             ≡ above (elementOf parent h)
             (masterBody s mode cap (depth + 1) (h .id) (at + h .length) (h .size) (n + 1))
-        el-master m = by-body ∙ rw (master-body s (at + h .length) (h .size) (kindUnder parent (h .id)) m)
+        el-master m = el-body ∙ rw (master-body s (at + h .length) (h .size) (kindUnder parent (h .id)) m)
 
         pub el-bad : (e : Refusal) → bodyRead (kindUnder parent (h .id)) s (at + h .length) (h .size) ≡ BodyRefused e
             → element-here ≡ refused e
-        el-bad e b = by-body ∙ rw (held-refused s (at + h .length) (h .size) (kindUnder parent (h .id)) e
+        el-bad e b = el-body ∙ rw (held-refused s (at + h .length) (h .size) (kindUnder parent (h .id)) e
             (masterBody s mode cap (depth + 1) (h .id) (at + h .length) (h .size) (n + 1)) b)
 
         pub el-leaf : (after : Cursor)
             → LeafRead s (at + h .length) (h .size) (bodyOf s (at + h .length) (h .size) (kindUnder parent (h .id)))
             (masterBody s mode cap (depth + 1) (h .id) (at + h .length) (h .size) (n + 1)) after
             → element-here ≡ done (node (elementOf parent h) none none)
-        el-leaf after r = by-body ∙ rw (r .holds)
+        el-leaf after r = el-body ∙ rw (r .holds)
 
 -- ---- what an answer says of the outcome
 

@@ -1,11 +1,13 @@
 -- A header that was read has bytes, and they are in the recording. Assumes nothing.
-use Prim.Native.Nat.{ℕ, _+_, _≤_, _<_}
-use mathlib.Core.Path.{_≡_, refl}
+use Prim.Native.Nat.{ℕ, _+_, _*_, _%_, _^_, _≤_, _<_}
+use mathlib.Core.Path.{_≡_, refl, ap}
 use mathlib.Core.List.{List}
 use mathlib.Core.Bool.{Bool, true, false, cond}
+use native.Mathlib.Nat.{mod-lt}
 use native.Mathlib.Omega.{arith}
 use lib.ListN.{length, take, drop, length-drop}
 use lib.Dec.{ltb, leb}
+use lib.Pow.{pow-pos, pow-mono}
 use borrow.Author.Tests.{ltb-true, leb-true}
 use Rattle.header.specs.Vint.{Width, unmarked, zeros, widthOf, bits, bigEndian}
 use Rattle.header.specs.Vint.{Vint, vint, ends, long, ofWidth, vintOf}
@@ -41,11 +43,11 @@ made most n v s (zeros z) q = go (ltb z most) refl (leb (z + 1) (length s)) refl
     go false d c e w = let x : _≡_ {A = ℕ} 0 1 = cc in absurd (omega arith)
 
 -- how many octets a VINT has
-vint-octets : (most n v : ℕ) (s : List ℕ) → vintOf most s ≡ vint n v → (1 ≤ n) × (n ≤ length s)
+vint-octets : (most n v : ℕ) (s : List ℕ) → vintOf most s ≡ vint n v → (1 ≤ n) × (n ≤ length s) × (n ≤ most)
 unfolding vintOf
 vint-octets most n v s q =
     let m = made most n v s (widthOf (bits s)) q in
-    omega (arith, m .octets, m .there)
+    omega (arith, m .octets, m .there, m .few)
 
 -- The header at the head of some octets is one of them at least, and not more than there are.
 pub heading-inside : (s : List ℕ) (h : Header) → headerOf s ≡ heading h → (1 ≤ h .length) × (h .length ≤ length s)
@@ -63,9 +65,31 @@ heading-inside s h = by-name (vintOf 4 s) refl
     by-size id n i long e w = let x : _≡_ {A = ℕ} 0 1 = cc in absurd (omega arith)
 
     by-name : (v : Vint) → vintOf 4 s ≡ v → named s v ≡ heading h → (1 ≤ h .length) × (h .length ≤ length s)
-    by-name (vint n id) e w = by-size id n (vint-octets 4 n id s e) (vintOf 8 (drop n s)) refl w
+    by-name (vint n id) e w =
+        let o = vint-octets 4 n id s e in
+        by-size id n (o .0, o .1) (vintOf 8 (drop n s)) refl w
     by-name ends e w = let x : _≡_ {A = ℕ} 0 1 = cc in absurd (omega arith)
     by-name long e w = let x : _≡_ {A = ℕ} 0 1 = cc in absurd (omega arith)
+
+-- Its size has at most 56 bits: eight octets of 7 bits each.
+pub heading-sized : (s : List ℕ) (h : Header) → headerOf s ≡ heading h → h .size < 2 ^ 56
+unfolding headerOf named sized
+heading-sized s h = by-name (vintOf 4 s)
+  where
+    by-size : (id n : ℕ) (v : Vint) → vintOf 8 (drop n s) ≡ v → sized id n v ≡ heading h → h .size < 2 ^ 56
+    by-size id n (vint m value) e w =
+        let k : h .size ≡ value % 2 ^ (7 * m) = cc in
+        let o = vint-octets 8 m value (drop n s) e in
+        let low = mod-lt value (pow-pos (7 * m)) in
+        let up = pow-mono {i = 7 * m} {j = 56} (omega arith) in
+        omega arith
+    by-size id n ends e w = let x : _≡_ {A = ℕ} 0 1 = cc in absurd (omega arith)
+    by-size id n long e w = let x : _≡_ {A = ℕ} 0 1 = cc in absurd (omega arith)
+
+    by-name : (v : Vint) → named s v ≡ heading h → h .size < 2 ^ 56
+    by-name (vint n id) w = by-size id n (vintOf 8 (drop n s)) refl w
+    by-name ends w = let x : _≡_ {A = ℕ} 0 1 = cc in absurd (omega arith)
+    by-name long w = let x : _≡_ {A = ℕ} 0 1 = cc in absurd (omega arith)
 
 module _ (s : List ℕ) (at : ℕ) where
   -- The same at a place.
@@ -84,6 +108,21 @@ module _ (s : List ℕ) (at : ℕ) where
       go : (x : Heading) → headerRead at x ≡ Read h next → (x ≡ heading h) × (next ≡ record { at = at + h .length })
       go (heading h′) w = (cc, cc)
       go (refused e) w = let x : _≡_ {A = ℕ} 0 1 = cc in absurd (omega arith)
+
+  -- All that is known of a header that was read.
+  pub record HeaderThere (h : Header) (next : Cursor) : Type 0 where
+    pub head : headerOf (drop at s) ≡ heading h
+    pub behind : next .at ≡ at + h .length
+    pub some : 1 ≤ h .length
+    pub inside : next .at ≤ length s
+    pub sized : h .size < 2 ^ 56
+
+  pub header-there : (h : Header) (next : Cursor) → headerAt s at ≡ Read h next → HeaderThere h next
+  header-there h next q =
+      let (e, n) = header-read h next q in
+      let i = header-inside h e in
+      let b = ap (λ (x : Cursor). x .at) n in
+      record { head = e; behind = b; some = i .0; inside = omega arith; sized = heading-sized (drop at s) h e }
 
   pub header-refused : (e : Refusal) → headerAt s at ≡ Refused e → headerOf (drop at s) ≡ refused e
   unfolding headerAt headerRead

@@ -60,7 +60,7 @@ fn vint_data(octets: u64, value: u64) -> u64
 }
 
 // The n bytes from `at` on as one big-endian number.
-fn big_endian(recording: &[u8], at: usize, n: usize) -> u64
+pub fn big_endian(recording: &[u8], at: usize, n: usize) -> u64
     requires { ⌜ (n ≤ 8) × (at + n ≤ length (now recording)) ⌝ }
     ensures { λ r. ⌜ (r ≡ bigEndian (take n (drop at (now (recording .entry))))) × (r < 2 ^ (8 * n)) ⌝ }
 {

@@ -9,6 +9,7 @@ pub use cursor::Cursor;
 pub use cursor::Header;
 pub use cursor::HeaderRead;
 pub use cursor::NumberRead;
+pub use cursor::big_endian;
 pub use refusal::Refusal;
 pub use reply::HeaderReply;
 pub use reply::MOST_BYTES;

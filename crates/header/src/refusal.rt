@@ -2,6 +2,7 @@
 ghost use mathlib.Core.Path.{_≡_};
 ghost use Rattle.header.specs.Refusals.{pastEnd, invalidId, invalidSize, badArgument};
 ghost use Rattle.header.specs.Refusals.{invalidUint, invalidFloat, invalidDate, notUtf8};
+ghost use Rattle.header.specs.Refusals.{invalidSeekHead, staleEntry, headAgain, tooManyHeads};
 ghost use Rattle.header.specs.Refusals.{overrun, tooDeep, noFreeRow, outside};
 
 // Why a call refuses: document 01's number, and for number 8 the id, else 0.
@@ -66,6 +67,34 @@ impl Refusal {
         ensures { λ r. ⌜ r ≡ notUtf8 ⌝ }
     {
         Refusal { number: 7, id: 0 }
+    }
+
+    // 8: the segment's start plus the position of an entry for that id exceeds 2^64-1.
+    pub fn invalid_seek_head(id: u32) -> Refusal
+        ensures { λ r. ⌜ r ≡ invalidSeekHead id ⌝ }
+    {
+        Refusal { number: 8, id }
+    }
+
+    // 9: the sought address holds a header with another id.
+    pub fn stale_entry() -> Refusal
+        ensures { λ r. ⌜ r ≡ staleEntry ⌝ }
+    {
+        Refusal { number: 9, id: 0 }
+    }
+
+    // 10: a seek head is reached at an address already read as one.
+    pub fn head_again() -> Refusal
+        ensures { λ r. ⌜ r ≡ headAgain ⌝ }
+    {
+        Refusal { number: 10, id: 0 }
+    }
+
+    // 11: a 65th seek head would be read.
+    pub fn too_many_heads() -> Refusal
+        ensures { λ r. ⌜ r ≡ tooManyHeads ⌝ }
+    {
+        Refusal { number: 11, id: 0 }
     }
 
     // 12: a row at depth 16 would be needed.
