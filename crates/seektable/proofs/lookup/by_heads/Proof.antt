@@ -1,0 +1,141 @@
+-- `by_heads`: the part that the heads lead to. Assumes nothing.
+use borrow.Author.Needs.{needs}
+use Rattle.seektable.proofs.lookup.by_heads.Statement.{statement}
+use Rattle.seektable.proofs.lookup.by_heads.Tie as tie
+use mathlib.Core.Path.{refl, sym, _∙_}
+use native.Mathlib.Omega.{arith}
+use Rattle.seektable.proofs.Positions.{near}
+use Rattle.seektable.proofs.Lookups.{chain-broken, not-named, named-too-far, named-refused, named-found}
+
+slice-aggregate-linked-heads : tie.Need-slice-aggregate-linked-heads
+slice-aggregate-linked-heads c = search needs
+
+linked-heads-requires : tie.Need-linked-heads-requires
+linked-heads-requires c κs =
+    let start = c .before .before .before in
+    (start .pre, refl)
+
+enum-known-refusal : tie.Need-enum-known-refusal
+enum-known-refusal c = search needs
+
+enum-known-part : tie.Need-enum-known-part
+enum-known-part c = search needs
+
+enum-told : tie.Need-enum-told
+enum-told c = search needs
+
+enum-known-part-2 : tie.Need-enum-known-part-2
+enum-known-part-2 c = search needs
+
+is-too-far-requires : tie.Need-is-too-far-requires
+is-too-far-requires c κs = search needs
+
+invalid-seek-head-requires : tie.Need-invalid-seek-head-requires
+invalid-seek-head-requires c κs = search needs
+
+returns : tie.Need-returns
+returns c =
+    let invalid-seek-head = c .invalid-seek-head in
+    let start = c .before .before .before .before .before .before .before .before .before .before .before
+    .before .before .before in
+    let part = c .before .before .before .before .before .before .before .part in
+    let linked-heads = c .before .before .before .before .before .before .before .before .before .before
+    .linked-heads in
+    let part2 = c .before .before .before .before .part2 in
+    let is-too-far = c .before .before .is-too-far in
+    let if1 = c .before .if1 in
+    rw (invalid-seek-head .ensures) (named-too-far (start .args .recording .now) (start .args .wanted)
+    (start .args .start) (start .args .first) (part .given .0 .0) (part .given .0 .1 .0)
+    (sym (part .given .1) ∙ linked-heads .ensures) (part2 .given .0 .0) (part2 .given .1)
+    (sym (is-too-far .ensures) ∙ if1 .taken))
+
+add-address : tie.Need-add-address
+add-address c =
+    let start = c .before .before .before .before .before .before .before .before .before .before .before
+    .before .before in
+    let part2 = c .before .before .before .part2 in
+    let is-too-far = c .before .is-too-far in
+    let if1 = c .if1 in
+    omega (arith, near (start .args .start) (part2 .given .0 .0) (sym (is-too-far .ensures) ∙ if1 .left))
+
+sought-requires : tie.Need-sought-requires
+sought-requires c κs = search needs
+
+enum-known-refusal-2 : tie.Need-enum-known-refusal-2
+enum-known-refusal-2 c = search needs
+
+enum-known-header : tie.Need-enum-known-header
+enum-known-header c = search needs
+
+returns-2 : tie.Need-returns-2
+returns-2 c =
+    let start = c .before .before .before .before .before .before .before .before in
+    let refusal = c .before .refusal in
+    let linked-heads = c .before .before .before .before .linked-heads in
+    chain-broken (start .args .recording .now) (start .args .wanted) (start .args .start) (start .args .first)
+    (refusal .given .0 .0) (sym (refusal .given .1) ∙ linked-heads .ensures)
+
+returns-3 : tie.Need-returns-3
+returns-3 c =
+    let start = c .before .before .before .before .before .before .before .before .before .before in
+    let part = c .before .before .before .part in
+    let linked-heads = c .before .before .before .before .before .before .linked-heads in
+    let enum-told = c .enum-told in
+    not-named (start .args .recording .now) (start .args .wanted) (start .args .start) (start .args .first)
+    (part .given .0 .0) (part .given .0 .1 .0) (sym (part .given .1) ∙ linked-heads .ensures) (enum-told .given .1)
+
+returns-4 : tie.Need-returns-4
+returns-4 c =
+    let start = c .before .before .before .before .before .before .before .before .before .before .before
+    .before .before .before .before .before .before in
+    let part = c .before .before .before .before .before .before .before .before .before .before .part in
+    let linked-heads = c .before .before .before .before .before .before .before .before .before .before .before
+    .before .before .linked-heads in
+    let part2 = c .before .before .before .before .before .before .before .part2 in
+    let is-too-far = c .before .before .before .before .before .is-too-far in
+    let if1 = c .before .before .before .before .if1 in
+    let refusal2 = c .before .refusal2 in
+    let sought = c .before .before .before .sought in
+    named-refused (start .args .recording .now) (start .args .wanted) (start .args .start) (start .args .first)
+    (part .given .0 .0) (part .given .0 .1 .0) (sym (part .given .1) ∙ linked-heads .ensures) (part2 .given .0 .0)
+    (part2 .given .1) (sym (is-too-far .ensures) ∙ if1 .left) (refusal2 .given .0 .0)
+    (sym (refusal2 .given .1) ∙ sought .ensures)
+
+returns-5 : tie.Need-returns-5
+returns-5 c =
+    let start = c .before .before .before .before .before .before .before .before .before .before .before
+    .before .before .before .before .before .before in
+    let part = c .before .before .before .before .before .before .before .before .before .before .part in
+    let linked-heads = c .before .before .before .before .before .before .before .before .before .before .before
+    .before .before .linked-heads in
+    let part2 = c .before .before .before .before .before .before .before .part2 in
+    let is-too-far = c .before .before .before .before .before .is-too-far in
+    let if1 = c .before .before .before .before .if1 in
+    let header = c .before .header in
+    let sought = c .before .before .before .sought in
+    named-found (start .args .recording .now) (start .args .wanted) (start .args .start) (start .args .first)
+    (part .given .0 .0) (part .given .0 .1 .0) (sym (part .given .1) ∙ linked-heads .ensures) (part2 .given .0 .0)
+    (part2 .given .1) (sym (is-too-far .ensures) ∙ if1 .left) (header .given .0 .0) (header .given .0 .1 .0)
+    (sym (header .given .1) ∙ sought .ensures)
+
+pub by-heads-spec : {M : Type 1} → statement M
+by-heads-spec =
+    tie.close
+    (tie.spec
+    slice-aggregate-linked-heads
+    linked-heads-requires
+    enum-known-refusal
+    enum-known-part
+    enum-told
+    enum-known-part-2
+    is-too-far-requires
+    invalid-seek-head-requires
+    returns
+    add-address
+    sought-requires
+    enum-known-refusal-2
+    enum-known-header
+    returns-2
+    returns-3
+    returns-4
+    returns-5)
