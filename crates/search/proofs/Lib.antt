@@ -1,0 +1,9 @@
+-- The laws that the proofs of `search` share, and its theorems.
+pub mod Before
+pub mod Walking
+pub mod Trusty
+pub mod Finding
+pub mod Unique
+pub mod Found
+pub mod Useless
+pub mod Cases

@@ -1,0 +1,78 @@
+// The public call: a part of a recording, found and read into rows of a lent table.
+ghost use mathlib.Core.Path.{_≡_};
+ghost use Rattle.search.specs.Part.{parentOf, PartPromise};
+use crate::walk::place_of;
+use elements::ReadReply;
+use elements::clear;
+use elements::fill;
+use elements::is_allowed;
+use header::Refusal;
+use kinds::TABLE;
+use kinds::ids;
+use seektable::PartPlace;
+
+// The payload's address and size, how many rows it has, and how many seek heads were read; or that the part is absent;
+// or a refusal.
+pub enum PartReply {
+    Found {
+        at: u64,
+        size: u64,
+        rows: u64,
+        heads: u64,
+    },
+    Absent {
+        heads: u64,
+    },
+    Refused(Refusal),
+}
+
+// The id that a part's children are read under.
+pub enum Parent {
+    Id(u32),
+    NoPart,
+}
+
+// The four parts that can be searched for.
+fn parent_of(part: u32) -> Parent
+    ensures { λ r. ⌜ r ≡ parentOf part ⌝ }
+{
+    match part {
+        ids::TRACKS => Parent::Id(ids::TRACKENTRY),
+        ids::ATTACHMENTS => Parent::Id(ids::ATTACHEDFILE),
+        ids::CHAPTERS => Parent::Id(ids::EDITIONENTRY),
+        ids::TAGS => Parent::Id(ids::TAG),
+        _ => Parent::NoPart,
+    }
+}
+
+// Where the part is, and its elements as rows of the table, as `read` would fill it. The table of an absent part is all
+// zeros, and that of a refused one too. 14: a length is broken, or the part is none of the four.
+pub fn find_part(recording: &[u8], part: u32, table: &mut [u64]) -> PartReply
+    ensures { λ r. ⌜ PartPromise (now (recording .entry)) part (now (table .entry)) r (now (table .exit)) ⌝ }
+{
+    clear(table);
+    if !is_allowed(recording, 0, table) {
+        return PartReply::Refused(Refusal::bad_argument());
+    }
+    match parent_of(part) {
+        Parent::NoPart => PartReply::Refused(Refusal::bad_argument()),
+        Parent::Id(parent) => {
+            let kinds = TABLE;
+            match place_of(recording, &kinds, part) {
+                PartPlace::Refused(refusal) => PartReply::Refused(refusal),
+                PartPlace::Absent { heads } => PartReply::Absent { heads },
+                PartPlace::Found { at, size, heads } => {
+                    match fill(recording, at, size, parent, table) {
+                        ReadReply::Refused(refusal) => PartReply::Refused(refusal),
+                        ReadReply::Rows(rows) => PartReply::Found {
+                            at,
+                            size,
+                            rows,
+                            heads,
+                        },
+                    }
+                }
+            }
+        }
+    }
+}
