@@ -70,6 +70,28 @@ pub fn listed(number: u64) -> u32 {
 /// Chapters and Tags.
 pub const SPECIAL: [u32; 5] = [0x1549A966, 0x1654AE6B, 0x1941A469, 0x1043A770, 0x1254C367];
 
+/// The segment, and the seek heads in it with their entries.
+pub const SEGMENT: u32 = 0x18538067;
+pub const SEEK_HEAD: u32 = 0x114D9B74;
+pub const SEEK: u32 = 0x4DBB;
+pub const SEEK_ID: u32 = 0x53AB;
+pub const SEEK_POSITION: u32 = 0x53AC;
+
+/// The four parts that can be searched for, each with the parent under which its
+/// payload is read: Tracks, Attachments, Chapters and Tags.
+pub const PARTS: [(u32, u32); 4] = [
+    (0x1654AE6B, 0xAE),
+    (0x1941A469, 0x61A7),
+    (0x1043A770, 0x45B9),
+    (0x1254C367, 0x7373),
+];
+
+/// The parent under which a part is read; `None` if the id is none of the four.
+pub fn part_parent(id: u32) -> Option<u32> {
+    let part = PARTS.iter().find(|part| part.0 == id);
+    part.map(|part| part.1)
+}
+
 /// The special parents, neighbours of two of them, and others.
 pub const PARENTS: [u32; 14] = [
     0x1549A966, 0x1654AE6B, 0x1941A469, 0x1043A770, 0x1254C367, 0, 0xAE, 0x7373, 0x18538067,

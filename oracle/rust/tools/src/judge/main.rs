@@ -1,12 +1,13 @@
 //! Judges answers: ours against the oracle's, a stored list, the worked cases.
 
 mod files;
+mod part;
 mod reading;
 mod rules;
 mod table;
 
 use files::Lines;
-use rules::{verdict, Case, Verdict, NAMES};
+use rules::{due, verdict, Case, Verdict, NAMES};
 use std::collections::BTreeMap;
 use std::fs;
 use std::io::{self, Write};
@@ -109,9 +110,10 @@ fn compare(cases: &[Case]) -> Result<bool, String> {
         .min_by_key(|case| case.question.len());
     if let Some(case) = smallest {
         show(case, "ours");
-        if let Some(due) = question::parse(case.question).and_then(|asked| table::due(&asked)) {
+        if let Some(due) = question::parse(case.question).and_then(|asked| due(&asked)) {
             show_line("due of ours", due.ours.as_bytes());
-            show_line("due of the crate", due.theirs.as_bytes());
+            show_line("due of checked", due.checked.as_bytes());
+            show_line("due of wrapping", due.wrapping.as_bytes());
         }
     }
     Ok(smallest.is_none())
@@ -187,8 +189,11 @@ fn store(cases: &[Case]) -> Result<bool, String> {
     for case in cases {
         let given = !case.ours.is_empty();
         let fits = if given {
-            // What the oracle says need not be given.
-            case.checked == b"no answer" || matches!(verdict(case), Verdict::Exception(_))
+            // What the oracle says need not be given. Where it has no answer the
+            // judge may know ours, and then that is it.
+            let unknown = case.checked == b"no answer"
+                && question::parse(case.question).is_none_or(|asked| due(&asked).is_none());
+            unknown || matches!(verdict(case), Verdict::Exception(_))
         } else {
             let theirs = Case {
                 ours: case.checked,

@@ -101,18 +101,17 @@ impl Reading<'_> {
 
     /// An element: its header, 12, 13, its body. Gives its whole length.
     fn element(&mut self, at: u64, parent_id: u32, parent: u64, depth: u64) -> Result<u64, End> {
-        let (id, id_width) = number(self.bytes, at, 4, 2)?;
-        let (size, size_width) = number(self.bytes, at + id_width, 8, 3)?;
-        let payload = size - (1 << (7 * size_width));
+        let Header {
+            id,
+            header,
+            payload,
+        } = header(self.bytes, at)?;
         if self.terms.bounds && depth == TOO_DEEP {
             return Err(End::Refused(12));
         }
         if self.terms.bounds && self.rows.len() as u64 == self.most {
             return Err(End::Refused(13));
         }
-        // Four bytes hold an id.
-        let id = id as u32;
-        let header = id_width + size_width;
         let kind = kind(id, parent_id);
         self.rows.push(Row {
             id,
@@ -153,6 +152,25 @@ impl Reading<'_> {
         }
         Ok(())
     }
+}
+
+/// What a header says: the id, its own length and the payload's.
+pub struct Header {
+    pub id: u32,
+    pub header: u64,
+    pub payload: u64,
+}
+
+/// The header at a place, the id before the size.
+pub fn header(bytes: &[u8], at: u64) -> Result<Header, End> {
+    let (id, id_width) = number(bytes, at, 4, 2)?;
+    let (size, size_width) = number(bytes, at + id_width, 8, 3)?;
+    Ok(Header {
+        // Four bytes hold an id.
+        id: id as u32,
+        header: id_width + size_width,
+        payload: size - (1 << (7 * size_width)),
+    })
 }
 
 /// A number with its marker, and its width: one byte more than there are zero

@@ -2,7 +2,8 @@
 //! rule looks at the question's own arguments and at the answers.
 
 use crate::reading::MOST_AT_ONCE;
-use crate::table::{due, Due};
+use crate::table::Due;
+use crate::{part, table};
 use question::{parse, Question};
 
 /// A question with the answers of ours and of the two builds of the oracle.
@@ -43,10 +44,21 @@ pub enum Verdict {
 type Rule = fn(&Question, &Case) -> Option<bool>;
 
 /// The listed exceptions by name.
-pub const NAMES: [&str; 5] = ["argument", "signed", "allocation", "depth", "rows"];
+pub const NAMES: [&str; 9] = [
+    "argument",
+    "signed",
+    "allocation",
+    "depth",
+    "rows",
+    "assert",
+    "circles",
+    "heads",
+    "wraps",
+];
 
 /// Those of a header or body question, each with its rule. The element table
-/// has all five: there the judge's own reading says what is due.
+/// has the first five and the search all nine: there the judge's own reading says
+/// what is due.
 const RULES: [(&str, Rule); 3] = [
     ("argument", argument),
     ("signed", signed),
@@ -116,7 +128,7 @@ pub fn verdict(case: &Case) -> Verdict {
     // Agreeing with the crate is no excuse where a rule holds.
     if let Some(question) = parse(case.question) {
         if let Some(due) = due(&question) {
-            return table_verdict(&due, case);
+            return known_verdict(&due, case);
         }
         for (name, rule) in RULES {
             match rule(&question, case) {
@@ -137,11 +149,21 @@ pub fn verdict(case: &Case) -> Verdict {
     }
 }
 
-/// Of the element table every answer is known beforehand. A crate that answers
-/// otherwise shows that the judge's reading is wrong.
-fn table_verdict(due: &Due, case: &Case) -> Verdict {
-    let theirs = case.agree() && case.checked == due.theirs.as_bytes();
-    if !theirs || case.ours != due.ours.as_bytes() {
+/// The answers due to a question about the element table or the search; `None`
+/// for any other.
+pub fn due(question: &Question) -> Option<Due> {
+    table::due(question).or_else(|| part::due(question))
+}
+
+/// Of the element table and the search every answer is known beforehand. A crate
+/// that answers otherwise shows that the judge's reading is wrong.
+fn known_verdict(due: &Due, case: &Case) -> Verdict {
+    let pairs = [
+        (&due.ours, case.ours),
+        (&due.checked, case.checked),
+        (&due.wrapping, case.wrapping),
+    ];
+    if pairs.iter().any(|(due, told)| due.as_bytes() != *told) {
         return Verdict::Unexplained;
     }
     due.exception.map_or(Verdict::Equal, Verdict::Exception)

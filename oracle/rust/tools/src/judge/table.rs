@@ -8,12 +8,13 @@ use std::fmt::Write;
 /// The most numbers that a lent table may have.
 const MOST_NUMBERS: u64 = 28_672;
 
-/// What is due to a question about the element table.
+/// What is due to a question whose answers the judge knows by itself.
 pub struct Due {
     /// Our answer.
     pub ours: String,
-    /// The answer of both builds of the crate.
-    pub theirs: String,
+    /// The answers of the crate's two builds.
+    pub checked: String,
+    pub wrapping: String,
     /// Why they differ, by the name of the rule; `None` if they don't.
     pub exception: Option<&'static str>,
 }
@@ -24,7 +25,8 @@ pub fn due(question: &Question) -> Option<Due> {
         let told = range(table, *row, bytes.len());
         return Some(Due {
             ours: told.clone(),
-            theirs: told,
+            checked: told.clone(),
+            wrapping: told,
             exception: None,
         });
     }
@@ -34,7 +36,8 @@ pub fn due(question: &Question) -> Option<Due> {
     let exception = (ours != theirs).then(|| reason(question, &payload, &theirs));
     Some(Due {
         ours,
-        theirs,
+        checked: theirs.clone(),
+        wrapping: theirs,
         exception,
     })
 }
@@ -116,11 +119,15 @@ fn with_table(answer: Result<String, End>) -> String {
 /// 14: the table's length is broken, or the start is past the end.
 fn arguments(payload: &Payload, terms: Terms) -> Result<(), End> {
     let past_end = payload.start > payload.bytes.len() as u64;
-    let broken = payload.numbers % 7 != 0 || payload.numbers > MOST_NUMBERS;
-    if terms.bounds && (past_end || broken) {
+    if terms.bounds && (past_end || broken(payload.numbers)) {
         return Err(End::Refused(14));
     }
     Ok(())
+}
+
+/// Whether a table's length is broken.
+pub fn broken(numbers: u64) -> bool {
+    numbers % 7 != 0 || numbers > MOST_NUMBERS
 }
 
 fn read(payload: &Payload, terms: Terms) -> Result<Vec<Row>, End> {
@@ -175,8 +182,7 @@ fn bytes_of(payload: &Payload, rows: &[Row], row: u64) -> String {
 /// is one of numbers, and does not wrap.
 fn range(table: &[u64], row: u64, length: usize) -> String {
     let numbers = table.len() as u64;
-    let broken = numbers % 7 != 0 || numbers > MOST_NUMBERS;
-    if broken || row >= numbers / 7 {
+    if broken(numbers) || row >= numbers / 7 {
         return "refused 14".to_string();
     }
     let place = 7 * row as usize;
@@ -188,7 +194,7 @@ fn range(table: &[u64], row: u64, length: usize) -> String {
 }
 
 /// The rows as they stand in an answer.
-fn table(rows: &[Row]) -> String {
+pub fn table(rows: &[Row]) -> String {
     let mut told = format!("rows {}", rows.len());
     for row in rows {
         let written = write!(

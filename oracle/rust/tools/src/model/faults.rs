@@ -51,4 +51,71 @@ row-first: a row that is not in the table comes before the read
 range-wraps: the sum of address and lengths wraps at 2^64
 range-address: a payload begins at its header
 range-end: a payload may not end where the recording ends
+first-seek: the first Seek of an id in a head is taken
+earlier-head: the entry of an earlier head is taken
+first-seek-id: the first SeekID of a Seek is taken
+first-position: the first SeekPosition of a Seek is taken
+id-front: an id is the first four bytes of a SeekID
+id-long: a SeekID of more than four bytes names nothing
+seek-deep: a Seek at any depth of a head is taken
+member-deep: a SeekID or SeekPosition at any depth of a Seek is taken
+no-position: a Seek without a position is passed over
+empty-position: a SeekPosition of length 0 is passed over
+little-endian: a SeekPosition has its last byte first
+signed-position: a SeekPosition is a signed number
+wide-position: only the last four bytes of a SeekPosition count
+wanted-first: the part is looked up before a link is followed
+links-ignored: an entry for a further head is not followed
+link-kept: a link stays among the entries, and is followed again
+entries-dropped: a linked head begins with no entries
+own-address: the first head's address is not remembered
+last-address: only the address of the head that was read last is remembered
+ten-never: 10 is not given
+eleven-first: 11 comes before 10
+eleven-late: 11 comes after the header and 9
+eight-late: 8 comes after 11
+heads-65: a 65th head is read
+heads-63: a 64th head is not read
+heads-short: the first head is not counted
+heads-absent: no heads are counted where the part is absent
+heads-met: a part that is met counts one head
+head-unchecked: what a head holds beside its headers is not looked at
+head-rows: what a head holds needs room in the table
+head-depth: the direct children of a head have depth 1
+head-deep: 12 is not given in a head
+head-held: a head is read as if nothing stood behind its segment
+head-passed: a part that no head names is looked for behind the first head
+part-parent: a part is read under its own id
+part-held: a part is read as if nothing stood behind its segment
+stale-head: another element in place of a further head is read as one
+stale-part: another element in place of the part is read as the part
+stale-absent: where another element is in place of the part, the part is absent
+position-header: positions count from the segment's header
+position-file: positions count from the recording's start
+position-wraps: the sum of start and position wraps at 2^64
+position-outside: a place behind the segment is past the end
+eight-plain: 8 has no id
+eight-wanted: 8 has the id of the part that is asked for
+nine-early: 9 comes before the size of the header is read
+skip-accepted: a skipped child may overrun the segment
+skip-there: the bytes of a skipped child have to exist
+header-held: a child's header may not reach behind the segment
+met-overrun: a part that is met may not overrun the segment
+head-overrun: a head that is met may not overrun the segment
+parts-first: all children are looked through for the part before a head is read
+heads-first: all children are looked through for a head before a part is met
+empty-segment: a segment of size 0 goes to the end of the recording
+last-met: the last part that is met is taken
+before-taken: a part before the segment is taken
+before-head: a head before the segment is read
+after-taken: what stands behind the segment is looked through too
+no-segment: a recording without a segment has no parts
+wanted-only: heads are skipped
+absent-refused: an absent part is refused with 1
+absent-kept: where the part is absent the table is left as it was
+other-id: an id that is none of the four parts is searched for
+late-14: 14 comes after the search
+inner-place-14: a sought place past the end is 14
+at-header: a part is told by its header's address
+size-whole: a part's size is told with its header
 ";

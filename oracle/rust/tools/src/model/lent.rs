@@ -28,6 +28,10 @@ impl Read<'_> {
 pub struct Lent {
     pub numbers: Vec<u64>,
     pub used: usize,
+    /// The id that a refusal carries, if any.
+    pub about: Option<u32>,
+    /// What is read is a seek head.
+    pub head: bool,
     fault: Fault,
 }
 
@@ -49,6 +53,8 @@ impl Lent {
         Lent {
             numbers: vec![u64::MAX; numbers as usize],
             used: 0,
+            about: None,
+            head: false,
             fault,
         }
     }
@@ -70,6 +76,11 @@ impl Lent {
     /// Fills the table with the rows of a payload.
     pub fn read(&mut self, read: &Read) -> Result<(), u64> {
         self.arguments(read)?;
+        self.fill(read)
+    }
+
+    /// The same without a look at the arguments.
+    pub fn fill(&mut self, read: &Read) -> Result<(), u64> {
         let mut at = read.start;
         let mut open = vec![Open {
             id: read.parent,
@@ -108,10 +119,7 @@ impl Lent {
         if self.fault.is("limits-first") {
             self.limits(depth)?;
         }
-        let (id, width) = self.marked(bytes, at, 4, 2)?;
-        let (size, size_width) = self.marked(bytes, at + width, 8, 3)?;
-        let header = width + size_width;
-        let size = self.payload_size(size, size_width, left.saturating_sub(header));
+        let [id, header, size] = self.header(bytes, at, left)?;
         let kind = self.kind(id as u32, open);
         let body = at + header;
         if self.fault.is("overrun-first") && header + size > left {
@@ -137,6 +145,15 @@ impl Lent {
         Ok(body + size)
     }
 
+    /// The header at a place: the id, its own length and the payload's.
+    pub fn header(&self, bytes: &[u8], at: u64, left: u64) -> Result<[u64; 3], u64> {
+        let (id, width) = self.marked(bytes, at, 4, 2)?;
+        let (size, size_width) = self.marked(bytes, at + width, 8, 3)?;
+        let header = width + size_width;
+        let size = self.payload_size(size, size_width, left.saturating_sub(header));
+        Ok([id, header, size])
+    }
+
     /// Takes a whole element from what its master has left.
     fn take(&self, whole: u64, open: &mut [Open]) -> Result<(), u64> {
         let outer = open.len() == 1;
@@ -153,6 +170,8 @@ impl Lent {
 
     fn limits(&self, depth: u64) -> Result<(), u64> {
         let deepest = match () {
+            () if self.head && self.fault.is("head-deep") => return Ok(()),
+            () if self.head && self.fault.is("head-depth") => 14,
             () if self.fault.is("depth-17") => 16,
             () if self.fault.is("depth-15") => 14,
             () => 15,
@@ -192,7 +211,7 @@ impl Lent {
     }
 
     /// A number with its marker, and its width.
-    fn marked(&self, bytes: &[u8], at: u64, widest: u64, wide: u64) -> Result<(u64, u64), u64> {
+    pub fn marked(&self, bytes: &[u8], at: u64, widest: u64, wide: u64) -> Result<(u64, u64), u64> {
         let mut zeros = 0;
         let mut place = at as usize;
         let first = loop {
@@ -243,6 +262,9 @@ impl Lent {
 
     /// A leaf's body: its size, the end of the recording, its text.
     fn body(&self, kind: u64, bytes: &[u8], at: u64, size: u64) -> Result<(), u64> {
+        if self.head && self.fault.is("head-unchecked") {
+            return Ok(());
+        }
         let there = bytes.len() as u64 >= at && bytes.len() as u64 - at >= size;
         let missing = if self.fault.is("inner-14") { 14 } else { 1 };
         if !there && self.fault.is("end-first") {
@@ -271,7 +293,8 @@ impl Lent {
     pub fn told(&mut self, answer: Result<String, u64>) -> String {
         let mut told = match answer {
             Ok(before) => {
-                if !self.fault.is("rest-kept") {
+                let absent = before.starts_with("absent") && self.fault.is("absent-kept");
+                if !absent && !self.fault.is("rest-kept") {
                     self.numbers[7 * self.used..].fill(0);
                 }
                 before
@@ -284,7 +307,8 @@ impl Lent {
                     self.numbers.fill(0);
                 }
                 let table = if zero(&self.numbers) { "0" } else { "dirty" };
-                return format!("refused {number} table {table}");
+                let about = self.about.map_or(String::new(), |id| format!(" {id:X}"));
+                return format!("refused {number}{about} table {table}");
             }
         };
         write!(told, "rows {}", self.used).expect("a string takes everything");

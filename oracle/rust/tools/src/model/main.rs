@@ -1,11 +1,12 @@
-//! A model of our reader for the questions about the element table, to test the
-//! judge and the stored lists with: `model` answers the questions on standard
-//! input as document 01 orders, `model FAULT` with one fault. `model faults`
-//! tells the faults. It shares no reading with the judge.
+//! A model of our reader for the questions about the element table and the search
+//! for a part, to test the judge and the stored lists with: `model` answers the
+//! questions on standard input as document 01 orders, `model FAULT` with one fault.
+//! `model faults` tells the faults. It shares no reading with the judge.
 
 mod faults;
 mod lent;
 mod places;
+mod search;
 
 use faults::FAULTS;
 use lent::{Lent, Read};
@@ -102,6 +103,11 @@ fn answer(question: &Question, fault: Fault) -> String {
                 Ok(()) => places::payload(&lent, *row, bytes, fault),
                 Err(number) => lent.told(Err(number)),
             }
+        }
+        Question::Part { id, numbers, bytes } => {
+            let mut lent = Lent::new(*numbers, fault);
+            let found = search::part(&mut lent, *id, bytes, fault);
+            lent.told(found)
         }
         Question::Range { table, row, bytes } => {
             match places::range(table, *row, bytes.len() as u64, fault) {

@@ -92,7 +92,7 @@ fn planted(nodes: &[Node], parent: u32, random: &mut Random) -> Asked {
 }
 
 /// The length of a table for so many rows: full, with room, too short, broken.
-fn numbers(rows: u64, random: &mut Random) -> u64 {
+pub fn numbers(rows: u64, random: &mut Random) -> u64 {
     let numbers = match random.below(20) {
         0..=7 => 7 * rows,
         8 => 7 * rows.saturating_sub(1),
@@ -117,7 +117,7 @@ pub fn damaged(random: &mut Random) -> Asked {
 }
 
 /// One damage, mostly to a header.
-fn damage(asked: &mut Asked, random: &mut Random) {
+pub fn damage(asked: &mut Asked, random: &mut Random) {
     let length = asked.bytes.len() as u64;
     let Some(last) = asked.spots.last().filter(|_| length > 0) else {
         return;

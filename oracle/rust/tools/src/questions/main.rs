@@ -6,13 +6,16 @@
 mod asked;
 mod body;
 mod broken;
+mod found;
 mod header;
 mod kind;
 mod list;
+mod part;
 mod payload;
 mod random;
 mod range;
 mod read;
+mod segment;
 mod tree;
 mod utf8;
 mod whose;
@@ -25,7 +28,7 @@ use std::io::{self, BufWriter, Write};
 type Kind = fn(seed: u64, j: u64, random: &mut Random) -> Vec<u8>;
 
 /// The kinds that can be asked for, by their word.
-const KINDS: [(&str, Kind); 8] = [
+const KINDS: [(&str, Kind); 9] = [
     ("header", header::question),
     ("kind", kind::question),
     ("utf8", utf8::question),
@@ -34,13 +37,15 @@ const KINDS: [(&str, Kind); 8] = [
     ("whose", whose::question),
     ("payload", payload::question),
     ("range", range::question),
+    ("part", part::question),
 ];
 
 /// The kinds that have a whole list.
-const WHOLE: [(&str, List); 3] = [
+const WHOLE: [(&str, List); 4] = [
     ("kind", kind::WHOLE),
     ("utf8", utf8::WHOLE),
     ("read", read::WHOLE),
+    ("part", part::WHOLE),
 ];
 
 fn main() {

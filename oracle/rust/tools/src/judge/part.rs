@@ -1,0 +1,281 @@
+//! The search for a part, read straight from document 01 and apart from the
+//! crate: our answer by the document's terms, and each build's by the crate's.
+
+use crate::reading::{header, part, rows, End, Header, Payload, Row, Terms, CRATE, OURS};
+use crate::table::{broken, table, Due};
+use question::Question;
+use std::collections::{BTreeMap, BTreeSet};
+use tools::ids::{part_parent, SEEK, SEEK_HEAD, SEEK_ID, SEEK_POSITION, SEGMENT};
+
+/// So many seek heads are read in one search.
+const MOST_HEADS: usize = 64;
+
+/// How a search ends that has no reply.
+#[derive(Clone, Copy, PartialEq)]
+enum Stop {
+    Read(End),
+    /// 8, with the id of the entry.
+    Position(u32),
+    /// The crate asserts, or a check for overflow fails.
+    Panic,
+    /// The crate goes from head to head for ever.
+    Circles,
+}
+
+impl From<End> for Stop {
+    fn from(end: End) -> Stop {
+        Stop::Read(end)
+    }
+}
+
+/// How many heads were read, and the part if there is one.
+struct Reply {
+    heads: usize,
+    found: Option<Found>,
+}
+
+/// The place of a part's payload, and its rows.
+struct Found {
+    at: u64,
+    size: u64,
+    rows: Vec<Row>,
+}
+
+/// A search by some terms. The document's bounds are also its refusals 3, 8, 9,
+/// 10 and 11, where the crate overflows, asserts or circles.
+struct Search<'a> {
+    wanted: u32,
+    /// The parent under which the part is read, if the id is one of the four.
+    parent: Option<u32>,
+    numbers: u64,
+    bytes: &'a [u8],
+    terms: Terms,
+    /// Whether the crate's numbers wrap. Else it panics.
+    wraps: bool,
+}
+
+/// The answers due to a question; `None` if it asks for no part.
+pub fn due(question: &Question) -> Option<Due> {
+    let Question::Part { id, numbers, bytes } = question else {
+        return None;
+    };
+    let search = |terms, wraps| Search {
+        wanted: *id,
+        parent: part_parent(*id),
+        numbers: *numbers,
+        bytes,
+        terms,
+        wraps,
+    };
+    let ours = search(OURS, false).answer();
+    let checked = search(CRATE, false).answer();
+    let wrapping = search(CRATE, true).answer();
+    let differ = ours != checked || ours != wrapping;
+    let exception = differ.then(|| {
+        // The searches are the same up to where they part. So the crate's search
+        // within our bounds tells whether a bound is met before the crate stops.
+        let bounds = true;
+        let bounded = search(Terms { bounds, ..CRATE }, false).answer();
+        reason(&bounded, &checked)
+    });
+    Some(Due {
+        ours,
+        checked,
+        wrapping,
+        exception,
+    })
+}
+
+/// Why answers differ, from what the crate would say within our bounds.
+fn reason(bounded: &str, checked: &str) -> &'static str {
+    let mut words = bounded.split(' ');
+    match (words.next(), words.next()) {
+        (Some("refused"), Some("14")) => "argument",
+        (Some("refused"), Some("12")) => "depth",
+        (Some("refused"), Some("13")) => "rows",
+        (Some("refused"), Some("9")) => "assert",
+        (Some("refused"), Some("10")) => "circles",
+        (Some("refused"), Some("11")) if checked == "circles" => "circles",
+        (Some("refused"), Some("11")) => "heads",
+        (Some("refused"), Some("3" | "8")) => "wraps",
+        (Some("memory"), _) => "allocation",
+        _ => "signed",
+    }
+}
+
+impl Search<'_> {
+    /// The answer: 14 for the arguments, then the search.
+    fn answer(&self) -> String {
+        if self.terms.bounds && (self.parent.is_none() || broken(self.numbers)) {
+            return "refused 14 table 0".to_string();
+        }
+        let Some(parent) = self.parent else {
+            return "no answer".to_string();
+        };
+        match self.segment(parent) {
+            Ok(Reply { heads, found: None }) => format!("absent heads {heads} rows 0 rest 0"),
+            Ok(Reply {
+                heads,
+                found: Some(Found { at, size, rows }),
+            }) => format!("at {at} size {size} heads {heads} {}", table(&rows)),
+            Err(Stop::Read(End::Refused(number))) => format!("refused {number} table 0"),
+            Err(Stop::Read(End::Memory)) => "memory".to_string(),
+            Err(Stop::Position(id)) => format!("refused 8 {id:X} table 0"),
+            Err(Stop::Panic) => "panic".to_string(),
+            Err(Stop::Circles) => "circles".to_string(),
+        }
+    }
+
+    /// Skips what stands before the segment, and reads its children in turn. The
+    /// part is read under that parent.
+    fn segment(&self, parent: u32) -> Result<Reply, Stop> {
+        let mut at = 0;
+        let segment = loop {
+            let element = header(self.bytes, at)?;
+            if element.id == SEGMENT {
+                break element;
+            }
+            at += element.header + element.payload;
+        };
+        let start = at + segment.header;
+        let mut left = segment.payload;
+        at = start;
+        while left > 0 {
+            let child = header(self.bytes, at)?;
+            if child.id == SEEK_HEAD {
+                return self.heads(start, at, child, parent);
+            }
+            if child.id == self.wanted {
+                return self.read(at, &child, parent, 0);
+            }
+            let whole = child.header + child.payload;
+            left = match left.checked_sub(whole) {
+                Some(left) => left,
+                None => self.or_wraps(left.wrapping_sub(whole), Stop::Read(End::Refused(3)))?,
+            };
+            at += whole;
+        }
+        Ok(Reply {
+            heads: 0,
+            found: None,
+        })
+    }
+
+    /// Reads the first head and those it leads to. Then the part is looked up.
+    fn heads(&self, start: u64, first: u64, mut head: Header, parent: u32) -> Result<Reply, Stop> {
+        let mut entries = BTreeMap::new();
+        let mut heads = BTreeSet::new();
+        let mut at = first;
+        loop {
+            heads.insert(at);
+            entries.extend(self.entries(at, &head)?);
+            let Some(position) = entries.remove(&SEEK_HEAD) else {
+                break;
+            };
+            at = match start.checked_add(position) {
+                Some(at) => at,
+                None => self.or_wraps(start.wrapping_add(position), Stop::Position(SEEK_HEAD))?,
+            };
+            if heads.contains(&at) {
+                return Err(self.refused_or(10, Stop::Circles));
+            }
+            if self.terms.bounds && heads.len() == MOST_HEADS {
+                return Err(Stop::Read(End::Refused(11)));
+            }
+            head = self.sought(at, SEEK_HEAD)?;
+        }
+        let Some(position) = entries.get(&self.wanted) else {
+            return Ok(Reply {
+                heads: heads.len(),
+                found: None,
+            });
+        };
+        // Here the crate looks for the overflow too.
+        let at = start.checked_add(*position);
+        let at = at.ok_or(Stop::Position(self.wanted))?;
+        let part = self.sought(at, self.wanted)?;
+        self.read(at, &part, parent, heads.len())
+    }
+
+    /// The header at a sought address, which has to have that id.
+    fn sought(&self, at: u64, id: u32) -> Result<Header, Stop> {
+        let found = header(self.bytes, at)?;
+        if found.id != id {
+            return Err(self.refused_or(9, Stop::Panic));
+        }
+        Ok(found)
+    }
+
+    /// The entries of a head, the last of an id last. Its payload is read without
+    /// rows, so none can be missing.
+    fn entries(&self, at: u64, head: &Header) -> Result<Vec<(u32, u64)>, Stop> {
+        let payload = self.payload(at, head, SEGMENT, u64::MAX);
+        let rows = rows(&payload, self.terms)?;
+        let numbered = (1..).zip(&rows);
+        let seeks = numbered.filter(|(_, row)| row.parent == 0 && row.id == SEEK);
+        Ok(seeks.map(|(seek, _)| self.entry(&rows, seek)).collect())
+    }
+
+    /// The entry of a Seek, whose row has that number plus 1.
+    fn entry(&self, rows: &[Row], seek: u64) -> (u32, u64) {
+        let last = |id| {
+            let mut members = rows[seek as usize..].iter();
+            let row = members.rfind(|row| row.parent == seek && row.id == id)?;
+            part(self.bytes, row.address + row.header, row.payload)
+        };
+        let number = |bytes: &[u8]| {
+            bytes
+                .iter()
+                .fold(0, |sum, byte| sum << 8 | u64::from(*byte))
+        };
+        // Of the id four bytes stay, of the position there are at most eight.
+        let id = last(SEEK_ID).map_or(0, number) as u32;
+        (id, last(SEEK_POSITION).map_or(0, number))
+    }
+
+    /// Reads the part whose header stands at an address.
+    fn read(&self, at: u64, part: &Header, parent: u32, heads: usize) -> Result<Reply, Stop> {
+        let payload = self.payload(at, part, parent, self.numbers);
+        let rows = rows(&payload, self.terms)?;
+        let found = Found {
+            at: payload.start,
+            size: payload.size,
+            rows,
+        };
+        Ok(Reply {
+            heads,
+            found: Some(found),
+        })
+    }
+
+    /// The payload behind a header.
+    fn payload(&self, at: u64, header: &Header, parent: u32, numbers: u64) -> Payload<'_> {
+        Payload {
+            start: at + header.header,
+            size: header.payload,
+            parent,
+            numbers,
+            bytes: self.bytes,
+        }
+    }
+
+    /// Where a number has left its range: our refusal, or what the crate does.
+    fn or_wraps(&self, wrapped: u64, refused: Stop) -> Result<u64, Stop> {
+        if self.terms.bounds {
+            Err(refused)
+        } else if self.wraps {
+            Ok(wrapped)
+        } else {
+            Err(Stop::Panic)
+        }
+    }
+
+    /// Our refusal, or what the crate does in its place.
+    fn refused_or(&self, number: u64, theirs: Stop) -> Stop {
+        if self.terms.bounds {
+            Stop::Read(End::Refused(number))
+        } else {
+            theirs
+        }
+    }
+}
