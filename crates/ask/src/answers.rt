@@ -4,6 +4,7 @@ ghost use lib.ListN.{length};
 use crate::ask_body::body;
 use crate::ask_header::header;
 use crate::ask_kind::kind;
+use crate::ask_part::part;
 use crate::ask_payload::payload;
 use crate::ask_range::range;
 use crate::ask_read::read;
@@ -35,8 +36,8 @@ fn line_told(
     out: &mut [u8; 65536],
     held: usize,
 ) -> usize {
-    let names = b"header kind utf8 body read whose payload range";
-    let forms = b"ab ip b ipasb asptb aspdtb asptrb lrb";
+    let names = b"header kind utf8 body read whose part payload range";
+    let forms = b"ab ip b ipasb asptb aspdtb itb asptrb lrb";
     let question = words::place_of(words::word(line, 0), names);
     let asked = asked_of(line, words::word(forms, question), recording, table);
     if !asked.good {
@@ -84,8 +85,9 @@ fn reply(
         3 => body(asked, recording, out, held),
         4 => read(asked, recording, table, out, held),
         5 => whose(asked, recording, table, out, held),
-        6 => payload(asked, recording, table, out, held),
-        7 => range(asked, recording, table, out, held),
+        6 => part(asked, recording, table, out, held),
+        7 => payload(asked, recording, table, out, held),
+        8 => range(asked, recording, table, out, held),
         _ => bad(out, held),
     }
 }

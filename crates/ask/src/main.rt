@@ -3,6 +3,7 @@ mod answers;
 mod ask_body;
 mod ask_header;
 mod ask_kind;
+mod ask_part;
 mod ask_payload;
 mod ask_range;
 mod ask_read;

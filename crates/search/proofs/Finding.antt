@@ -143,7 +143,7 @@ module _ (s : List ℕ) (part : ℕ) (t : List ℕ) where
       unfolding tableOf
       absent-promised n heads t′ q l z =
           promised (absent heads) (search-at s part (length t) a parent i (absentAt heads) q) (Absent n) t′
-          (rw l refl) z
+          (ap (λ (k : ℕ). told (Absent k)) l) z
 
       pub find-absent : (n : ℕ) (t′ : List ℕ) → PlaceAbsent n ≡ placeTold (placeOf s part)
           → t′ ≡ zeros (length t) → PartPromise s part t (Absent n) t′

@@ -8,7 +8,6 @@ use native.Mathlib.Omega.{arith}
 use lib.ListN.{length}
 use lib.Dec.{ltb, leb, eqb}
 use borrow.Author.Tests.{eqb-true}
-use Rattle.header.specs.Refusals.{overrun}
 use Rattle.header.specs.Reads.{headerAt}
 use Rattle.header.specs.declared.cursor.Cursor.{Cursor}
 use Rattle.header.specs.declared.cursor.Header.{Header}
@@ -85,19 +84,15 @@ module _ (s : List ℕ) (wanted start : ℕ) where
   unfolding walk
   walk-trusty end zero at = none-read s
   walk-trusty end (suc most) at =
-      either (leb end at) _ _ (none-read s)
-      (headed (headerAt s at) refl (walk s wanted start end most) (walk-trusty end most))
+      either (leb end at) _ _ (none-read s) (headed (headerAt s at) refl _ (λ h payload.
+      either (ltb end (payload .at + h .size)) _ _ tt (walk-trusty end most (payload .at + h .size))))
     where
-      headed : (x : HeaderRead) → headerAt s at ≡ x → (rest : ℕ → Place)
-          → ((a : ℕ) → Trusty s wanted start (rest a))
+      headed : (x : HeaderRead) → headerAt s at ≡ x → (next : Header → Cursor → Place)
+          → ((h : Header) (payload : Cursor) → Trusty s wanted start (next h payload))
           → Trusty s wanted start
-          (onHeader x stopped (λ h payload.
-          onVisit (visit s wanted start at h payload)
-          (cond (ltb end (payload .at + h .size)) (stopped overrun) (rest (payload .at + h .size)))))
-      headed (Refused e) q rest t = tt
-      headed (Read h payload) q rest t =
-          visit-trusty at h payload q _
-          (either (ltb end (payload .at + h .size)) _ _ tt (t (payload .at + h .size)))
+          (onHeader x stopped (λ h payload. onVisit (visit s wanted start at h payload) (next h payload)))
+      headed (Refused e) q next t = tt
+      headed (Read h payload) q next t = visit-trusty at h payload q _ (t h payload)
 
 module _ (s : List ℕ) (wanted : ℕ) where
   pub place-trusty : Placed s wanted (placeOf s wanted)
