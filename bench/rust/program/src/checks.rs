@@ -1,8 +1,9 @@
-//! Plain checks of long, deep and empty payloads, each printed on a line of its own.
+//! Plain checks of long, deep and empty payloads and of long searches, each printed on a line of its own.
 
-use crate::ours::{self, Answer};
+use crate::ours::{self, Answer, Found};
 use crate::payloads::{element, nested, SIBLING};
 use crate::reads::NUMBERS;
+use matroska::ids::*;
 use std::process::exit;
 use std::time::Instant;
 
@@ -64,7 +65,84 @@ pub fn run() {
         count(&many, all + 1, 0),
         Err(14),
     );
-    grows(&many);
+    grows("siblings, without rows", MANY, |siblings| {
+        assert_eq!(
+            count(&many, 0, siblings * 2),
+            Ok(siblings),
+            "an answer changed"
+        );
+    });
+    searches(&many);
+}
+
+/// A search for Tags with the largest table.
+fn tags(recording: &[u8]) -> Found {
+    ours::part(recording, TAGS, &mut vec![0; NUMBERS])
+}
+
+/// An entry of a seek head; it has the same length for every position.
+fn entry(id: u32, position: u64) -> Vec<u8> {
+    let id = element(SEEKID, &id.to_be_bytes());
+    let position = element(SEEKPOSITION, &position.to_be_bytes());
+    element(SEEK, &[id, position].concat())
+}
+
+/// A segment with so many seek heads, each leading to the next and the last to Tags behind it.
+fn linked(heads: u64) -> Vec<u8> {
+    let head = |id, position| element(SEEKHEAD, &entry(id, position));
+    let length = head(TAGS, 0).len() as u64;
+    let mut body = Vec::new();
+    for k in 1..heads {
+        body.extend(head(SEEKHEAD, length * k));
+    }
+    body.extend(head(TAGS, length * heads));
+    body.extend(element(TAGS, &[]));
+    element(SEGMENT, &body)
+}
+
+/// A segment with a seek head of so many entries for Tags, the last of them true.
+fn entries(count: u64) -> Vec<u8> {
+    let old = entry(TAGS, 0).repeat(count as usize - 1);
+    let head = |position| element(SEEKHEAD, &[&old[..], &entry(TAGS, position)].concat());
+    let length = head(0).len() as u64;
+    element(SEGMENT, &[head(length), element(TAGS, &[])].concat())
+}
+
+/// How many entries a long seek head has.
+const ENTRIES: u64 = 500_000;
+
+/// The checks of searches; `many` are children that are passed over.
+fn searches(many: &[u8]) {
+    let long = element(SEGMENT, many);
+    led("2,000,000 children, no part", tags(&long), Ok((false, 0)));
+    led("64 linked heads", tags(&linked(64)), Ok((true, 64)));
+    led("65 linked heads", tags(&linked(65)), Err(11));
+    let all = entries(ENTRIES);
+    led("500,000 entries of one id", tags(&all), Ok((true, 1)));
+    let half = element(SEGMENT, &many[..many.len() / 2]);
+    grows("children passed over", MANY, |children| {
+        let recording = if children == MANY { &long } else { &half };
+        assert_eq!(tags(recording), Ok((false, 0)), "an answer changed");
+    });
+    let fewer = entries(ENTRIES / 2);
+    grows("entries of a seek head", ENTRIES, |entries| {
+        let recording = if entries == ENTRIES { &all } else { &fewer };
+        assert_eq!(tags(recording), Ok((true, 1)), "an answer changed");
+    });
+}
+
+/// Prints what a search comes to, which has to be as expected.
+fn led(name: &str, found: Found, expected: Found) {
+    let told = |found| match found {
+        Ok((true, heads)) => format!("found, {heads} heads"),
+        Ok((false, heads)) => format!("absent, {heads} heads"),
+        Err(number) => format!("refused {number}"),
+    };
+    println!("  {name:<40}{}", told(found));
+    if found != expected {
+        eprintln!("bench: {name}: {} was expected", told(expected));
+        exit(1);
+    }
 }
 
 /// Prints an answer, which has to be the expected one.
@@ -83,27 +161,27 @@ fn told(answer: Answer) -> String {
     }
 }
 
-/// Prints the times of half of the siblings and of all, read without rows.
-fn grows(many: &[u8]) {
+/// Prints the times of half of so many and of all, which is twice as many.
+fn grows(name: &str, many: u64, mut work: impl FnMut(u64)) {
     let mut least = [f64::INFINITY; 2];
     for _ in 0..TIMES {
-        for (least, siblings) in least.iter_mut().zip([MANY / 2, MANY]) {
+        for (least, count) in least.iter_mut().zip([many / 2, many]) {
             let start = Instant::now();
-            let answer = count(many, 0, siblings * 2);
+            work(count);
             *least = least.min(start.elapsed().as_secs_f64());
-            assert_eq!(answer, Ok(siblings), "an answer changed");
         }
     }
     let [half, all] = least;
     println!(
-        "  {:<40}{:.1} ms for 1,000,000, {:.1} ms for 2,000,000",
-        "time of siblings, without rows",
+        "  {:<40}{:.1} ms for {}, {:.1} ms for {many}",
+        format!("time of {name}"),
         half * 1e3,
+        many / 2,
         all * 1e3,
     );
     if all / half > GROWTH {
         eprintln!(
-            "bench: twice as many siblings take {:.1} times as long",
+            "bench: twice as many {name} take {:.1} times as long",
             all / half
         );
         exit(1);

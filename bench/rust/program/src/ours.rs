@@ -27,6 +27,13 @@ mod exported {
             size: u64,
             parent: u32,
         ) -> u64;
+        pub fn speed_part(
+            recording: *const u8,
+            count_of_bytes: usize,
+            part: u32,
+            table: *mut u64,
+            count_of_numbers: usize,
+        ) -> u64;
     }
 }
 
@@ -83,4 +90,25 @@ pub fn count(recording: &[u8], start: u64, size: u64, parent: u32) -> Answer {
     answer(unsafe {
         exported::speed_count(recording.as_ptr(), recording.len(), start, size, parent)
     })
+}
+
+/// What a search for a part comes to: whether it was found, and how many seek heads were read.
+pub type Found = Result<(bool, u64), u64>;
+
+/// From here on a number tells that the part was found.
+const FOUND: u64 = 1 << 31;
+
+/// Searches for a part, and reads it into the rows of a table.
+pub fn part(recording: &[u8], part: u32, table: &mut [u64]) -> Found {
+    // The recording is only read and the table only written, both within their lengths and during the call.
+    let told = answer(unsafe {
+        exported::speed_part(
+            recording.as_ptr(),
+            recording.len(),
+            part,
+            table.as_mut_ptr(),
+            table.len(),
+        )
+    })?;
+    Ok((told >= FOUND, told % FOUND))
 }

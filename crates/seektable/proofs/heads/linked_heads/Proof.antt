@@ -204,7 +204,7 @@ returns-5 c =
     rw (too-many-heads .ensures) (chaining-many (start .args .recording .now) (start .args .wanted)
     (start .args .start) (start .args .first) (loop .seen) (loop .n) (loop .head) (loop .table) (loop .inv)
     (found .given .0 .0) (sym (found .given .1) ∙ head-body .ensures) (link .given .0 .0) (link .given .1)
-    (sym (is-too-far .ensures) ∙ if1 .left) (sym (contains .ensures) ∙ if2 .left) (if3 .taken))
+    (sym (is-too-far .ensures) ∙ if1 .left) (sym (contains .ensures) ∙ if2 .left) (omega (arith, if3 .taken)))
 
 sought-requires : tie.Need-sought-requires Inv-loop μ-loop
 sought-requires c κs = search needs
@@ -242,7 +242,7 @@ returns-6 c =
     chaining-refused (start .args .recording .now) (start .args .wanted) (start .args .start) (start .args .first)
     (loop .seen) (loop .n) (loop .head) (loop .table) (loop .inv) (found .given .0 .0)
     (sym (found .given .1) ∙ head-body .ensures) (link .given .0 .0) (link .given .1)
-    (sym (is-too-far .ensures) ∙ if1 .left) (sym (contains .ensures) ∙ if2 .left) (if3 .left)
+    (sym (is-too-far .ensures) ∙ if1 .left) (sym (contains .ensures) ∙ if2 .left) (omega (arith, if3 .left))
     (refusal2 .given .0 .0) (sym (refusal2 .given .1) ∙ sought .ensures)
 
 enum-known-header : tie.Need-enum-known-header Inv-loop μ-loop
@@ -275,7 +275,8 @@ loop-again c =
     chaining-on (start .args .recording .now) (start .args .wanted) (start .args .start) (start .args .first)
     (loop .seen) (loop .n) (loop .head) (loop .table) (loop .inv) (found .given .0 .0)
     (sym (found .given .1) ∙ head-body .ensures) (link .given .0 .0) (link .given .1)
-    (sym (is-too-far .ensures) ∙ if1 .left) (sym (contains .ensures) ∙ if2 .left) (if3 .left) (header .given .0 .0)
+    (sym (is-too-far .ensures) ∙ if1 .left) (sym (contains .ensures) ∙ if2 .left) (omega (arith, if3 .left))
+    (header .given .0 .0)
     (header .given .0 .1 .0)
     (sym (header .given .1) ∙ sought .ensures)
     (sought-inside (start .args .recording .now) _ _ (header .given .0 .0) (header .given .0 .1 .0)
