@@ -21,7 +21,7 @@ use Rattle.elements.specs.Reading.{Outcome, done, refused}
 use Rattle.seektable.specs.Seeks.{seekHeadId, headOf, entries}
 use Rattle.seektable.specs.Answers.{onHeader}
 use Rattle.seektable.specs.Heads.{latestFrom, latest, tooFar, member, sought}
-use Rattle.seektable.specs.Heads.{Chain, chained, broken, follow, chain}
+use Rattle.seektable.specs.Heads.{Chain, chained, broken, follow, chain, linkedHeads}
 use Rattle.seektable.specs.Contract.{inserted, headTold, headsTold}
 use Rattle.seektable.specs.declared.seek.Seek.{Seek}
 use Rattle.seektable.specs.declared.head.Latest.{Latest}
@@ -115,7 +115,7 @@ told-found s wanted table at (refused e) found q = let z : _≡_ {A = ℕ} 0 1 =
 
 module _ (s : List ℕ) (wanted start : ℕ) (first : Head) where
   abbrev all-heads : Chain
-  all-heads = chain s start 63 [] [] first
+  all-heads = linkedHeads s start first
 
   lost : (e : Refusal) → all-heads ≡ broken e → HeadsRefused e ≡ headsTold wanted all-heads
   lost e q = sym (ap (headsTold wanted) q)

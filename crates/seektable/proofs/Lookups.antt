@@ -1,7 +1,7 @@
 -- The lookup of the wanted id when all heads were read. Assumes nothing.
 use Prim.Native.Nat.{ℕ, _+_}
 use mathlib.Core.Path.{_≡_, refl, sym, ap, _∙_}
-use mathlib.Core.List.{List, []}
+use mathlib.Core.List.{List}
 use mathlib.Core.Bool.{true, false, cond}
 use native.Mathlib.Omega.{arith}
 use lib.ListN.{length}
@@ -11,7 +11,7 @@ use Rattle.header.specs.declared.cursor.Header.{Header}
 use Rattle.header.specs.declared.cursor.HeaderRead.the-variants.{Read, Refused}
 use Rattle.header.specs.declared.refusal.Refusal.{Refusal}
 use Rattle.seektable.specs.Answers.{onHeader}
-use Rattle.seektable.specs.Heads.{latest, tooFar, sought, Chain, chained, broken, chain}
+use Rattle.seektable.specs.Heads.{latest, tooFar, sought, Chain, chained, broken, linkedHeads}
 use Rattle.seektable.specs.Lookup.{found, absent, stopped, byHeads}
 use Rattle.seektable.specs.Contract.{headsTold, placeTold}
 use Rattle.seektable.specs.declared.seek.Seek.{Seek}
@@ -40,16 +40,14 @@ told-chained wanted (chained heads es) part n q =
 told-chained wanted (broken e) part n q = let z : _≡_ {A = ℕ} 0 1 = cc in absurd (omega arith)
 
 module _ (s : List ℕ) (wanted start : ℕ) (first : Head) where
-  abbrev all-heads : Chain
-  all-heads = chain s start 63 [] [] first
-
-  pub chain-broken : (e : Refusal) → HeadsRefused e ≡ headsTold wanted all-heads
+  pub chain-broken : (e : Refusal) → HeadsRefused e ≡ headsTold wanted (linkedHeads s start first)
       → PlaceRefused e ≡ placeTold (byHeads s wanted start first)
   unfolding byHeads
-  chain-broken e q = rw (told-broken wanted all-heads e q) refl
+  chain-broken e q = rw (told-broken wanted (linkedHeads s start first) e q) refl
 
-  module _ (part : Latest) (n : ℕ) (q : HeadsAre part n ≡ headsTold wanted all-heads) where
-    unnamed : part ≡ Nowhere → (w : Chained wanted all-heads part n) → byHeads s wanted start first ≡ absent (w .heads)
+  module _ (part : Latest) (n : ℕ) (q : HeadsAre part n ≡ headsTold wanted (linkedHeads s start first)) where
+    unnamed : part ≡ Nowhere → (w : Chained wanted (linkedHeads s start first) part n)
+        → byHeads s wanted start first ≡ absent (w .heads)
     unfolding byHeads
     unnamed z w =
         let l : latest wanted (w .es) ≡ Nowhere = sym (w .latest-is) ∙ z in
@@ -57,12 +55,12 @@ module _ (s : List ℕ) (wanted start : ℕ) (first : Head) where
 
     pub not-named : part ≡ Nowhere → Absent n ≡ placeTold (byHeads s wanted start first)
     not-named z =
-        let w = told-chained wanted all-heads part n q in
+        let w = told-chained wanted (linkedHeads s start first) part n q in
         ap Absent (w .counted) ∙ sym (ap placeTold (unnamed z w))
 
     module _ (position : ℕ) (at : part ≡ At position) where
       -- The chain ends, and the wanted id is named.
-      led : (w : Chained wanted all-heads part n)
+      led : (w : Chained wanted (linkedHeads s start first) part n)
           → byHeads s wanted start first
           ≡ cond (tooFar start position) (stopped (invalidSeekHead wanted))
           (onHeader (sought s (start + position) wanted) stopped
@@ -74,17 +72,17 @@ module _ (s : List ℕ) (wanted start : ℕ) (first : Head) where
 
       pub named-too-far : tooFar start position ≡ true
           → PlaceRefused (invalidSeekHead wanted) ≡ placeTold (byHeads s wanted start first)
-      named-too-far b = rw (led (told-chained wanted all-heads part n q), b) refl
+      named-too-far b = rw (led (told-chained wanted (linkedHeads s start first) part n q), b) refl
 
       module _ (near : tooFar start position ≡ false) where
         pub named-refused : (e : Refusal) → Refused e ≡ sought s (start + position) wanted
             → PlaceRefused e ≡ placeTold (byHeads s wanted start first)
-        named-refused e k = rw (led (told-chained wanted all-heads part n q), near, ← k) refl
+        named-refused e k = rw (led (told-chained wanted (linkedHeads s start first) part n q), near, ← k) refl
 
         pub named-found : (h : Header) (payload : Cursor) → Read h payload ≡ sought s (start + position) wanted
             → Found (payload .at) (h .size) n ≡ placeTold (byHeads s wanted start first)
         named-found h payload k =
-            let w = told-chained wanted all-heads part n q in
+            let w = told-chained wanted (linkedHeads s start first) part n q in
             let e : byHeads s wanted start first ≡ found (payload .at) (h .size) (w .heads)
             = led w ∙ rw (near, ← k) refl in
             ap (Found (payload .at) (h .size)) (w .counted) ∙ sym (ap placeTold e)
