@@ -11,7 +11,7 @@ use header::NumberRead;
 use header::Refusal;
 
 // The float that a pattern of 32 bits is, widened exactly.
-fn float_of_4(pattern: u64) -> f64
+pub fn float_of_4(pattern: u64) -> f64
     requires { ⌜ pattern < 2 ^ 32 ⌝ }
     ensures { λ r. ⌜ r ≡ ofBits binary32 pattern ⌝ }
 {
@@ -23,7 +23,7 @@ fn float_of_4(pattern: u64) -> f64
 }
 
 // The float that a pattern of 64 bits is.
-fn float_of_8(pattern: u64) -> f64
+pub fn float_of_8(pattern: u64) -> f64
     ensures { λ r. ⌜ r ≡ ofBits binary64 pattern ⌝ }
 {
     if pattern % 0x8000_0000_0000_0000 > 0x7FF0_0000_0000_0000 {

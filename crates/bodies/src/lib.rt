@@ -11,6 +11,8 @@ mod typed;
 pub use body::Body;
 pub use body::BodyRead;
 pub use body::Range;
+pub use float::float_of_4;
+pub use float::float_of_8;
 pub use reply::BodyReply;
 pub use reply::body_at;
 pub use typed::read_body;

@@ -10,6 +10,7 @@ pub mod Reading
 pub mod Steps
 pub mod Whole
 pub mod Fits
+pub mod Numbered
 pub mod Readback
 pub mod Partition
 pub mod Unique

@@ -55,3 +55,7 @@ badArgument = record { number = 14; id = 0 }
 -- The address is outside the payload.
 abbrev pub outside : Refusal
 outside = record { number = 15; id = 0 }
+
+-- There is no k-th record or list member.
+abbrev pub noRecord : Refusal
+noRecord = record { number = 15; id = 0 }

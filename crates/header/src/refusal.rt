@@ -3,7 +3,7 @@ ghost use mathlib.Core.Path.{_≡_};
 ghost use Rattle.header.specs.Refusals.{pastEnd, invalidId, invalidSize, badArgument};
 ghost use Rattle.header.specs.Refusals.{invalidUint, invalidFloat, invalidDate, notUtf8};
 ghost use Rattle.header.specs.Refusals.{invalidSeekHead, staleEntry, headAgain, tooManyHeads};
-ghost use Rattle.header.specs.Refusals.{overrun, tooDeep, noFreeRow, outside};
+ghost use Rattle.header.specs.Refusals.{overrun, tooDeep, noFreeRow, outside, noRecord};
 
 // Why a call refuses: document 01's number, and for number 8 the id, else 0.
 pub struct Refusal {
@@ -121,6 +121,12 @@ impl Refusal {
     // 15: the address is outside the payload.
     pub fn outside() -> Refusal
         ensures { λ r. ⌜ r ≡ outside ⌝ }
+    {
+        Refusal { number: 15, id: 0 }
+    }
+    // 15: there is no k-th record or list member.
+    pub fn no_record() -> Refusal
+        ensures { λ r. ⌜ r ≡ noRecord ⌝ }
     {
         Refusal { number: 15, id: 0 }
     }

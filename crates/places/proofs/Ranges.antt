@@ -6,7 +6,7 @@ use mathlib.Core.Bool.{Bool, true, false, cond, _&&_}
 use native.Mathlib.Omega.{arith}
 use lib.ListN.{length, take, drop}
 use lib.Dec.{ltb, leb}
-use borrow.Author.Tests.{leb-true, le-leb, lt-leb, lt-ltb, le-ltb}
+use borrow.Author.Tests.{ltb-true, leb-true, le-leb, lt-leb, lt-ltb, le-ltb}
 use Rattle.header.specs.Promise.{mostBytes}
 use Rattle.header.specs.Refusals.{badArgument}
 use Rattle.header.specs.declared.refusal.Refusal.{Refusal}
@@ -22,7 +22,8 @@ use Rattle.places.specs.declared.payload.RangeReply.the-variants.{Range 
 -- ---- the limits, one after another
 
 module _ (s t : List ℕ) (k : ℕ) where
-  pub not-allowed : (e : Refusal) → allowed s 0 (length t) ≡ false → e ≡ badArgument → RangePromise s t k (Refused e)
+  pub not-allowed : (e : Refusal) → allowed s 0 (length t) ≡ false → e ≡ badArgument
+      → RangePromise s t k (Refused e)
   unfolding placeOf
   not-allowed e a b = record { reply = rw (a, b) }
 
@@ -50,11 +51,11 @@ module _ (s t : List ℕ) (k : ℕ) where
 
 -- ---- what a reply tells
 
-told-range : (p : Place) (r : Range) → rangeTold (RangeIs r) ≡ valuesOf p → p ≡ range (r .at) (r .length)
+pub told-range : (p : Place) (r : Range) → rangeTold (RangeIs r) ≡ valuesOf p → p ≡ range (r .at) (r .length)
 told-range (range at n) r q = cc
 told-range (refused e) r q = let z : _≡_ {A = ℕ} 0 1 = cc in absurd (omega arith)
 
-told-none : (s : List ℕ) (p : Place) (e : Refusal) → rangeTold (Refused e) ≡ valuesOf p → [] ≡ partOf s p
+pub told-none : (s : List ℕ) (p : Place) (e : Refusal) → rangeTold (Refused e) ≡ valuesOf p → [] ≡ partOf s p
 told-none s (range at n) e q = let z : _≡_ {A = ℕ} 0 1 = cc in absurd (omega arith)
 told-none s (refused e′) e q = refl
 
@@ -63,11 +64,12 @@ pub record Inside (s : List ℕ) (at n : ℕ) : Type 0 where
   pub ends : at + n ≤ length s
   pub short : length s ≤ mostBytes
 
-place-inside : (s t : List ℕ) (k at n : ℕ) → placeOf s t k ≡ range at n → Inside s at n
+pub place-inside : (s t : List ℕ) (k at n : ℕ) → placeOf s t k ≡ range at n → Inside s at n
 unfolding placeOf
 place-inside s t k at n q =
     let r = rowAt t k in
-    go r (allowed s 0 (length t)) refl (ltb k (length t / width)) (leb (r .address + r .header + r .payload) (length s))
+    go r (allowed s 0 (length t)) refl (ltb k (length t / width))
+    (leb (r .address + r .header + r .payload) (length s))
     refl q
   where
     go : (r : Row) (a : Bool) → allowed s 0 (length t) ≡ a → (b c : Bool)
@@ -82,6 +84,37 @@ place-inside s t k at n q =
     go r true e true false g w = let z : _≡_ {A = ℕ} 0 1 = cc in absurd (omega arith)
     go r true e false c g w = let z : _≡_ {A = ℕ} 0 1 = cc in absurd (omega arith)
     go r false e b c g w = let z : _≡_ {A = ℕ} 0 1 = cc in absurd (omega arith)
+
+-- Each refusal of a range is 14.
+pub place-refused : (s t : List ℕ) (k : ℕ) (e : Refusal) → placeOf s t k ≡ refused e → e ≡ badArgument
+unfolding placeOf
+place-refused s t k e q =
+    let r = rowAt t k in
+    go r
+    (allowed s 0 (length t) &&
+    (ltb k (length t / width) && leb (r .address + r .header + r .payload) (length s))) q
+  where
+    go : (r : Row) (b : Bool)
+        → cond b (range (r .address + r .header) (r .payload)) (refused badArgument) ≡ refused e
+        → e ≡ badArgument
+    go r true w = let z : _≡_ {A = ℕ} 0 1 = cc in absurd (omega arith)
+    go r false w = let z : badArgument ≡ e = cc in sym z
+
+-- A row with a range is in the table.
+pub place-row : (s t : List ℕ) (k at n : ℕ) → placeOf s t k ≡ range at n → k < length t / width
+unfolding placeOf
+place-row s t k at n q =
+    let r = rowAt t k in
+    go (allowed s 0 (length t)) (ltb k (length t / width)) refl
+    (leb (r .address + r .header + r .payload) (length s)) q
+  where
+    go : (a b : Bool) → ltb k (length t / width) ≡ b → (c : Bool)
+        → cond (a && (b && c)) (range (rowAt t k .address + rowAt t k .header) (rowAt t k .payload))
+        (refused badArgument) ≡ range at n
+        → k < length t / width
+    go true true e c w = ltb-true k (length t / width) e
+    go true false e c w = let z : _≡_ {A = ℕ} 0 1 = cc in absurd (omega arith)
+    go false b e c w = let z : _≡_ {A = ℕ} 0 1 = cc in absurd (omega arith)
 
 module _ (s t : List ℕ) (k : ℕ) where
   pub range-inside : (r : Range) → RangePromise s t k (RangeIs r) → Inside s (r .at) (r .length)

@@ -17,11 +17,11 @@ use Rattle.places.specs.declared.whose.WhoseReply.the-variants.{Header, 
 
 -- ---- what was told tells the reply
 
-abbrev rangeOf : Reply → RangeReply
+abbrev pub rangeOf : Reply → RangeReply
 rangeOf (accepted values) = Range (record { at = getD values 0 0; length = getD values 1 0 })
 rangeOf (refusal number id) = RangeRefused (record { number = number; id = id })
 
-range-back : (r : RangeReply) → rangeOf (rangeTold r) ≡ r
+pub range-back : (r : RangeReply) → rangeOf (rangeTold r) ≡ r
 range-back (Range r) = refl
 range-back (RangeRefused e) = refl
 
