@@ -1,0 +1,6 @@
+-- The laws that the proofs of `fields` share.
+pub mod Rest
+pub mod Levels
+pub mod Picked
+pub mod Sizes
+pub mod Taken

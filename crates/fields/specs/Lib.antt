@@ -1,0 +1,6 @@
+-- The definitions that the contracts of `fields` cite.
+pub mod Children
+pub mod Values
+pub mod Fields
+pub mod Told
+pub mod Contract

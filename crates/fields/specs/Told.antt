@@ -1,0 +1,42 @@
+-- Document 01's value for each case of a field.
+use mathlib.Core.Bool.{true, false}
+use Rattle.fields.specs.Values.{Value, unset, number, flag, part, iso, ietf, text, binary, real}
+use Rattle.fields.specs.declared.field.Number.{Number}
+use Rattle.fields.specs.declared.field.Number.the-variants.{Unset as NumberUnset, Is as NumberIs}
+use Rattle.fields.specs.declared.field.Flag.{Flag}
+use Rattle.fields.specs.declared.field.Flag.the-variants.{Unset as FlagUnset, No, Yes}
+use Rattle.fields.specs.declared.field.Part.{Part}
+use Rattle.fields.specs.declared.field.Part.the-variants.{Unset as PartUnset, At as PartAt}
+use Rattle.fields.specs.declared.field.Language.{Language}
+use Rattle.fields.specs.declared.field.Language.the-variants.{Unset as LanguageUnset, Iso, Ietf}
+use Rattle.fields.specs.declared.field.TagValue.{TagValue}
+use Rattle.fields.specs.declared.field.TagValue.the-variants.{Unset as ValueUnset, Text, Binary}
+use Rattle.fields.specs.declared.field.Real.{Real}
+use Rattle.fields.specs.declared.field.Real.the-variants.{Unset as RealUnset, Is as RealIs}
+
+abbrev pub numberTold : Number → Value
+numberTold NumberUnset = unset
+numberTold (NumberIs n) = number n
+
+abbrev pub flagTold : Flag → Value
+flagTold FlagUnset = unset
+flagTold No = flag false
+flagTold Yes = flag true
+
+abbrev pub partTold : Part → Value
+partTold PartUnset = unset
+partTold (PartAt r) = part (r .at) (r .length)
+
+abbrev pub languageTold : Language → Value
+languageTold LanguageUnset = unset
+languageTold (Iso r) = iso (r .at) (r .length)
+languageTold (Ietf r) = ietf (r .at) (r .length)
+
+abbrev pub valueTold : TagValue → Value
+valueTold ValueUnset = unset
+valueTold (Text r) = text (r .at) (r .length)
+valueTold (Binary r) = binary (r .at) (r .length)
+
+abbrev pub realTold : Real → Value
+realTold RealUnset = unset
+realTold (RealIs x) = real x
