@@ -1,0 +1,153 @@
+-- A question settled: what `locate` came to, what the record is then, and the table that is left. Assumes nothing.
+use Prim.Native.Nat.{ℕ, _+_, _-_, _*_, _/_, _≤_}
+use mathlib.Core.Path.{_≡_, sym, ap, _∙_, subst}
+use mathlib.Core.List.{List, _++_}
+use native.Mathlib.Omega.{arith}
+use lib.ListN.{length}
+use borrow.Author.Tests.{not-false}
+use Rattle.header.specs.Refusals.{noRecord}
+use Rattle.header.specs.Reply.{refusalOf}
+use Rattle.header.specs.Promise.{mostBytes}
+use Rattle.header.specs.declared.refusal.Refusal.{Refusal}
+use Rattle.elements.specs.Forest.{count}
+use Rattle.elements.specs.Reading.{Outcome, done, refused}
+use Rattle.elements.specs.Rows.{width, flatten, rowsOf}
+use Rattle.elements.specs.Promise.{readOf, replyOf, tableOf, zeros, ReadPromise}
+use Rattle.elements.specs.declared.row.Row.{Row}
+use Rattle.elements.specs.declared.reply.ReadReply.the-variants.{Rows, Refused as ReadRefused}
+use Rattle.elements.proofs.Limits.{within}
+use Rattle.elements.proofs.Numbered.{length-rows-of}
+use Rattle.elements.proofs.Outcomes.{of-refuse}
+use Rattle.elements.proofs.Readback.{accepted-read}
+use Rattle.elements.proofs.Sound.{rows-sound}
+use Rattle.elements.proofs.Whole.{zeros-as}
+use Rattle.fields.specs.Children.{rowsIn}
+use Rattle.fields.specs.Contract.{BelowIs}
+use Rattle.fields.specs.Values.{Value}
+use Rattle.fields.specs.declared.child.Below.{Below}
+use Rattle.records.specs.Steps.{reached}
+use Rattle.records.specs.Asked.{Asked, found, not, settled, sought, asked, tableAfter}
+use Rattle.records.specs.Told.{fields, refuses}
+use Rattle.records.specs.Contract.{LocatePromise}
+use Rattle.records.specs.Promise.{answerOf, RecordPromise, ofBelow}
+use Rattle.records.specs.declared.locate.Step.{Step}
+use Rattle.records.specs.declared.locate.Spot.{Spot}
+use Rattle.records.specs.declared.locate.Spot.the-variants.{Absent, At as SpotAt}
+use Rattle.records.specs.declared.locate.Located.the-variants.{At, Refused}
+
+-- ---- the reading
+
+-- What a reply that refuses says of the outcome.
+told-refused : (e : Refusal) (o : Outcome) → refusalOf e ≡ replyOf o → o ≡ refused e
+told-refused e (done f) q = let z : _≡_ {A = ℕ} 0 1 = cc in absurd (omega arith)
+told-refused e (refused g) q =
+    let a : e .number ≡ g .number = cc in
+    let b : e .id ≡ g .id = cc in
+    ap refused (sym (same (e .number) (g .number) (e .id) (g .id) a b))
+  where
+    same : (m n i j : ℕ) → m ≡ n → i ≡ j
+        → _≡_ {A = Refusal} (record { number = m; id = i }) (record { number = n; id = j })
+    same m n i j a b = rw (a, b)
+
+pub rows-held : (s : List ℕ) (start size parent : ℕ) (t : List ℕ) (n : ℕ) (t₁ : List ℕ)
+    → ReadPromise s start size parent t (Rows n) t₁ → n ≤ length t₁ / width
+rows-held s start size parent t n t₁ p =
+    let a = accepted-read s start size parent t n t₁ p in
+    rw (a .as-long) (a .fits)
+
+module _ (s : List ℕ) (start size parent : ℕ) (t : List ℕ) (first second third : Step) where
+  abbrev question : Asked
+  question = asked s start size parent (length t) first second third
+
+  pub read-refused :
+      (e : Refusal) (t′ : List ℕ) → ReadPromise s start size parent t (ReadRefused e) t′
+      → LocatePromise s question (length t) (Refused e) t′
+  unfolding asked tableOf
+  read-refused e t′ p =
+      let o = told-refused e (readOf s start size parent (length t)) (p .reply) in
+      let a : question ≡ not e = ap (λ (x : Outcome). sought start x (λ rs. reached rs first second third)) o in
+      record {
+        reply = a;
+        table = p .table ∙ ap (tableOf start (length t)) o ∙ sym (ap (tableAfter (length t)) a);
+      }
+
+  module _ (n : ℕ) (t₁ : List ℕ) (p : ReadPromise s start size parent t (Rows n) t₁) where
+    -- Among the rows of the table, the way leads to that spot.
+    came : (to : Spot) → to ≡ reached (rowsOf t₁ n) first second third → question ≡ settled (rowsOf t₁ n) to
+    unfolding asked
+    came to e =
+        let a = accepted-read s start size parent t n t₁ p in
+        ap (λ (x : Outcome). sought start x (λ rs. reached rs first second third)) (a .outcome)
+        ∙ ap (λ (rs : List Row). settled rs (reached rs first second third)) (sym (a .rows-are))
+        ∙ ap (settled (rowsOf t₁ n)) (sym e)
+
+    pub no-spot :
+        (e : Refusal) (t′ : List ℕ) → Absent ≡ reached (rowsOf t₁ n) first second third → e ≡ noRecord
+        → t′ ≡ zeros (length t₁) → LocatePromise s question (length t) (Refused e) t′
+    no-spot e t′ w q z =
+        let a = accepted-read s start size parent t n t₁ p in
+        let d : question ≡ not e = came Absent w ∙ ap not (sym q) in
+        record { reply = d; table = z ∙ zeros-as (a .as-long) ∙ sym (ap (tableAfter (length t)) d) }
+
+    -- The table is as the read left it.
+    kept : t₁ ≡ flatten (rowsOf t₁ n) ++ zeros (length t - length (rowsOf t₁ n) * width)
+    unfolding tableOf
+    kept =
+        let a = accepted-read s start size parent t n t₁ p in
+        let m : count (a .forest) ≡ length (rowsOf t₁ n) = sym (length-rows-of t₁ n ∙ a .number) in
+        p .table ∙ ap (tableOf start (length t)) (a .outcome)
+        ∙ ap (λ (x : List Row). flatten x ++ zeros (length t - count (a .forest) * width)) (sym (a .rows-are))
+        ∙ ap (λ (x : ℕ). flatten (rowsOf t₁ n) ++ zeros (length t - x * width)) m
+
+    short : length s ≤ mostBytes
+    unfolding readOf
+    short =
+        let a = accepted-read s start size parent t n t₁ p in
+        let r = of-refuse _ _ _ (a .outcome) in
+        within s start (length t) (not-false _ (r .0)) .bytes
+
+    pub at-spot :
+        (to : ℕ) (b : Below) → SpotAt to ≡ reached (rowsOf t₁ n) first second third → BelowIs t₁ n to b
+        → LocatePromise s question (length t) (At b n) t₁
+    at-spot to b w h =
+        let d : question ≡ found (rowsOf t₁ n) (b .parent)
+        = came (SpotAt to) w ∙ ap (found (rowsOf t₁ n)) (sym (h .master)) in
+        record {
+          reply = (
+            d,
+            record {
+              held = rows-held s start size parent t n t₁ p;
+              short = short;
+              sound = rows-sound s start size parent t n t₁ p;
+              below = subst (λ (x : ℕ). BelowIs t₁ n x b) (sym (h .master)) h;
+            },
+          );
+          table = kept ∙ sym (ap (tableAfter (length t)) d);
+        }
+
+-- ---- the record
+
+module _ (s : List ℕ) (a : Asked) (numbers : ℕ) (t′ : List ℕ) where
+  pub is-refused :
+      (values : List Row → ℕ → List Value) (e : Refusal) → LocatePromise s a numbers (Refused e) t′
+      → RecordPromise values a numbers (refuses e) t′
+  is-refused values e p = record { reply = sym (ap (answerOf values) (p .reply)); table = p .table }
+
+  module _ (n : ℕ) (b : Below) (p : LocatePromise s a numbers (At b n) t′) where
+    pub is-found :
+        (values : List Row → ℕ → List Value) (vs : List Value) → vs ≡ values (rowsOf t′ n) (b .parent)
+        → RecordPromise values a numbers (fields vs n) t′
+    is-found values vs q =
+        record {
+          reply =
+              ap (λ (x : List Value). fields x n) q
+              ∙ ap (fields (values (rowsOf t′ n) (b .parent))) (sym (length-rows-of t′ n))
+              ∙ sym (ap (answerOf values) (p .reply .0));
+          table = p .table;
+        }
+
+    -- The same of a record that is built of the rows below its master.
+    pub is-below :
+        (values : ℕ → List Row → List Value) (vs : List Value) → vs ≡ values (b .parent) (rowsIn t′ b)
+        → RecordPromise (ofBelow values) a numbers (fields vs n) t′
+    is-below values vs q = is-found (ofBelow values) vs (q ∙ ap (values (b .parent)) (p .reply .1 .below .are))

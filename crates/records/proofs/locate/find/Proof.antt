@@ -1,0 +1,32 @@
+-- `find` meets its contract: a step for each level. Assumes nothing.
+use Rattle.records.proofs.Ways.{first-known, second-known, way}
+use borrow.Author.Needs.{needs}
+use Rattle.records.proofs.locate.find.Statement.{statement}
+use Rattle.records.proofs.locate.find.Tie as tie
+
+enter-requires : tie.Need-enter-requires
+enter-requires c κs = search needs
+
+enter-requires-2 : tie.Need-enter-requires-2
+enter-requires-2 c κs =
+    let start = c .before .before in (
+      start .pre,
+      first-known (start .args .table .now) (start .args .rows) (start .args .first) _
+          (c .enter .ensures),
+    )
+
+enter-requires-3 : tie.Need-enter-requires-3
+enter-requires-3 c κs =
+    let start = c .before .before .before in (
+      start .pre,
+      second-known (start .args .table .now) (start .args .rows) (start .args .first)
+          (start .args .second) _ _ (c .before .enter .ensures) (c .enter2 .ensures),
+    )
+
+returns : tie.Need-returns
+returns c =
+    let enter = c .before .before .enter in
+    way _ _ _ _ _ _ _ (enter .ensures) (c .before .enter2 .ensures) (c .enter3 .ensures)
+
+pub find-spec : {M : Type 1} → statement M
+find-spec = tie.close (tie.spec enter-requires enter-requires-2 enter-requires-3 returns)

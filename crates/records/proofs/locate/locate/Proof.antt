@@ -1,0 +1,102 @@
+-- `locate` meets its contract: the read's refusals, 15, or the rows below the master. Assumes nothing.
+use mathlib.Core.Path.{sym, _∙_}
+use Rattle.records.proofs.Settled.{read-refused, rows-held, no-spot, at-spot}
+use Rattle.records.proofs.Ways.{reached-known}
+use borrow.Author.Needs.{needs}
+use Rattle.records.proofs.locate.locate.Statement.{statement}
+use Rattle.records.proofs.locate.locate.Tie as tie
+
+read-requires : tie.Need-read-requires
+read-requires c κs = search needs
+
+enum-known-refusal : tie.Need-enum-known-refusal
+enum-known-refusal c = search needs
+
+enum-known-count : tie.Need-enum-known-count
+enum-known-count c = search needs
+
+find-requires : tie.Need-find-requires
+find-requires c κs =
+    let count = c .before .before .count in
+    let read = c .before .before .before .before .before .before .read in
+    rows-held _ _ _ _ _ _ _ (rw (count .given .1) at (read .ensures))
+
+enum-told : tie.Need-enum-told
+enum-told c = search needs
+
+clear-requires : tie.Need-clear-requires
+clear-requires c κs = search needs
+
+no-record-requires : tie.Need-no-record-requires
+no-record-requires c κs = search needs
+
+enum-known-number : tie.Need-enum-known-number
+enum-known-number c = search needs
+
+rows-below-requires : tie.Need-rows-below-requires
+rows-below-requires c κs =
+    let count = c .before .before .before .before .before .before .before .count in
+    let read = c .before .before .before .before .before .before .before .before .before .before .before .read in
+    let number = c .before .before .number in
+    let find = c .before .before .before .before .find in (
+      rows-held _ _ _ _ _ _ _ (rw (count .given .1) at (read .ensures)),
+      reached-known _ _ _ _ _ _ (sym (number .given .1) ∙ find .ensures),
+    )
+
+same-length : tie.Need-same-length
+same-length c = search needs
+
+returns : tie.Need-returns
+returns c =
+    let read = c .before .before .before .before .before .read in
+    read-refused _ _ _ _ _ _ _ _ _ _ (rw (c .before .refusal .given .1) at (read .ensures))
+
+same-length-2 : tie.Need-same-length-2
+same-length-2 c = search needs
+
+returns-2 : tie.Need-returns-2
+returns-2 c =
+    let count = c .before .before .before .before .before .before .before .before .before .before .count in
+    let read =
+    c .before .before .before .before .before .before .before .before .before .before .before .before .before
+    .before .read in
+    let enum-told = c .before .before .before .before .before .enum-told in
+    let find = c .before .before .before .before .before .before .before .find in
+    let clear = c .before .before .before .clear in
+    no-spot _ _ _ _ _ _ _ _ _ _ (rw (count .given .1) at (read .ensures)) _ _ (sym (enum-told .given .1)
+    ∙ find .ensures)
+    (c .no-record .ensures) (clear .ensures)
+
+same-length-3 : tie.Need-same-length-3
+same-length-3 c = search needs
+
+returns-3 : tie.Need-returns-3
+returns-3 c =
+    let count = c .before .before .before .before .before .before .before .before .count in
+    let read =
+    c .before .before .before .before .before .before .before .before .before .before .before .before .read in
+    let number = c .before .before .before .number in
+    let find = c .before .before .before .before .before .find in
+    at-spot _ _ _ _ _ _ _ _ _ _ (rw (count .given .1) at (read .ensures)) _ _ (sym (number .given .1)
+    ∙ find .ensures)
+    (c .rows-below .ensures)
+
+pub locate-spec : {M : Type 1} → statement M
+locate-spec =
+    tie.close
+    (tie.spec
+    read-requires
+    enum-known-refusal
+    enum-known-count
+    find-requires
+    enum-told
+    clear-requires
+    no-record-requires
+    enum-known-number
+    rows-below-requires
+    same-length
+    returns
+    same-length-2
+    returns-2
+    same-length-3
+    returns-3)

@@ -1,0 +1,50 @@
+-- The question for a record (document 01, Records): 14 and the read's refusals, then 15 where there is none; and the
+-- table that it leaves.
+use Prim.Native.Nat.{ℕ, _-_, _*_}
+use mathlib.Core.List.{List, _++_}
+use lib.ListN.{length}
+use Rattle.header.specs.Refusals.{noRecord}
+use Rattle.header.specs.declared.refusal.Refusal.{Refusal}
+use Rattle.elements.specs.Reading.{Outcome, done, refused}
+use Rattle.elements.specs.Rows.{rows, width, flatten}
+use Rattle.elements.specs.Promise.{readOf, zeros}
+use Rattle.elements.specs.declared.row.Row.{Row}
+use Rattle.fields.specs.declared.child.Child.{Child}
+use Rattle.fields.specs.declared.child.Child.the-variants.{At as ChildAt, Absent as NoChild}
+use Rattle.records.specs.Steps.{reached}
+use Rattle.records.specs.declared.locate.Step.{Step}
+use Rattle.records.specs.declared.locate.Spot.{Spot}
+use Rattle.records.specs.declared.locate.Spot.the-variants.{Absent, At}
+
+-- The rows that were read and the master among them, told as in a row's parent; or a refusal.
+pub data Asked : Type 0 where
+  found : List Row → ℕ → Asked
+  not : Refusal → Asked
+
+abbrev pub settled : List Row → Spot → Asked
+settled rs Absent = not noRecord
+settled rs (At parent) = found rs parent
+
+-- What is sought among the rows of a read.
+abbrev pub sought : ℕ → Outcome → (List Row → Spot) → Asked
+sought start (done f) way = settled (rows 0 0 start 0 f) (way (rows 0 0 start 0 f))
+sought start (refused e) way = not e
+
+-- The payload is read under a parent id into a table of so many numbers; then a step is taken for each level.
+unfoldable pub asked : List ℕ → ℕ → ℕ → ℕ → ℕ → Step → Step → Step → Asked
+asked s start size parent numbers first second third =
+    sought start (readOf s start size parent numbers) (λ rs. reached rs first second third)
+
+-- And 15 where the master has no such child.
+abbrev pub orNone : Asked → Child → Asked
+orNone a NoChild = not noRecord
+orNone a (ChildAt n r) = a
+
+abbrev pub listed : Asked → (List Row → ℕ → Child) → Asked
+listed (found rs parent) member = orNone (found rs parent) (member rs parent)
+listed (not e) member = not e
+
+-- The table: as the read leaves it; after a refusal, 15 too, zeros.
+abbrev pub tableAfter : ℕ → Asked → List ℕ
+tableAfter numbers (found rs parent) = flatten rs ++ zeros (numbers - length rs * width)
+tableAfter numbers (not e) = zeros numbers

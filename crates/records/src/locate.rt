@@ -1,0 +1,119 @@
+// The master that a record question asks for: the payload is read into the table, and one step is taken for each level.
+ghost use mathlib.Core.Path.{_≡_};
+ghost use Prim.Native.Nat.{_/_, _≤_};
+ghost use lib.ListN.{length};
+ghost use Rattle.elements.specs.Rows.{width, rowsOf};
+ghost use Rattle.records.specs.Steps.{spotOf, entered, reached};
+ghost use Rattle.records.specs.Asked.{asked};
+ghost use Rattle.records.specs.Contract.{Numbered, Known, LocatePromise};
+use elements::ReadReply;
+use elements::clear;
+use elements::read;
+use fields::Below;
+use fields::Child;
+use fields::last_child;
+use fields::nth_child;
+use fields::rows_below;
+use header::Refusal;
+use kinds::Kind;
+
+// How to go on from a master.
+pub enum Step {
+    Here,
+    // Here, but only for index 0.
+    Only(u64),
+    // To the k-th direct child of this id.
+    Nth { id: u32, k: u64 },
+    // To the last direct child of this id.
+    Last(u32),
+}
+
+// A master: its row number plus 1, or 0 for the payload that was read; or that there is none.
+pub enum Spot {
+    Absent,
+    At(usize),
+}
+
+// The rows below the master that was asked for, and how many rows there are in all; or a refusal.
+pub enum Located {
+    At { master: Below, rows: usize },
+    Refused(Refusal),
+}
+
+fn spot_of(child: Child) -> Spot
+    requires { ⌜ Numbered child ⌝ }
+    ensures { λ r. ⌜ r ≡ spotOf child ⌝ }
+{
+    match child {
+        Child::Absent => Spot::Absent,
+        Child::At { number, row: _ } => Spot::At(number + 1),
+    }
+}
+
+// One step on from a master.
+fn enter(table: &[u64], rows: usize, from: Spot, step: Step) -> Spot
+    requires { ⌜ (rows ≤ length (now table) / width) × Known rows from ⌝ }
+    ensures { λ r. ⌜ r ≡ entered (rowsOf (now (table .entry)) rows) from step ⌝ }
+{
+    match from {
+        Spot::Absent => Spot::Absent,
+        Spot::At(parent) => match step {
+            Step::Here => Spot::At(parent),
+            Step::Only(k) => {
+                if k == 0 {
+                    return Spot::At(parent);
+                }
+                Spot::Absent
+            }
+            Step::Nth { id, k } => {
+                let master = rows_below(table, rows, parent);
+                spot_of(nth_child(table, master, id, Kind::Master, k))
+            }
+            Step::Last(id) => {
+                let master = rows_below(table, rows, parent);
+                spot_of(last_child(table, master, id, Kind::Master))
+            }
+        },
+    }
+}
+
+// From the payload that was read, a step for each level.
+fn find(table: &[u64], rows: usize, first: Step, second: Step, third: Step) -> Spot
+    requires { ⌜ rows ≤ length (now table) / width ⌝ }
+    ensures { λ r. ⌜ r ≡ reached (rowsOf (now (table .entry)) rows) first second third ⌝ }
+{
+    let one = enter(table, rows, Spot::At(0), first);
+    let two = enter(table, rows, one, second);
+    enter(table, rows, two, third)
+}
+
+// Reads the payload of `size` bytes from `start` on into the table, and goes to the master. 15: there is none.
+pub fn locate(
+    recording: &[u8],
+    start: u64,
+    size: u64,
+    parent: u32,
+    first: Step,
+    second: Step,
+    third: Step,
+    table: &mut [u64],
+) -> Located
+    ensures { λ r. ⌜ LocatePromise (now (recording .entry)) (asked (now (recording .entry)) start size parent (length (now (table .entry))) first second third) (length (now (table .entry))) r (now (table .exit)) ⌝ }
+{
+    match read(recording, start, size, parent, table) {
+        ReadReply::Refused(refusal) => Located::Refused(refusal),
+        ReadReply::Rows(count) => {
+            let rows = count as usize;
+            match find(table, rows, first, second, third) {
+                Spot::Absent => {
+                    clear(table);
+                    Located::Refused(Refusal::no_record())
+                }
+                Spot::At(number) => Located::At {
+                    master: rows_below(table, rows, number),
+                    rows,
+                },
+            }
+        }
+    }
+}
