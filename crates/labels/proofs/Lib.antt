@@ -1,0 +1,4 @@
+-- The laws that the proofs of `labels` share, and its theorems.
+pub mod Texts
+pub mod Stages
+pub mod Unique

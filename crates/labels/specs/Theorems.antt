@@ -1,0 +1,30 @@
+-- What is proved of the definitions beside the contracts: the statements of the theorems.
+use Prim.Native.Nat.{ℕ}
+use mathlib.Core.Path.{_≡_}
+use mathlib.Core.List.{List}
+use Rattle.places.specs.Payload.{range, partOf}
+use Rattle.places.specs.declared.payload.RangeReply.{RangeReply}
+use Rattle.fields.specs.declared.field.Part.{Part}
+use Rattle.fields.specs.declared.field.Part.the-variants.{At}
+use Rattle.labels.specs.Shown.{textPlace, labelOf}
+use Rattle.labels.specs.Promise.{TextPromise, ShownPromise, LabelPromise}
+
+-- Any two replies that a promise permits to one question are equal (document 01, Strength of the promises).
+abbrev pub OneText : Type 0
+OneText = (s t : List ℕ) (row : ℕ) (r r′ : RangeReply) → TextPromise s t row r → TextPromise s t row r′ → r ≡ r′
+
+abbrev pub OneShown : Type 0
+OneShown =
+    (s t : List ℕ) (row : ℕ) (part part′ : List ℕ) → ShownPromise s t row part → ShownPromise s t row part′
+    → part ≡ part′
+
+abbrev pub OneLabel : Type 0
+OneLabel =
+    (s : List ℕ) (string : Part) (own part part′ : List ℕ) → LabelPromise s string own part
+    → LabelPromise s string own part′ → part ≡ part′
+
+-- The label of a string that a text row holds is that row's shown text, whatever the caller's own label is.
+abbrev pub LabelIsShown : Type 0
+LabelIsShown =
+    (s t : List ℕ) (row at n : ℕ) → textPlace s t row ≡ range at n
+    → (own : List ℕ) → labelOf s (At (record { at = at; length = n })) own ≡ partOf s (textPlace s t row)

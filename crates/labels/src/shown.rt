@@ -1,0 +1,52 @@
+// Shown text: a text row's whole payload, as a range and as the very part of the recording. The table is only read.
+ghost use mathlib.Core.Path.{_≡_};
+ghost use Rattle.labels.specs.Shown.{isText};
+ghost use Rattle.labels.specs.Promise.{TextPromise, ShownPromise};
+use bodies::Range;
+use elements::row_at;
+use header::Refusal;
+use kinds::Kind;
+use places::RangeReply;
+use places::payload_range;
+
+// Whether a row of this kind is a text row, of either kind of text.
+fn is_text(kind: u64) -> bool
+    ensures { λ r. ⌜ r ≡ isText kind ⌝ }
+{
+    if kind == 4 {
+        return true;
+    }
+    kind == 5
+}
+
+// The range of a text row's payload. 14: as `payload_range` has it, or the row is no text row.
+pub fn text_range(recording: &[u8], table: &[u64], row: u64) -> RangeReply
+    ensures { λ r. ⌜ TextPromise (now (recording .entry)) (now (table .entry)) row r ⌝ }
+{
+    match payload_range(recording, table, row) {
+        RangeReply::Refused(refusal) => RangeReply::Refused(refusal),
+        RangeReply::Range(range) => {
+            let found = row_at(table, row as usize);
+            if is_text(found.kind) {
+                return RangeReply::Range(range);
+            }
+            RangeReply::Refused(Refusal::bad_argument())
+        }
+    }
+}
+
+// The text of a row as the very part of the recording; empty where `text_range` refuses.
+pub fn shown_text<'a>(recording: &'a [u8], table: &[u64], row: u64) -> &'a [u8]
+    ensures { λ r. ⌜ ShownPromise (now (recording .entry)) (now (table .entry)) row (now r) ⌝ }
+{
+    match text_range(recording, table, row) {
+        RangeReply::Refused(_) => &recording[..0],
+        RangeReply::Range(range) => {
+            let at = range.at;
+            let end = at + range.length;
+            let first = at as usize;
+            let last = end as usize;
+            &recording[first..last]
+        }
+    }
+}
