@@ -4,3 +4,6 @@ pub mod Levels
 pub mod Picked
 pub mod Sizes
 pub mod Taken
+pub mod LastOnes
+pub mod Enough
+pub mod Once

@@ -112,7 +112,7 @@ module _ (parent id : ℕ) (kind : Kind) where
 
   -- ---- it can be read
 
-  fits-kind : (r : Row) → fits parent id kind r ≡ true → r .kind ≡ numberOf kind
+  pub fits-kind : (r : Row) → fits parent id kind r ≡ true → r .kind ≡ numberOf kind
   unfolding fits
   fits-kind r = go (eqb (r .parent) parent) (eqb (r .id) id) (eqb (r .kind) (numberOf kind)) refl
     where

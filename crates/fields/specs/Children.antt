@@ -39,7 +39,7 @@ childrenFrom n parent id kind (r ∷ rs) =
 abbrev pub children : ℕ → ℕ → Kind → List Row → List Child
 children parent id kind below = childrenFrom parent parent id kind below
 
--- The last of them; the first one given where there is none.
+-- The last of them, or c where there is none.
 unfoldable pub lastFrom : Child → List Child → Child
 lastFrom c [] = c
 lastFrom c (d ∷ ds) = lastFrom d ds

@@ -4,3 +4,4 @@ pub mod Values
 pub mod Fields
 pub mod Told
 pub mod Contract
+pub mod Theorems

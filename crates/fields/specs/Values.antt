@@ -18,7 +18,7 @@ pub data Value : Type 0 where
   number : ℕ → Value
   flag : Bool → Value
   part : ℕ → ℕ → Value
-  -- a language by its list
+  -- a language, of ISO 639 or of the IETF
   iso : ℕ → ℕ → Value
   ietf : ℕ → ℕ → Value
   -- a tag's value by its case
@@ -28,12 +28,13 @@ pub data Value : Type 0 where
   -- how many there are of a repeated part
   count : ℕ → Value
 
--- The place of a row's payload.
-abbrev pub placed : (ℕ → ℕ → Value) → Row → Value
-placed kind r = kind (r .address + r .header) (r .payload)
-
+-- The place of a row's payload: its address and length.
 abbrev pub rangeIn : Row → Range
 rangeIn r = record { at = r .address + r .header; length = r .payload }
+
+-- A value that names that place.
+abbrev pub placed : (ℕ → ℕ → Value) → Row → Value
+placed names r = names (rangeIn r .at) (rangeIn r .length)
 
 -- A row's payload as one big-endian number, and as a float of its size.
 abbrev pub uintIn : List ℕ → Row → ℕ

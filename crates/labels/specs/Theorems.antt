@@ -1,11 +1,15 @@
 -- What is proved of the definitions beside the contracts: the statements of the theorems.
-use Prim.Native.Nat.{ℕ}
+use Prim.Native.Nat.{ℕ, _<_}
 use mathlib.Core.Path.{_≡_}
 use mathlib.Core.List.{List}
+use Rattle.bodies.specs.declared.body.Range.{Range}
 use Rattle.places.specs.Payload.{range, partOf}
 use Rattle.places.specs.declared.payload.RangeReply.{RangeReply}
 use Rattle.fields.specs.declared.field.Part.{Part}
 use Rattle.fields.specs.declared.field.Part.the-variants.{At}
+use Rattle.records.specs.Promise.{DisplayPromise}
+use Rattle.records.specs.declared.display.ChapterDisplay.{ChapterDisplay}
+use Rattle.records.specs.declared.display.DisplayReply.the-variants.{Display}
 use Rattle.labels.specs.Shown.{textPlace, labelOf}
 use Rattle.labels.specs.Promise.{TextPromise, ShownPromise, LabelPromise}
 
@@ -28,3 +32,18 @@ abbrev pub LabelIsShown : Type 0
 LabelIsShown =
     (s t : List ℕ) (row at n : ℕ) → textPlace s t row ≡ range at n
     → (own : List ℕ) → labelOf s (At (record { at = at; length = n })) own ≡ partOf s (textPlace s t row)
+
+-- The row that a display's string comes from: a text row that the table holds at exit, whose shown text is the label,
+-- whatever the caller's own label is.
+pub record StringRow (s t′ : List ℕ) (rows : ℕ) (string : Range) : Type 0 where
+  pub row : ℕ
+  pub there : row < rows
+  pub place : textPlace s t′ row ≡ range (string .at) (string .length)
+  pub shown : (own : List ℕ) → labelOf s (At string) own ≡ partOf s (textPlace s t′ row)
+
+-- The label that is asked with a display's set string is the shown text of a row.
+abbrev pub StageIsShown : Type 0
+StageIsShown =
+    (s : List ℕ) (start size k i j : ℕ) (t : List ℕ) (d : ChapterDisplay) (rows : ℕ) (t′ : List ℕ) (string : Range)
+    → DisplayPromise s start size k i j t (Display d rows) t′ → d .string ≡ At string
+    → StringRow s t′ rows string

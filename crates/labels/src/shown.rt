@@ -9,14 +9,19 @@ use kinds::Kind;
 use places::RangeReply;
 use places::payload_range;
 
+// The numbers of the two kinds of text.
+const STRING: u64 = 4;
+
+const UTF8: u64 = 5;
+
 // Whether a row of this kind is a text row, of either kind of text.
 fn is_text(kind: u64) -> bool
     ensures { λ r. ⌜ r ≡ isText kind ⌝ }
 {
-    if kind == 4 {
+    if kind == STRING {
         return true;
     }
-    kind == 5
+    kind == UTF8
 }
 
 // The range of a text row's payload. 14: as `payload_range` has it, or the row is no text row.

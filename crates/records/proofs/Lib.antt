@@ -3,3 +3,6 @@ pub mod Ways
 pub mod Lists
 pub mod Settled
 pub mod Tags
+pub mod Unique
+pub mod Addressed
+pub mod Cases

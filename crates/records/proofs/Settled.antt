@@ -1,20 +1,21 @@
 -- A question settled: what `locate` came to, what the record is then, and the table that is left. Assumes nothing.
 use Prim.Native.Nat.{ℕ, _+_, _-_, _*_, _/_, _≤_}
-use mathlib.Core.Path.{_≡_, sym, ap, _∙_, subst}
-use mathlib.Core.List.{List, _++_}
+use mathlib.Core.Path.{_≡_, refl, sym, ap, _∙_, subst}
+use mathlib.Core.List.{List, [], _∷_, _++_}
 use native.Mathlib.Omega.{arith}
 use lib.ListN.{length}
 use borrow.Author.Tests.{not-false}
 use Rattle.header.specs.Refusals.{noRecord}
-use Rattle.header.specs.Reply.{refusalOf}
+use Rattle.header.specs.Reply.{accepted, refusalOf}
 use Rattle.header.specs.Promise.{mostBytes}
 use Rattle.header.specs.declared.refusal.Refusal.{Refusal}
 use Rattle.elements.specs.Forest.{count}
 use Rattle.elements.specs.Reading.{Outcome, done, refused}
-use Rattle.elements.specs.Rows.{width, flatten, rowsOf}
+use Rattle.elements.specs.Rows.{rows, width, flatten, rowsOf}
 use Rattle.elements.specs.Promise.{readOf, replyOf, tableOf, zeros, ReadPromise}
 use Rattle.elements.specs.declared.row.Row.{Row}
 use Rattle.elements.specs.declared.reply.ReadReply.the-variants.{Rows, Refused as ReadRefused}
+use Rattle.elements.proofs.Forests.{length-rows}
 use Rattle.elements.proofs.Limits.{within}
 use Rattle.elements.proofs.Numbered.{length-rows-of}
 use Rattle.elements.proofs.Outcomes.{of-refuse}
@@ -26,10 +27,11 @@ use Rattle.fields.specs.Contract.{BelowIs}
 use Rattle.fields.specs.Values.{Value}
 use Rattle.fields.specs.declared.child.Below.{Below}
 use Rattle.records.specs.Steps.{reached}
-use Rattle.records.specs.Asked.{Asked, found, not, settled, sought, asked, tableAfter}
+use Rattle.records.specs.Asked.{Asked, found, refusing, settled, sought, asked, tableAfter}
 use Rattle.records.specs.Told.{fields, refuses}
 use Rattle.records.specs.Contract.{LocatePromise}
 use Rattle.records.specs.Promise.{answerOf, RecordPromise, ofBelow}
+use Rattle.records.specs.Theorems.{RecordIsRead}
 use Rattle.records.specs.declared.locate.Step.{Step}
 use Rattle.records.specs.declared.locate.Spot.{Spot}
 use Rattle.records.specs.declared.locate.Spot.the-variants.{Absent, At as SpotAt}
@@ -65,7 +67,8 @@ module _ (s : List ℕ) (start size parent : ℕ) (t : List ℕ) (first second t
   unfolding asked tableOf
   read-refused e t′ p =
       let o = told-refused e (readOf s start size parent (length t)) (p .reply) in
-      let a : question ≡ not e = ap (λ (x : Outcome). sought start x (λ rs. reached rs first second third)) o in
+      let a : question ≡ refusing e =
+      ap (λ (x : Outcome). sought start x (λ rs. reached rs first second third)) o in
       record {
         reply = a;
         table = p .table ∙ ap (tableOf start (length t)) o ∙ sym (ap (tableAfter (length t)) a);
@@ -86,7 +89,7 @@ module _ (s : List ℕ) (start size parent : ℕ) (t : List ℕ) (first second t
         → t′ ≡ zeros (length t₁) → LocatePromise s question (length t) (Refused e) t′
     no-spot e t′ w q z =
         let a = accepted-read s start size parent t n t₁ p in
-        let d : question ≡ not e = came Absent w ∙ ap not (sym q) in
+        let d : question ≡ refusing e = came Absent w ∙ ap refusing (sym q) in
         record { reply = d; table = z ∙ zeros-as (a .as-long) ∙ sym (ap (tableAfter (length t)) d) }
 
     -- The table is as the read left it.
@@ -151,3 +154,30 @@ module _ (s : List ℕ) (a : Asked) (numbers : ℕ) (t′ : List ℕ) where
         (values : ℕ → List Row → List Value) (vs : List Value) → vs ≡ values (b .parent) (rowsIn t′ b)
         → RecordPromise (ofBelow values) a numbers (fields vs n) t′
     is-below values vs q = is-found (ofBelow values) vs (q ∙ ap (values (b .parent)) (p .reply .1 .below .are))
+
+-- ---- a question that is not refused is a read
+
+settled-found : (rs : List Row) (to : Spot) (us : List Row) (master : ℕ) → settled rs to ≡ found us master → us ≡ rs
+settled-found rs Absent us master q = let z : _≡_ {A = ℕ} 0 1 = cc in absurd (omega arith)
+settled-found rs (SpotAt to) us master q = let z : rs ≡ us = cc in sym z
+
+pub record-is-read : RecordIsRead
+unfolding asked tableOf
+record-is-read s start size parent t first second third rs master q =
+    go (readOf s start size parent (length t)) refl q
+  where
+    go : (o : Outcome) → readOf s start size parent (length t) ≡ o
+        → sought start o (λ us. reached us first second third) ≡ found rs master
+        → ReadPromise s start size parent t (Rows (length rs)) (tableAfter (length t) (found rs master))
+    go (refused e) w q = let z : _≡_ {A = ℕ} 0 1 = cc in absurd (omega arith)
+    go (done f) w q =
+        let us = rows 0 0 start 0 f in
+        let e : rs ≡ us = settled-found us (reached us first second third) rs master q in
+        let n : length rs ≡ count f = ap length e ∙ length-rows 0 0 start 0 f in
+        record {
+          reply = ap (λ (m : ℕ). accepted (m ∷ [])) n ∙ sym (ap replyOf w);
+          table =
+              ap (λ (x : List Row). flatten x ++ zeros (length t - length rs * width)) e
+              ∙ ap (λ (m : ℕ). flatten us ++ zeros (length t - m * width)) n
+              ∙ sym (ap (tableOf start (length t)) w);
+        }

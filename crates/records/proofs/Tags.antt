@@ -20,7 +20,7 @@ use Rattle.fields.specs.Fields.{countOf}
 use Rattle.fields.specs.declared.child.Below.{Below}
 use Rattle.fields.specs.declared.child.Child.{Child}
 use Rattle.fields.specs.declared.child.Child.the-variants.{At as ChildAt, Absent as NoChild}
-use Rattle.records.specs.Asked.{Asked, found, not, orNone, listed, tableAfter}
+use Rattle.records.specs.Asked.{Asked, found, refusing, hasMember, listed, tableAfter}
 use Rattle.records.specs.Records.{targetOf, targetsIn, targetsOf, tagOf, memberId, memberOf, uidOf}
 use Rattle.records.specs.Told.{fields, refuses, targetValues, targetsValues}
 use Rattle.records.specs.Contract.{Stands, LocatePromise}
@@ -95,7 +95,7 @@ module _ (s : List ℕ) (a : Asked) (numbers : ℕ) (list : UidList) (i : ℕ) w
       (t′ : List ℕ) (e : Refusal) → LocatePromise s a numbers (Refused e) t′
       → RecordPromise (uidOf s list i) (listed a (memberOf list i)) numbers (refuses e) t′
   uid-refused t′ e p =
-      let d : listed a (memberOf list i) ≡ not e = ap (λ (x : Asked). listed x (memberOf list i)) (p .reply) in
+      let d : listed a (memberOf list i) ≡ refusing e = ap (λ (x : Asked). listed x (memberOf list i)) (p .reply) in
       record {
         reply = sym (ap (answerOf (uidOf s list i)) d);
         table = p .table ∙ ap (tableAfter numbers) (p .reply) ∙ sym (ap (tableAfter numbers) d);
@@ -113,10 +113,10 @@ module _ (s : List ℕ) (a : Asked) (numbers : ℕ) (list : UidList) (i : ℕ) w
 
       -- The member that the question comes to.
       asks : (c : Child) → c ≡ nthOf i (children (b .parent) id Uint (rowsIn t₁ b))
-          → listed a (memberOf list i) ≡ orNone (found (rowsOf t₁ n) (b .parent)) c
+          → listed a (memberOf list i) ≡ hasMember (found (rowsOf t₁ n) (b .parent)) c
       asks c e =
           ap (λ (x : Asked). listed x (memberOf list i)) (p .reply .0)
-          ∙ ap (orNone (found (rowsOf t₁ n) (b .parent))) (sym (is-member c e))
+          ∙ ap (hasMember (found (rowsOf t₁ n) (b .parent))) (sym (is-member c e))
 
       pub uid-none :
           (t′ : List ℕ) (e : Refusal) → length t₁ ≡ numbers
@@ -124,7 +124,7 @@ module _ (s : List ℕ) (a : Asked) (numbers : ℕ) (list : UidList) (i : ℕ) w
           → e ≡ noRecord → t′ ≡ zeros (length t₁)
           → RecordPromise (uidOf s list i) (listed a (memberOf list i)) numbers (refuses e) t′
       uid-none t′ e l q w z =
-          let d : listed a (memberOf list i) ≡ not e = asks NoChild q ∙ ap not (sym w) in
+          let d : listed a (memberOf list i) ≡ refusing e = asks NoChild q ∙ ap refusing (sym w) in
           record {
             reply = sym (ap (answerOf (uidOf s list i)) d);
             table = z ∙ zeros-as l ∙ sym (ap (tableAfter numbers) d);

@@ -19,16 +19,16 @@ use Rattle.records.specs.declared.locate.Spot.the-variants.{Absent, At}
 -- The rows that were read and the master among them, told as in a row's parent; or a refusal.
 pub data Asked : Type 0 where
   found : List Row → ℕ → Asked
-  not : Refusal → Asked
+  refusing : Refusal → Asked
 
 abbrev pub settled : List Row → Spot → Asked
-settled rs Absent = not noRecord
+settled rs Absent = refusing noRecord
 settled rs (At parent) = found rs parent
 
 -- What is sought among the rows of a read.
 abbrev pub sought : ℕ → Outcome → (List Row → Spot) → Asked
 sought start (done f) way = settled (rows 0 0 start 0 f) (way (rows 0 0 start 0 f))
-sought start (refused e) way = not e
+sought start (refused e) way = refusing e
 
 -- The payload is read under a parent id into a table of so many numbers; then a step is taken for each level.
 unfoldable pub asked : List ℕ → ℕ → ℕ → ℕ → ℕ → Step → Step → Step → Asked
@@ -36,15 +36,15 @@ asked s start size parent numbers first second third =
     sought start (readOf s start size parent numbers) (λ rs. reached rs first second third)
 
 -- And 15 where the master has no such child.
-abbrev pub orNone : Asked → Child → Asked
-orNone a NoChild = not noRecord
-orNone a (ChildAt n r) = a
+abbrev pub hasMember : Asked → Child → Asked
+hasMember a NoChild = refusing noRecord
+hasMember a (ChildAt n r) = a
 
 abbrev pub listed : Asked → (List Row → ℕ → Child) → Asked
-listed (found rs parent) member = orNone (found rs parent) (member rs parent)
-listed (not e) member = not e
+listed (found rs parent) member = hasMember (found rs parent) (member rs parent)
+listed (refusing e) member = refusing e
 
 -- The table: as the read leaves it; after a refusal, 15 too, zeros.
 abbrev pub tableAfter : ℕ → Asked → List ℕ
 tableAfter numbers (found rs parent) = flatten rs ++ zeros (numbers - length rs * width)
-tableAfter numbers (not e) = zeros numbers
+tableAfter numbers (refusing e) = zeros numbers

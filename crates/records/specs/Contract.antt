@@ -10,7 +10,7 @@ use Rattle.fields.specs.Contract.{BelowIs}
 use Rattle.fields.specs.declared.child.Below.{Below}
 use Rattle.fields.specs.declared.child.Child.{Child}
 use Rattle.fields.specs.declared.child.Child.the-variants.{At as ChildAt, Absent as NoChild}
-use Rattle.records.specs.Asked.{Asked, found, not, tableAfter}
+use Rattle.records.specs.Asked.{Asked, found, refusing, tableAfter}
 use Rattle.records.specs.declared.locate.Spot.{Spot}
 use Rattle.records.specs.declared.locate.Spot.the-variants.{Absent, At as SpotAt}
 use Rattle.records.specs.declared.locate.Located.{Located}
@@ -21,7 +21,7 @@ abbrev pub Known : ℕ → Spot → Type 0
 Known rows Absent = Unit
 Known rows (SpotAt parent) = parent ≤ rows
 
--- A child's row number is one of a table.
+-- A child's row number plus 1 is still a 64-bit number.
 abbrev pub Numbered : Child → Type 0
 Numbered NoChild = Unit
 Numbered (ChildAt n r) = suc n < 2 ^ 64
@@ -36,7 +36,7 @@ pub record Stands (s t : List ℕ) (rows : ℕ) (b : Below) : Type 0 where
 -- What `locate` answers to a question.
 abbrev pub Answers : List ℕ → List ℕ → Asked → Located → Type 0
 Answers s t a (At b rows) = (a ≡ found (rowsOf t rows) (b .parent)) × Stands s t rows b
-Answers s t a (Refused e) = a ≡ not e
+Answers s t a (Refused e) = a ≡ refusing e
 
 pub record LocatePromise (s : List ℕ) (a : Asked) (numbers : ℕ) (r : Located) (t′ : List ℕ) : Type 0 where
   pub reply : Answers s t′ a r

@@ -6,3 +6,5 @@ pub mod Told
 pub mod Tracktypes
 pub mod Contract
 pub mod Promise
+pub mod Theorems
+pub mod Cases

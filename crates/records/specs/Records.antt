@@ -1,4 +1,4 @@
--- The records as tables of fields (document 01, Records; the ids and names are those of src/ids.rs).
+-- The records as tables of fields, each with its id (document 01, Records; the record types of the crate's lib.rs).
 use Prim.Native.Nat.{ℕ, suc}
 use mathlib.Core.List.{List, [], _∷_, _++_}
 use mathlib.Core.Bool.{true, false}

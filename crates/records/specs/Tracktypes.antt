@@ -1,18 +1,35 @@
 -- Track types by their numbers (document 01, Records).
 use Prim.Native.Nat.{ℕ}
+use mathlib.Core.List.{List, [], _∷_}
 use mathlib.Core.Bool.{cond}
 use lib.Dec.{eqb}
 use Rattle.records.specs.declared.tracktype.Tracktype.{Tracktype}
 use Rattle.records.specs.declared.tracktype.Tracktype.the-variants.{Video, Audio, Complex, Logo}
 use Rattle.records.specs.declared.tracktype.Tracktype.the-variants.{Subtitle, Buttons, Control, Unknown}
 
--- Any other number is Unknown.
-unfoldable pub tracktypeOf : ℕ → Tracktype
-tracktypeOf n =
-    cond (eqb n 1) Video
-    (cond (eqb n 2) Audio
-    (cond (eqb n 3) Complex
-    (cond (eqb n 16) Logo
-    (cond (eqb n 17) Subtitle
-    (cond (eqb n 18) Buttons
-    (cond (eqb n 32) Control Unknown))))))
+-- A type with its number.
+pub record Numbered : Type 0 where
+  pub number : ℕ
+  pub type : Tracktype
+
+abbrev row : ℕ → Tracktype → Numbered
+row number type = record { number = number; type = type }
+
+abbrev pub types : List Numbered
+types =
+    row 1 Video
+    ∷ row 2 Audio
+    ∷ row 3 Complex
+    ∷ row 16 Logo
+    ∷ row 17 Subtitle
+    ∷ row 18 Buttons
+    ∷ row 32 Control
+    ∷ []
+
+-- The type with a number; any other number is Unknown.
+unfoldable pub typeIn : List Numbered → ℕ → Tracktype
+typeIn [] n = Unknown
+typeIn (t ∷ ts) n = cond (eqb n (t .number)) (t .type) (typeIn ts n)
+
+abbrev pub tracktypeOf : ℕ → Tracktype
+tracktypeOf n = typeIn types n

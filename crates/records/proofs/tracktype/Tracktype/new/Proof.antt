@@ -1,40 +1,40 @@
 -- `Tracktype::new` meets its contract: each number is an arm of its own. Assumes nothing.
 use mathlib.Core.Path.{refl, ap, sym}
 use borrow.Author.Tests.{ne-eqb}
-use Rattle.records.specs.Tracktypes.{tracktypeOf}
+use Rattle.records.specs.Tracktypes.{typeIn, tracktypeOf}
 use Rattle.records.proofs.tracktype.Tracktype.new.Statement.{statement}
 use Rattle.records.proofs.tracktype.Tracktype.new.Tie as tie
 
 returns : tie.Need-returns
-unfolding tracktypeOf
+unfolding typeIn
 returns c = ap tracktypeOf (sym (c .match .keys1))
 
 returns-2 : tie.Need-returns-2
-unfolding tracktypeOf
+unfolding typeIn
 returns-2 c = ap tracktypeOf (sym (c .match .keys2))
 
 returns-3 : tie.Need-returns-3
-unfolding tracktypeOf
+unfolding typeIn
 returns-3 c = ap tracktypeOf (sym (c .match .keys3))
 
 returns-4 : tie.Need-returns-4
-unfolding tracktypeOf
+unfolding typeIn
 returns-4 c = ap tracktypeOf (sym (c .match .keys4))
 
 returns-5 : tie.Need-returns-5
-unfolding tracktypeOf
+unfolding typeIn
 returns-5 c = ap tracktypeOf (sym (c .match .keys5))
 
 returns-6 : tie.Need-returns-6
-unfolding tracktypeOf
+unfolding typeIn
 returns-6 c = ap tracktypeOf (sym (c .match .keys6))
 
 returns-7 : tie.Need-returns-7
-unfolding tracktypeOf
+unfolding typeIn
 returns-7 c = ap tracktypeOf (sym (c .match .keys7))
 
 returns-8 : tie.Need-returns-8
-unfolding tracktypeOf
+unfolding typeIn
 returns-8 c =
     let other = c .match .rest in
     rw (

@@ -1,0 +1,92 @@
+-- A display's string comes from a text row, whose shown text is the label (`StageIsShown`). Assumes nothing.
+use Prim.Native.Nat.{ℕ, _+_, _-_, _*_, _<_}
+use mathlib.Core.Path.{_≡_, refl, sym, ap, _∙_, subst}
+use mathlib.Core.List.{List}
+use native.Mathlib.Omega.{arith}
+use lib.ListN.{length}
+use Rattle.bodies.specs.declared.body.Range.{Range}
+use Rattle.kinds.specs.declared.kind.Kind.the-variants.{Utf8}
+use Rattle.elements.specs.Rows.{width, rowAt, rowsOf}
+use Rattle.elements.specs.Promise.{zeros, ReadPromise}
+use Rattle.elements.specs.Theorems.{nth}
+use Rattle.elements.specs.declared.row.Row.{Row}
+use Rattle.elements.specs.declared.reply.ReadReply.the-variants.{Rows}
+use Rattle.elements.proofs.Numbered.{row-of}
+use Rattle.elements.proofs.Readback.{rows-back}
+use Rattle.places.specs.Payload.{range, placeOf}
+use Rattle.places.proofs.Accepted.{rows-have-ranges}
+use Rattle.fields.specs.Children.{subtree, children, lastOf}
+use Rattle.fields.specs.Values.{part, partIn}
+use Rattle.fields.specs.Fields.{partOf}
+use Rattle.fields.specs.Told.{partTold}
+use Rattle.fields.specs.declared.child.Child.{Child}
+use Rattle.fields.specs.declared.child.Child.the-variants.{At as ChildAt, Absent as NoChild}
+use Rattle.fields.specs.declared.field.Part.the-variants.{At}
+use Rattle.fields.proofs.Picked.{last-is, fits-kind}
+use Rattle.records.specs.Asked.{Asked, found, refusing, tableAfter}
+use Rattle.records.specs.Records.{displayOf}
+use Rattle.records.specs.Told.{displayTold}
+use Rattle.records.specs.Promise.{answerOf, ofBelow, displayAsked}
+use Rattle.records.specs.declared.display.ChapterDisplay.{ChapterDisplay}
+use Rattle.records.specs.declared.display.DisplayReply.the-variants.{Display}
+use Rattle.records.proofs.Addressed.{Known-in, child-row, asked-in}
+use Rattle.records.proofs.Settled.{record-is-read}
+use Rattle.labels.specs.Shown.{isText, textPlace}
+use Rattle.labels.specs.Theorems.{StageIsShown}
+use Rattle.labels.proofs.Stages.{label-is-shown}
+
+-- A part that is told comes from a child.
+from-child : (c : Child) (g : Range) → part (g .at) (g .length) ≡ partIn c
+    → (n : ℕ) × (r : Row) × (c ≡ ChildAt n r) × (r .address + r .header ≡ g .at) × (r .payload ≡ g .length)
+from-child NoChild g q = let z : _≡_ {A = ℕ} 0 1 = cc in absurd (omega arith)
+from-child (ChildAt n r) g q = (n, r, refl, cc, cc)
+
+-- A row whose kind is UTF-8 has its payload as text.
+as-text : (s t : List ℕ) (k : ℕ) → rowAt t k .kind ≡ 5 → textPlace s t k ≡ placeOf s t k
+unfolding textPlace isText
+as-text s t k e = rw e
+
+module _
+    (s : List ℕ) (start size parent : ℕ) (t : List ℕ) (rs : List Row) (t′ : List ℕ)
+    (p : ReadPromise s start size parent t (Rows (length rs)) t′) (w : rowsOf t′ (length rs) ≡ rs) where
+  -- The range of a row of the read that is a text.
+  text-row : (n : ℕ) (r : Row) → n < length rs → nth rs n ≡ r → r .kind ≡ 5
+      → textPlace s t′ n ≡ range (r .address + r .header) (r .payload)
+  text-row n r l q k =
+      let e : rowAt t′ n ≡ r
+      = sym (row-of t′ (length rs) n l) ∙ ap (λ (x : List Row). nth x n) w ∙ q in
+      as-text s t′ n (ap (λ (x : Row). x .kind) e ∙ k)
+      ∙ rows-have-ranges s start size parent t (length rs) t′ p n l
+      ∙ ap (λ (x : Row). range (x .address + x .header) (x .payload)) e
+
+-- The question was not refused, and the string is the display's first field.
+string-from : (s : List ℕ) (a : Asked) (numbers : ℕ) (d : ChapterDisplay) (rows : ℕ) (g : Range)
+    → displayTold (Display d rows) ≡ answerOf (ofBelow (displayOf s)) a → d .string ≡ At g
+    → (rs : List Row) × (master : ℕ) × (a ≡ found rs master) × (rows ≡ length rs)
+    × (part (g .at) (g .length) ≡ partIn (lastOf (children master 0x85 Utf8 (subtree rs master))))
+unfolding displayOf partOf
+string-from s (refusing e) numbers d rows g q w = let z : _≡_ {A = ℕ} 0 1 = cc in absurd (omega arith)
+string-from s (found rs master) numbers d rows g q w =
+    let e : partTold (d .string) ≡ partIn (lastOf (children master 0x85 Utf8 (subtree rs master))) = cc in
+    (rs, master, refl, cc, sym (ap partTold w) ∙ e)
+
+pub stage-is-shown : StageIsShown
+stage-is-shown s start size k i j t d rows t′ g p w =
+    let (rs, master, a, m, q) =
+    string-from s (displayAsked s start size k i j (length t)) (length t) d rows g (p .reply) w in
+    let (n, r, c, at, long) = from-child (lastOf (children master 0x85 Utf8 (subtree rs master))) g q in
+    let known = subst Known-in a (asked-in s start size 0x45B9 (length t) _ _ _) in
+    let (there, row) = child-row s rs master known 0x85 Utf8 n r (sym c) in
+    let kind = fits-kind master 0x85 Utf8 r (last-is master 0x85 Utf8 (subtree rs master) n r (sym c) .fit) in
+    let u = p .table ∙ ap (tableAfter (length t)) a in
+    let read = subst (ReadPromise s start size 0x45B9 t (Rows (length rs))) (sym u)
+    (record-is-read s start size 0x45B9 t _ _ _ rs master a) in
+    let held = ap (λ (x : List ℕ). rowsOf x (length rs)) u ∙ rows-back rs (zeros (length t - length rs * width)) in
+    let place = text-row s start size 0x45B9 t rs t′ read held n r there row kind
+    ∙ ap (λ (x : ℕ). range x (r .payload)) at ∙ ap (range (g .at)) long in
+    record {
+      row = n;
+      there = subst (λ (x : ℕ). n < x) (sym m) there;
+      place = place;
+      shown = label-is-shown s t′ n (g .at) (g .length) place;
+    }
