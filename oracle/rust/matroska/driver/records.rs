@@ -162,47 +162,71 @@ fn agree(same: bool) -> Outcome<()> {
     }
 }
 
+/// The mark of a field that is not set. The crate has to show it as it shows that
+/// of an empty master.
+fn unset<T: PartialEq>(shown: T, empty: T) -> Outcome<String> {
+    agree(shown == empty)?;
+    Ok("unset".to_string())
+}
+
 /// An empty range is one that the crate never set.
-fn range(range: &str) -> &str {
+fn range(range: &str, empty: &str) -> Outcome<String> {
     if range.is_empty() {
-        "unset"
+        unset(range, empty)
     } else {
-        range
+        Ok(range.to_string())
     }
 }
 
-fn byte_range(bytes: &[u8]) -> &str {
-    range(std::str::from_utf8(bytes).expect("a range is ASCII"))
+fn byte_range(bytes: &[u8], empty: &[u8]) -> Outcome<String> {
+    let text = |bytes| std::str::from_utf8(bytes).expect("a range is ASCII");
+    range(text(bytes), text(empty))
+}
+
+/// A text that the crate holds as an option.
+fn option_range(range: Option<&str>, empty: Option<&str>) -> Outcome<String> {
+    match range {
+        None => unset(range, empty),
+        Some(range) => Ok(range.to_string()),
+    }
 }
 
 /// A flag, from its value in the true tree and in the other.
-fn flag(now: bool, other: bool) -> &'static str {
+fn flag(now: bool, other: bool, empty: bool) -> Outcome<String> {
     match (now, other) {
-        _ if now == other => "unset",
-        (true, _) => "yes",
-        (false, _) => "no",
+        _ if now == other => unset(now, empty),
+        (true, _) => Ok("yes".to_string()),
+        (false, _) => Ok("no".to_string()),
     }
 }
 
-fn number(number: Option<u64>) -> String {
-    number.map_or("unset".to_string(), |number| number.to_string())
+fn number(number: Option<u64>, empty: Option<u64>) -> Outcome<String> {
+    match number {
+        None => unset(number, empty),
+        Some(number) => Ok(number.to_string()),
+    }
 }
 
 /// A number that the crate doesn't hold as an option.
-fn bare_number(now: u64, other: u64) -> String {
-    number(Some(now).filter(|now| *now != other))
+fn bare_number(now: u64, other: u64, empty: u64) -> Outcome<String> {
+    if now == other {
+        unset(now, empty)
+    } else {
+        Ok(now.to_string())
+    }
 }
 
 fn nanoseconds(time: std::time::Duration) -> u64 {
     u64::try_from(time.as_nanos()).expect("it was made from 64 bits")
 }
 
-fn language(language: Option<&Language>) -> String {
+/// A display of an empty master has an ISO language without a letter.
+fn language(language: Option<&Language>, empty: Option<&Language>) -> Outcome<String> {
     match language {
-        None => "unset".to_string(),
-        Some(Language::ISO639(range)) if range.is_empty() => "unset".to_string(),
-        Some(Language::ISO639(range)) => format!("iso {}", range),
-        Some(Language::IETF(range)) => format!("ietf {}", range),
+        None => unset(language, empty),
+        Some(Language::ISO639(range)) if range.is_empty() => unset(language, empty),
+        Some(Language::ISO639(range)) => Ok(format!("iso {}", range)),
+        Some(Language::IETF(range)) => Ok(format!("ietf {}", range)),
     }
 }
 
@@ -218,12 +242,13 @@ pub(crate) fn attachment(payload: &Payload, k: u64) -> Outcome<String> {
             data: source.bytes(&built.data),
         },
     )?;
+    let empty = Attachment::build_entry(Vec::new());
     Ok(format!(
         "description {} name {} mime {} data {} {}",
-        built.description.as_deref().unwrap_or("unset"),
-        range(&built.name),
-        range(&built.mime_type),
-        byte_range(&built.data),
+        option_range(built.description.as_deref(), empty.description.as_deref())?,
+        range(&built.name, &empty.name)?,
+        range(&built.mime_type, &empty.mime_type)?,
+        byte_range(&built.data, &empty.data)?,
         source.rows()
     ))
 }
@@ -258,12 +283,13 @@ fn editions(source: &Source, k: u64) -> Outcome<(ChapterEdition, ChapterEdition)
 pub(crate) fn edition(payload: &Payload, k: u64) -> Outcome<String> {
     let source = Source::read(payload, ids::EDITIONENTRY)?;
     let (now, other) = editions(&source, k)?;
+    let empty = ChapterEdition::build_entry(Vec::new());
     Ok(format!(
         "uid {} hidden {} default {} ordered {} chapters {} {}",
-        number(now.uid),
-        flag(now.hidden, other.hidden),
-        flag(now.default, other.default),
-        flag(now.ordered, other.ordered),
+        number(now.uid, empty.uid)?,
+        flag(now.hidden, other.hidden, empty.hidden)?,
+        flag(now.default, other.default, empty.default)?,
+        flag(now.ordered, other.ordered, empty.ordered)?,
         now.chapters.len(),
         source.rows()
     ))
@@ -280,15 +306,24 @@ fn chapters(source: &Source, k: u64, i: u64) -> Outcome<(Chapter, Chapter)> {
 pub(crate) fn chapter(payload: &Payload, k: u64, i: u64) -> Outcome<String> {
     let source = Source::read(payload, ids::EDITIONENTRY)?;
     let (now, other) = chapters(&source, k, i)?;
+    let empty = Chapter::build(Vec::new());
+    let start = |chapter: &Chapter| nanoseconds(chapter.time_start);
+    let segment = match now.segment_uid.as_deref() {
+        None => unset(&now.segment_uid, &empty.segment_uid)?,
+        Some(uid) => byte_range(uid, &[])?,
+    };
     Ok(format!(
         "uid {} start {} end {} hidden {} enabled {} segment {} edition {} displays {} {}",
-        bare_number(now.uid, other.uid),
-        bare_number(nanoseconds(now.time_start), nanoseconds(other.time_start)),
-        number(now.time_end.map(nanoseconds)),
-        flag(now.hidden, other.hidden),
-        flag(now.enabled, other.enabled),
-        now.segment_uid.as_deref().map_or("unset", byte_range),
-        number(now.segment_edition_uid),
+        bare_number(now.uid, other.uid, empty.uid)?,
+        bare_number(start(&now), start(&other), start(&empty))?,
+        number(
+            now.time_end.map(nanoseconds),
+            empty.time_end.map(nanoseconds)
+        )?,
+        flag(now.hidden, other.hidden, empty.hidden)?,
+        flag(now.enabled, other.enabled, empty.enabled)?,
+        segment,
+        number(now.segment_edition_uid, empty.segment_edition_uid)?,
         now.display.len(),
         source.rows()
     ))
@@ -298,10 +333,11 @@ pub(crate) fn display(payload: &Payload, k: u64, i: u64, j: u64) -> Outcome<Stri
     let source = Source::read(payload, ids::EDITIONENTRY)?;
     let (chapter, _) = chapters(&source, k, i)?;
     let display = nth(chapter.display.into_iter(), j)?;
+    let empty = ChapterDisplay::build(Vec::new());
     Ok(format!(
         "string {} language {} {}",
-        range(&display.string),
-        language(Some(&display.language)),
+        range(&display.string, &empty.string)?,
+        language(Some(&display.language), Some(&empty.language))?,
         source.rows()
     ))
 }
@@ -339,7 +375,8 @@ fn built_tag(source: &Source, k: u64, numbers: Numbers) -> Outcome<Tag> {
 
 /// The raw target number: the crate keeps only its level. It is the last
 /// unsigned 68CA of the last Targets; that it is there and which level it
-/// makes must be what the crate built.
+/// makes must be what the crate built. An unset one makes the level of an empty
+/// master, which is that of the number 50.
 fn target_number(source: &Source, k: u64, target: &Target) -> Outcome<Option<u64>> {
     let mut raw = None;
     for element in source.entry(ids::TAG, k, Numbers::True)? {
@@ -354,9 +391,11 @@ fn target_number(source: &Source, k: u64, target: &Target) -> Outcome<Option<u64
     let probe = built_tag(source, k, Numbers::Collection)?.targets;
     let set = probe.as_ref().and_then(level) == Some(TargetTypeValue::Collection);
     agree(set == raw.is_some())?;
-    if let Some(raw) = raw {
-        agree(level(target) == Some(TargetTypeValue::from(raw)))?;
-    }
+    let empty = Target::build_entry(Vec::new());
+    agree(match raw {
+        Some(raw) => level(target) == Some(TargetTypeValue::from(raw)),
+        None => level(target) == level(&empty) && level(&empty) == Some(TargetTypeValue::from(50)),
+    })?;
     Ok(raw)
 }
 
@@ -364,12 +403,13 @@ pub(crate) fn tag(payload: &Payload, k: u64) -> Outcome<String> {
     let source = Source::read(payload, ids::TAG)?;
     let tag = built_tag(&source, k, Numbers::True)?;
     let simple = format!("simple {} {}", tag.simple.len(), source.rows());
+    let empty = Target::build_entry(Vec::new());
     Ok(match &tag.targets {
         None => format!("target no {}", simple),
         Some(target) => format!(
             "target yes value {} type {} tracks {} editions {} chapters {} attachments {} {}",
-            number(target_number(&source, k, target)?),
-            target.target_type.as_deref().unwrap_or("unset"),
+            number(target_number(&source, k, target)?, None)?,
+            option_range(target.target_type.as_deref(), empty.target_type.as_deref())?,
             target.track_uids.len(),
             target.edition_uids.len(),
             target.chapter_uids.len(),
@@ -396,16 +436,17 @@ pub(crate) fn simple(payload: &Payload, k: u64, i: u64) -> Outcome<String> {
     let source = Source::read(payload, ids::TAG)?;
     let build = |numbers| nth(built_tag(&source, k, numbers)?.simple.into_iter(), i);
     let (now, other) = (build(Numbers::True)?, build(Numbers::Other)?);
+    let empty = SimpleTag::build_entry(Vec::new());
     let value = match &now.value {
-        None => "unset".to_string(),
-        Some(TagValue::String(text)) => format!("text {}", range(text)),
-        Some(TagValue::Binary(bytes)) => format!("binary {}", byte_range(bytes)),
+        None => unset(&now.value, &empty.value)?,
+        Some(TagValue::String(text)) => format!("text {}", range(text, "")?),
+        Some(TagValue::Binary(bytes)) => format!("binary {}", byte_range(bytes, &[])?),
     };
     Ok(format!(
         "name {} language {} default {} value {} {}",
-        range(&now.name),
-        language(now.language.as_ref()),
-        flag(now.default, other.default),
+        range(&now.name, &empty.name)?,
+        language(now.language.as_ref(), empty.language.as_ref())?,
+        flag(now.default, other.default, empty.default)?,
         value,
         source.rows()
     ))
@@ -417,16 +458,18 @@ pub(crate) fn audio(payload: &Payload, k: u64) -> Outcome<String> {
     nth(std::iter::once(()), k)?;
     let now = Audio::build(source.retell(Numbers::True));
     let other = Audio::build(source.retell(Numbers::Other));
-    let rate = if now.sample_rate.to_bits() == other.sample_rate.to_bits() {
-        "unset".to_string()
+    let empty = Audio::build(Vec::new());
+    let bits = |audio: &Audio| audio.sample_rate.to_bits();
+    let rate = if bits(&now) == bits(&other) {
+        unset(bits(&now), bits(&empty))?
     } else {
         float(now.sample_rate)
     };
     Ok(format!(
         "rate {} channels {} depth {} {}",
         rate,
-        bare_number(now.channels, other.channels),
-        number(now.bit_depth),
+        bare_number(now.channels, other.channels, empty.channels)?,
+        number(now.bit_depth, empty.bit_depth)?,
         source.rows()
     ))
 }

@@ -92,6 +92,61 @@ pub fn part_parent(id: u32) -> Option<u32> {
     part.map(|part| part.1)
 }
 
+/// The records of Attachments, Chapters and Tags, and of a track its audio. The
+/// payload of the part is read under the record's id, and an E1 payload under its
+/// own.
+pub const ATTACHED_FILE: u32 = 0x61A7;
+pub const EDITION: u32 = 0x45B9;
+pub const CHAPTER: u32 = 0xB6;
+pub const DISPLAY: u32 = 0x80;
+pub const TAG: u32 = 0x7373;
+pub const TARGETS: u32 = 0x63C0;
+pub const SIMPLE: u32 = 0x67C8;
+pub const AUDIO: u32 = 0xE1;
+
+/// The fields of an attachment.
+pub const FILE_DESCRIPTION: u32 = 0x467E;
+pub const FILE_NAME: u32 = 0x466E;
+pub const FILE_MIME: u32 = 0x4660;
+pub const FILE_DATA: u32 = 0x465C;
+
+/// Of an edition.
+pub const EDITION_UID: u32 = 0x45BC;
+pub const EDITION_HIDDEN: u32 = 0x45BD;
+pub const EDITION_DEFAULT: u32 = 0x45DB;
+pub const EDITION_ORDERED: u32 = 0x45DD;
+
+/// Of a chapter and of its displays.
+pub const CHAPTER_UID: u32 = 0x73C4;
+pub const CHAPTER_START: u32 = 0x91;
+pub const CHAPTER_END: u32 = 0x92;
+pub const CHAPTER_HIDDEN: u32 = 0x98;
+pub const CHAPTER_ENABLED: u32 = 0x4598;
+pub const CHAPTER_SEGMENT: u32 = 0x6E67;
+pub const CHAPTER_EDITION: u32 = 0x6EBC;
+pub const DISPLAY_STRING: u32 = 0x85;
+pub const DISPLAY_ISO: u32 = 0x437C;
+pub const DISPLAY_IETF: u32 = 0x437D;
+
+/// Of a tag's targets and of its simple tags.
+pub const TARGET_NUMBER: u32 = 0x68CA;
+pub const TARGET_TYPE: u32 = 0x63CA;
+pub const TRACK_UID: u32 = 0x63C5;
+pub const TAG_EDITION_UID: u32 = 0x63C9;
+pub const TAG_CHAPTER_UID: u32 = 0x63C4;
+pub const ATTACHMENT_UID: u32 = 0x63C6;
+pub const SIMPLE_NAME: u32 = 0x45A3;
+pub const SIMPLE_ISO: u32 = 0x447A;
+pub const SIMPLE_IETF: u32 = 0x447B;
+pub const SIMPLE_DEFAULT: u32 = 0x4484;
+pub const SIMPLE_TEXT: u32 = 0x4487;
+pub const SIMPLE_BINARY: u32 = 0x4485;
+
+/// Of audio.
+pub const AUDIO_RATE: u32 = 0xB5;
+pub const AUDIO_CHANNELS: u32 = 0x9F;
+pub const AUDIO_DEPTH: u32 = 0x6264;
+
 /// The special parents, neighbours of two of them, and others.
 pub const PARENTS: [u32; 14] = [
     0x1549A966, 0x1654AE6B, 0x1941A469, 0x1043A770, 0x1254C367, 0, 0xAE, 0x7373, 0x18538067,

@@ -3,6 +3,7 @@
 mod files;
 mod part;
 mod reading;
+mod records;
 mod rules;
 mod table;
 

@@ -3,7 +3,7 @@
 
 use crate::reading::MOST_AT_ONCE;
 use crate::table::Due;
-use crate::{part, table};
+use crate::{part, records, table};
 use question::{parse, Question};
 
 /// A question with the answers of ours and of the two builds of the oracle.
@@ -44,7 +44,7 @@ pub enum Verdict {
 type Rule = fn(&Question, &Case) -> Option<bool>;
 
 /// The listed exceptions by name.
-pub const NAMES: [&str; 9] = [
+pub const NAMES: [&str; 10] = [
     "argument",
     "signed",
     "allocation",
@@ -54,11 +54,12 @@ pub const NAMES: [&str; 9] = [
     "circles",
     "heads",
     "wraps",
+    "added",
 ];
 
-/// Those of a header or body question, each with its rule. The element table
-/// has the first five and the search all nine: there the judge's own reading says
-/// what is due.
+/// Those of a header or body question, each with its rule. The element table and
+/// the records have the first five, the search the first nine, and the label the
+/// last: there the judge's own reading says what is due.
 const RULES: [(&str, Rule); 3] = [
     ("argument", argument),
     ("signed", signed),
@@ -149,14 +150,16 @@ pub fn verdict(case: &Case) -> Verdict {
     }
 }
 
-/// The answers due to a question about the element table or the search; `None`
-/// for any other.
+/// The answers due to a question about the element table, the search or a record;
+/// `None` for any other.
 pub fn due(question: &Question) -> Option<Due> {
-    table::due(question).or_else(|| part::due(question))
+    table::due(question)
+        .or_else(|| part::due(question))
+        .or_else(|| records::due(question))
 }
 
-/// Of the element table and the search every answer is known beforehand. A crate
-/// that answers otherwise shows that the judge's reading is wrong.
+/// There every answer is known beforehand. A crate that answers otherwise shows that
+/// the judge's reading is wrong.
 fn known_verdict(due: &Due, case: &Case) -> Verdict {
     let pairs = [
         (&due.ours, case.ours),

@@ -33,7 +33,8 @@ pub fn due(question: &Question) -> Option<Due> {
     let payload = payload_of(question)?;
     let ours = answer(question, &payload, OURS);
     let theirs = answer(question, &payload, CRATE);
-    let exception = (ours != theirs).then(|| reason(question, &payload, &theirs));
+    let bounded = || answer(question, &payload, BOUNDED);
+    let exception = (ours != theirs).then(|| reason(&bounded(), &theirs));
     Some(Due {
         ours,
         checked: theirs.clone(),
@@ -78,15 +79,17 @@ fn payload_of(question: &Question) -> Option<Payload<'_>> {
     }
 }
 
+/// The crate's terms within our bounds.
+pub const BOUNDED: Terms = Terms {
+    bounds: true,
+    ..CRATE
+};
+
 /// Why the two answers differ. The readings are the same up to the place where
-/// they part. So the crate's reading within our bounds tells whether a bound is
-/// met before the crate stops.
-fn reason(question: &Question, payload: &Payload, theirs: &str) -> &'static str {
-    let bounded = Terms {
-        bounds: true,
-        ..CRATE
-    };
-    match answer(question, payload, bounded).as_str() {
+/// they part. So the crate's answer within our bounds tells whether a bound is met
+/// before the crate stops.
+pub fn reason(bounded: &str, theirs: &str) -> &'static str {
+    match bounded {
         "refused 14 table 0" => "argument",
         "refused 12 table 0" => "depth",
         "refused 13 table 0" => "rows",
@@ -108,7 +111,7 @@ fn answer(question: &Question, payload: &Payload, terms: Terms) -> String {
 }
 
 /// The answer of a call that was to write the table.
-fn with_table(answer: Result<String, End>) -> String {
+pub fn with_table(answer: Result<String, End>) -> String {
     match answer {
         Ok(told) => told,
         Err(End::Refused(number)) => format!("refused {number} table 0"),
@@ -130,7 +133,8 @@ pub fn broken(numbers: u64) -> bool {
     numbers % 7 != 0 || numbers > MOST_NUMBERS
 }
 
-fn read(payload: &Payload, terms: Terms) -> Result<Vec<Row>, End> {
+/// The rows of a payload, 14 for the arguments first.
+pub fn read(payload: &Payload, terms: Terms) -> Result<Vec<Row>, End> {
     arguments(payload, terms)?;
     rows(payload, terms)
 }

@@ -2,7 +2,8 @@
 //! that has it does. Such a reader could well be written, and the comparison and
 //! the stored lists have to find every one.
 
-pub const FAULTS: &str = "\
+/// Those of the element table and the search.
+pub const TABLE: &str = "\
 parent-off: a parent is the row's number, without the 1
 depth-off: the direct rows have depth 1
 kind-off: both kinds of text have one number
@@ -118,4 +119,86 @@ late-14: 14 comes after the search
 inner-place-14: a sought place past the end is 14
 at-header: a part is told by its header's address
 size-whole: a part's size is told with its header
+";
+
+/// Those of the records, the label and the track types.
+pub const RECORD: &str = "\
+record-parent: a record's payload is read under its part's id
+record-any-depth: a record is counted at any depth of the payload
+record-any-id: every direct row of the payload is counted as a record
+record-15-kept: 15 after the read leaves what was read
+record-15-first: 15 comes before the read where it can be known
+record-15-early: 15 comes before 14 where it can be known
+record-rows: only the record's own rows are counted
+index-1: the first index counts from 1
+inner-index-1: the inner indices count from 1
+index-32: an index has 32 bits
+index-last: an index behind the last record gives the last one
+first-child: the first child of a field's id is taken
+any-depth: a field is taken from any depth below its record
+siblings: a field is taken from the records behind it too
+field-header: a text is told with its header
+empty-unset: a text or bytes of length 0 is told as unset
+number-zero: an unset number is told as 0
+empty-number: a number of length 0 is told as unset
+narrow-number: only the last four bytes of a number count
+signed-number: a number has a sign
+flag-no: an unset flag is told as no
+flag-one: only 1 is yes
+flag-byte: only the last byte of a flag counts
+flag-empty: a flag of length 0 is yes
+enabled-yes: a chapter whose flag is unset is enabled
+flags-swapped: hidden and default are swapped
+data-text: a file's data has to be text
+nested-atoms: nested atoms are counted as chapters
+nested-displays: the displays of nested atoms and displays are counted
+nested-simple: nested simple tags are counted
+displays-all: displays are counted over all chapters of the edition
+times-milli: times are told in milliseconds
+times-second: only whole seconds of a time count
+segment-text: a segment's uid is told where it is text alone
+iso-replaces: an ISO language replaces an IETF one before it
+ietf-kept: an IETF language does not replace another one
+iso-kept: an ISO language does not replace another one
+ietf-weak: an IETF language does not replace an ISO one
+language-empty: an IETF language of length 0 does not replace an ISO one
+language-default: an unset language is English
+targets-first: the first of two Targets is taken
+targets-gather: the lists gather over all Targets
+targets-merge: what the last Targets does not set is taken from those before
+targets-empty: Targets without children is told as none
+targets-none: a tag without Targets has empty ones
+target-direct: the members of a list may stand in the tag itself
+target-number: an unset target number is told as 50
+target-known: only the numbers of the seven levels are taken
+list-last: of a list only the last member counts
+list-reversed: a list is told from its end
+list-swapped: the editions and the chapters of a list are swapped
+list-zero: a list member that is not there is 0
+text-first: a text is taken before bytes, whatever stands last
+binary-first: bytes are taken before a text, whatever stands last
+value-first: the first of text and bytes is taken
+value-empty: a value of length 0 does not replace another one
+audio-1: every index has the same audio
+rate-bits: the pattern of a rate of 4 bytes is not widened
+rate-narrow: a rate has 32 bits
+rate-nan: a NaN is told by its pattern
+rate-zero: a negative zero is told as zero
+rate-unset: a rate of 0 is told as unset
+rate-output: the output rate is taken too
+depth-channels: channels and depth are swapped
+type-logo: 16 is unknown
+type-byte: only the last byte of a track type counts
+type-18: 18 is unknown
+type-zero: 0 is video
+label-unset: an unset range gives the empty label
+label-own-empty: an empty range gives the caller's label
+label-cut: of a range that passes the end the bytes that are there are told
+label-end: a range may not end where the recording ends
+label-empty-end: an empty range may not stand at the end
+label-wraps: the sum of a range wraps at 2^64
+label-refused: a range that is not in the recording is 14
+label-text: bytes that are no text give the caller's label
+label-zero: a label ends before a byte of 0
+label-before: the caller's label is taken where there is one
 ";

@@ -291,6 +291,15 @@ impl Lent {
     /// Tells an answer with the table behind it, or a refusal with what the
     /// table holds then.
     pub fn told(&mut self, answer: Result<String, u64>) -> String {
+        self.told_with(answer, true)
+    }
+
+    /// The same of a record, where the rows are only counted.
+    pub fn counted(&mut self, answer: Result<String, u64>) -> String {
+        self.told_with(answer, false)
+    }
+
+    fn told_with(&mut self, answer: Result<String, u64>, rows: bool) -> String {
         let mut told = match answer {
             Ok(before) => {
                 let absent = before.starts_with("absent") && self.fault.is("absent-kept");
@@ -301,8 +310,9 @@ impl Lent {
             }
             Err(number) => {
                 let argument = number == 14 || number == 15;
-                let kept =
-                    self.fault.is("table-kept") || argument && self.fault.is("table-kept-14");
+                let kept = self.fault.is("table-kept")
+                    || argument && self.fault.is("table-kept-14")
+                    || number == 15 && !rows && self.fault.is("record-15-kept");
                 if !kept {
                     self.numbers.fill(0);
                 }
@@ -312,7 +322,8 @@ impl Lent {
             }
         };
         write!(told, "rows {}", self.used).expect("a string takes everything");
-        for row in self.numbers.chunks_exact(7).take(self.used) {
+        let shown = if rows { self.used } else { 0 };
+        for row in self.numbers.chunks_exact(7).take(shown) {
             write!(told, " / {:X}", row[0]).expect("a string takes everything");
             for number in &row[1..] {
                 write!(told, " {number}").expect("a string takes everything");

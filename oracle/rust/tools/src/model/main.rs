@@ -1,14 +1,17 @@
-//! A model of our reader for the questions about the element table and the search
-//! for a part, to test the judge and the stored lists with: `model` answers the
-//! questions on standard input as document 01 orders, `model FAULT` with one fault.
-//! `model faults` tells the faults. It shares no reading with the judge.
+//! A model of our reader for the questions about the element table, the search for
+//! a part and the records, to test the judge and the stored lists with: `model`
+//! answers the questions on standard input as document 01 orders, `model FAULT` with
+//! one fault. `model faults` tells the faults, `model faults table` and `model faults
+//! record` those of one sort. It shares no reading with the judge.
 
 mod faults;
+mod label;
 mod lent;
 mod places;
+mod records;
 mod search;
 
-use faults::FAULTS;
+use faults::{RECORD, TABLE};
 use lent::{Lent, Read};
 use question::{parse, Question};
 use std::io::{self, BufRead, BufWriter, Write};
@@ -28,10 +31,12 @@ fn main() {
     let arguments: Vec<String> = std::env::args().skip(1).collect();
     let done = match &arguments[..] {
         [] => answer_all(Fault(None)),
-        [word] if word == "faults" => io::stdout().write_all(FAULTS.as_bytes()),
+        [word] if word == "faults" => tell(&[TABLE, RECORD]),
+        [word, sort] if word == "faults" && sort == "table" => tell(&[TABLE]),
+        [word, sort] if word == "faults" && sort == "record" => tell(&[RECORD]),
         [word] if known(word).is_some() => answer_all(Fault(known(word))),
         _ => {
-            eprintln!("usage: model [FAULT]\n       model faults");
+            eprintln!("usage: model [FAULT]\n       model faults [table|record]");
             std::process::exit(2);
         }
     };
@@ -41,9 +46,14 @@ fn main() {
     }
 }
 
+fn tell(faults: &[&str]) -> io::Result<()> {
+    io::stdout().write_all(faults.concat().as_bytes())
+}
+
 /// The fault of that name.
 fn known(word: &str) -> Option<&'static str> {
-    let mut names = FAULTS.lines().filter_map(|line| line.split(':').next());
+    let lines = TABLE.lines().chain(RECORD.lines());
+    let mut names = lines.filter_map(|line| line.split(':').next());
     names.find(|name| *name == word)
 }
 
@@ -115,6 +125,19 @@ fn answer(question: &Question, fault: Fault) -> String {
                 Err(number) => format!("refused {number}"),
             }
         }
-        _ => "not a question of the model".to_string(),
+        Question::TrackType { number } => label::track_type(*number, fault).to_string(),
+        Question::Label {
+            range,
+            label,
+            bytes,
+        } => label::label(*range, label, bytes, fault),
+        _ => match records::asked(question) {
+            Some(asked) => {
+                let mut lent = Lent::new(asked.payload.numbers, fault);
+                let told = records::record(&mut lent, &asked, fault);
+                lent.counted(told)
+            }
+            None => "not a question of the model".to_string(),
+        },
     }
 }

@@ -15,6 +15,12 @@ pub enum Sort {
     Count,
     /// The numbers of a lent table.
     Table,
+    /// The name of a tag's list.
+    List,
+    /// An address and a length, or none.
+    Range,
+    /// Bytes that are no recording.
+    Label,
     Recording,
 }
 
@@ -94,13 +100,14 @@ fn name(words: &[&str], random: &mut Random) -> Vec<u8> {
 /// A recording that is no run of pairs of hex digits.
 fn recording(words: &[&str], random: &mut Random) -> Vec<u8> {
     let last = words.len() - 1;
-    let good = if words[last] == "-" {
-        "AE80"
-    } else {
-        words[last]
-    };
+    with(words, last, &digits(words[last], random))
+}
+
+/// Bytes that are no run of pairs of hex digits.
+fn digits(good: &str, random: &mut Random) -> String {
+    let good = if good == "-" { "AE80" } else { good };
     let cut = &good[..good.len() - 1];
-    let word = match random.below(10) {
+    match random.below(10) {
         0 => cut.to_string(),
         1 => format!("{good}0"),
         2 => format!("0x{good}"),
@@ -112,11 +119,10 @@ fn recording(words: &[&str], random: &mut Random) -> Vec<u8> {
         // These two are good.
         8 => good.to_lowercase(),
         _ => "-".to_string(),
-    };
-    with(words, last, &word)
+    }
 }
 
-/// A number that is none, or one too large.
+/// A number that is none, or one too large, or another word that is none.
 fn number(words: &[&str], sorts: &[Sort], random: &mut Random) -> Vec<u8> {
     let numbers: Vec<usize> = (1..words.len())
         .filter(|place| sorts[place - 1] != Sort::Recording)
@@ -130,6 +136,9 @@ fn number(words: &[&str], sorts: &[Sort], random: &mut Random) -> Vec<u8> {
         Sort::Id => id(good, random),
         Sort::Count => count_of_numbers(good, random),
         Sort::Table => table(good, random),
+        Sort::List => list(good, random),
+        Sort::Range => range(good, random),
+        Sort::Label => digits(good, random),
         Sort::Number | Sort::Recording => decimal(good, random),
     };
     with(words, place, &word)
@@ -187,6 +196,48 @@ fn table(good: &str, random: &mut Random) -> String {
         12 if random.once_in(20) => ["7"; 30_000].join(","),
         13 => format!("{good},18446744073709551615"),
         _ => format!("000000000000000000000{good}"),
+    }
+}
+
+/// A word that is none of the four lists.
+fn list(good: &str, random: &mut Random) -> String {
+    match random.below(10) {
+        0 => format!("{good}s"),
+        1 => good[..good.len() - 1].to_string(),
+        2 => good.to_uppercase(),
+        3 => String::new(),
+        4 => "-".to_string(),
+        5 => "0".to_string(),
+        6 => "tag".to_string(),
+        7 => format!("{good}{good}"),
+        // These two are good.
+        8 => "track".to_string(),
+        _ => "attachment".to_string(),
+    }
+}
+
+/// A word that is no range.
+fn range(good: &str, random: &mut Random) -> String {
+    let good = if good == "unset" { "1+2" } else { good };
+    match random.below(17) {
+        0 => good.replace('+', ""),
+        1 => good.replace('+', "-"),
+        2 => good.replace('+', "++"),
+        3 => format!("{good}+0"),
+        4 => format!("+{good}"),
+        5 => format!("{good}+"),
+        6 => "+".to_string(),
+        7 => String::new(),
+        8 => "-".to_string(),
+        9 => "Unset".to_string(),
+        10 => "unset+0".to_string(),
+        11 => "18446744073709551616+0".to_string(),
+        12 => "0+18446744073709551616".to_string(),
+        13 => format!("{good}A"),
+        // These three are good.
+        14 => "18446744073709551615+18446744073709551615".to_string(),
+        15 => format!("000000000000000000000{good}"),
+        _ => "unset".to_string(),
     }
 }
 

@@ -13,10 +13,15 @@ impl List {
     /// seed and comes to every place once, in steps so wide that a short walk
     /// is spread over the whole list.
     pub fn walk(&self, seed: u64, n: u64) -> Vec<u8> {
-        let offset = Random::new(&[seed]).below(self.length);
-        let gone = (n % self.length) * step(self.length) % self.length;
-        (self.at)((offset + gone) % self.length)
+        (self.at)(walked(self.length, seed, n))
     }
+}
+
+/// The place of the n-th question of a walk through so many.
+pub fn walked(length: u64, seed: u64, n: u64) -> u64 {
+    let offset = Random::new(&[seed]).below(length);
+    let gone = (n % length) * step(length) % length;
+    (offset + gone) % length
 }
 
 /// About the golden part of the length, and without a factor in common with

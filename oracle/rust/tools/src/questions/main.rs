@@ -6,15 +6,18 @@
 mod asked;
 mod body;
 mod broken;
+mod fields;
 mod found;
 mod header;
 mod kind;
+mod label;
 mod list;
 mod part;
 mod payload;
 mod random;
 mod range;
 mod read;
+mod record;
 mod segment;
 mod tree;
 mod utf8;
@@ -28,7 +31,7 @@ use std::io::{self, BufWriter, Write};
 type Kind = fn(seed: u64, j: u64, random: &mut Random) -> Vec<u8>;
 
 /// The kinds that can be asked for, by their word.
-const KINDS: [(&str, Kind); 9] = [
+const KINDS: [(&str, Kind); 19] = [
     ("header", header::question),
     ("kind", kind::question),
     ("utf8", utf8::question),
@@ -38,14 +41,25 @@ const KINDS: [(&str, Kind); 9] = [
     ("payload", payload::question),
     ("range", range::question),
     ("part", part::question),
+    ("attachment", record::attachment),
+    ("edition", record::edition),
+    ("chapter", record::chapter),
+    ("display", record::display),
+    ("tag", record::tag),
+    ("uid", record::uid),
+    ("simple", record::simple),
+    ("audio", record::audio),
+    ("tracktype", label::track_type),
+    ("label", label::label),
 ];
 
-/// The kinds that have a whole list.
-const WHOLE: [(&str, List); 4] = [
+/// The kinds that have a whole list; the records and what goes with them have one.
+const WHOLE: [(&str, List); 5] = [
     ("kind", kind::WHOLE),
     ("utf8", utf8::WHOLE),
     ("read", read::WHOLE),
     ("part", part::WHOLE),
+    ("record", record::WHOLE),
 ];
 
 fn main() {

@@ -9,6 +9,7 @@ use tools::ids::{
 };
 
 /// One element, of which the size is known when it is written.
+#[derive(Clone)]
 pub struct Node {
     pub id: u32,
     /// The size has so many bytes, or more if it needs them.
@@ -16,6 +17,7 @@ pub struct Node {
     pub body: Body,
 }
 
+#[derive(Clone)]
 pub enum Body {
     Leaf(Vec<u8>),
     Master(Vec<Node>),
@@ -142,7 +144,7 @@ pub fn row_of(count: u64, parent: u32, random: &mut Random) -> Vec<Node> {
 }
 
 /// A node whose size has more bytes than it needs, once in eight.
-fn wide(id: u32, body: Body, random: &mut Random) -> Node {
+pub fn wide(id: u32, body: Body, random: &mut Random) -> Node {
     let width = if random.once_in(8) {
         random.between(1, 8)
     } else {
@@ -177,7 +179,7 @@ fn leaf_id(parent: u32, random: &mut Random) -> u32 {
 }
 
 /// Any id that a header can have.
-fn unknown_id(random: &mut Random) -> u32 {
+pub fn unknown_id(random: &mut Random) -> u32 {
     let width = random.between(1, 4);
     let marker = 1 << (7 * width);
     (marker | random.number() % marker) as u32

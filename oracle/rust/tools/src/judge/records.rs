@@ -1,0 +1,338 @@
+//! The records, built straight from document 01 over the judge's own reading and
+//! apart from the crate: a field is the last direct child of its id and kind.
+
+use crate::reading::{part, Payload, Row, Terms, CRATE, OURS};
+use crate::reading::{End, End::Refused};
+use crate::table::{read, reason, with_table, Due, BOUNDED};
+use question::{List, Question};
+use tools::ids::*;
+
+/// The answers due to a question; `None` if it asks for no record.
+pub fn due(question: &Question) -> Option<Due> {
+    match question {
+        Question::TrackType { number } => {
+            let told = track_type(*number);
+            Some(told_by(told, told, None))
+        }
+        // The port adds this question, and the crate has no answer to it.
+        Question::Label {
+            range,
+            label,
+            bytes,
+        } => {
+            let told = stage_label(*range, label, bytes);
+            Some(told_by(&told, "no answer", Some("added")))
+        }
+        _ => {
+            let (payload, parent) = payload_of(question)?;
+            let payload = Payload {
+                start: payload.start,
+                size: payload.size,
+                parent,
+                numbers: payload.numbers,
+                bytes: &payload.bytes,
+            };
+            let ours = answer(question, &payload, OURS);
+            let theirs = answer(question, &payload, CRATE);
+            let bounded = || answer(question, &payload, BOUNDED);
+            let exception = (ours != theirs).then(|| reason(&bounded(), &theirs));
+            Some(told_by(&ours, &theirs, exception))
+        }
+    }
+}
+
+/// Our answer, and that of both builds.
+fn told_by(ours: &str, theirs: &str, exception: Option<&'static str>) -> Due {
+    Due {
+        ours: ours.to_string(),
+        checked: theirs.to_string(),
+        wrapping: theirs.to_string(),
+        exception,
+    }
+}
+
+/// The payload of a record question, and the parent under which it is read.
+fn payload_of(question: &Question) -> Option<(&question::Payload, u32)> {
+    match question {
+        Question::Attachment { payload, .. } => Some((payload, ATTACHED_FILE)),
+        Question::Edition { payload, .. }
+        | Question::Chapter { payload, .. }
+        | Question::Display { payload, .. } => Some((payload, EDITION)),
+        Question::Tag { payload, .. }
+        | Question::Uid { payload, .. }
+        | Question::Simple { payload, .. } => Some((payload, TAG)),
+        Question::Audio { payload, .. } => Some((payload, AUDIO)),
+        _ => None,
+    }
+}
+
+/// The answer by some terms: 14, the read, then 15.
+fn answer(question: &Question, payload: &Payload, terms: Terms) -> String {
+    let told = read(payload, terms).and_then(|rows| {
+        let whole = Record {
+            rows: &rows,
+            own: 0,
+            bytes: payload.bytes,
+        };
+        Ok(format!(
+            "{} rows {} rest 0",
+            record(question, whole)?,
+            rows.len()
+        ))
+    });
+    with_table(told)
+}
+
+/// What a question asks of a payload that was read.
+fn record(question: &Question, whole: Record) -> Result<String, End> {
+    Ok(match question {
+        Question::Attachment { k, .. } => attachment(whole.member(ATTACHED_FILE, *k)?),
+        Question::Edition { k, .. } => edition(whole.member(EDITION, *k)?),
+        Question::Chapter { k, i, .. } => chapter(whole.member(EDITION, *k)?.member(CHAPTER, *i)?),
+        Question::Display { k, i, j, .. } => {
+            let chapter = whole.member(EDITION, *k)?.member(CHAPTER, *i)?;
+            display(chapter.member(DISPLAY, *j)?)
+        }
+        Question::Tag { k, .. } => tag(whole.member(TAG, *k)?),
+        Question::Uid { k, list, i, .. } => {
+            let targets = targets(whole.member(TAG, *k)?).ok_or(Refused(15))?;
+            let uids = targets.numbers(match list {
+                List::Track => TRACK_UID,
+                List::Edition => TAG_EDITION_UID,
+                List::Chapter => TAG_CHAPTER_UID,
+                List::Attachment => ATTACHMENT_UID,
+            });
+            format!("uid {}", nth(&uids, *i)?)
+        }
+        Question::Simple { k, i, .. } => simple(whole.member(TAG, *k)?.member(SIMPLE, *i)?),
+        // An audio payload is the record.
+        Question::Audio { k, .. } => audio(nth(&[whole], *k)?),
+        _ => unreachable!("it asks for a record"),
+    })
+}
+
+/// The k-th of some things, or 15.
+fn nth<T: Copy>(things: &[T], k: u64) -> Result<T, End> {
+    let place = usize::try_from(k).ok();
+    let thing = place.and_then(|place| things.get(place));
+    thing.copied().ok_or(Refused(15))
+}
+
+/// A record: a master's row, or the whole payload.
+#[derive(Clone, Copy)]
+struct Record<'a> {
+    rows: &'a [Row],
+    /// Its row's number plus 1, or 0.
+    own: u64,
+    bytes: &'a [u8],
+}
+
+impl<'a> Record<'a> {
+    /// Its direct children of an id and kind, each with its row's number plus 1.
+    fn children(&self, id: u32, kind: u64) -> Vec<(u64, &'a Row)> {
+        let numbered = (1..).zip(self.rows);
+        let own = self.own;
+        let fitting = move |row: &Row| row.parent == own && row.id == id && row.kind == kind;
+        numbered.filter(|(_, row)| fitting(row)).collect()
+    }
+
+    /// The records of an id among them.
+    fn members(&self, id: u32) -> Vec<Record<'a>> {
+        let masters = self.children(id, MASTER_KIND);
+        let record = |(own, _): &(u64, &Row)| Record { own: *own, ..*self };
+        masters.iter().map(record).collect()
+    }
+
+    /// The k-th of them, or 15.
+    fn member(&self, id: u32, k: u64) -> Result<Record<'a>, End> {
+        nth(&self.members(id), k)
+    }
+
+    /// The last child of an id and kind, with its row's number plus 1.
+    fn last(&self, id: u32, kind: u64) -> Option<(u64, &'a Row)> {
+        self.children(id, kind).pop()
+    }
+
+    /// A text or bytes, by its address and length.
+    fn range(&self, id: u32, kind: u64) -> String {
+        told(self.last(id, kind).map(|(_, row)| range(row)))
+    }
+
+    /// The number of a row.
+    fn value(&self, row: &Row) -> u64 {
+        let body = self.body(row).iter();
+        body.fold(0, |sum, byte| sum << 8 | u64::from(*byte))
+    }
+
+    fn body(&self, row: &Row) -> &'a [u8] {
+        let body = part(self.bytes, row.address + row.header, row.payload);
+        body.expect("an accepted row is in the recording")
+    }
+
+    /// All numbers of an id, in order.
+    fn numbers(&self, id: u32) -> Vec<u64> {
+        let rows = self.children(id, UINT_KIND);
+        rows.iter().map(|(_, row)| self.value(row)).collect()
+    }
+
+    /// A field that is a number.
+    fn number(&self, id: u32) -> String {
+        told(self.numbers(id).pop())
+    }
+
+    /// A flag, which is a truth value.
+    fn flag(&self, id: u32) -> String {
+        let flag = self.numbers(id).pop();
+        told(flag.map(|number| if number == 0 { "no" } else { "yes" }))
+    }
+
+    /// The last IETF language; only where there is none the last ISO one.
+    fn language(&self, iso: u32, ietf: u32) -> String {
+        if let Some((_, row)) = self.last(ietf, STRING_KIND) {
+            return format!("ietf {}", range(row));
+        }
+        let iso = self.last(iso, STRING_KIND);
+        told(iso.map(|(_, row)| format!("iso {}", range(row))))
+    }
+}
+
+fn range(row: &Row) -> String {
+    format!("{}+{}", row.address + row.header, row.payload)
+}
+
+/// A field as it is told, which may be unset.
+fn told(field: Option<impl ToString>) -> String {
+    field.map_or("unset".to_string(), |set| set.to_string())
+}
+
+fn attachment(file: Record) -> String {
+    format!(
+        "description {} name {} mime {} data {}",
+        file.range(FILE_DESCRIPTION, UTF8_KIND),
+        file.range(FILE_NAME, UTF8_KIND),
+        file.range(FILE_MIME, STRING_KIND),
+        file.range(FILE_DATA, BINARY_KIND)
+    )
+}
+
+fn edition(edition: Record) -> String {
+    format!(
+        "uid {} hidden {} default {} ordered {} chapters {}",
+        edition.number(EDITION_UID),
+        edition.flag(EDITION_HIDDEN),
+        edition.flag(EDITION_DEFAULT),
+        edition.flag(EDITION_ORDERED),
+        edition.members(CHAPTER).len()
+    )
+}
+
+fn chapter(chapter: Record) -> String {
+    format!(
+        "uid {} start {} end {} hidden {} enabled {} segment {} edition {} displays {}",
+        chapter.number(CHAPTER_UID),
+        chapter.number(CHAPTER_START),
+        chapter.number(CHAPTER_END),
+        chapter.flag(CHAPTER_HIDDEN),
+        chapter.flag(CHAPTER_ENABLED),
+        chapter.range(CHAPTER_SEGMENT, BINARY_KIND),
+        chapter.number(CHAPTER_EDITION),
+        chapter.members(DISPLAY).len()
+    )
+}
+
+fn display(display: Record) -> String {
+    format!(
+        "string {} language {}",
+        display.range(DISPLAY_STRING, UTF8_KIND),
+        display.language(DISPLAY_ISO, DISPLAY_IETF)
+    )
+}
+
+/// Targets is a field: the last one counts.
+fn targets(tag: Record) -> Option<Record> {
+    tag.members(TARGETS).pop()
+}
+
+fn tag(tag: Record) -> String {
+    let simple = tag.members(SIMPLE).len();
+    let Some(targets) = targets(tag) else {
+        return format!("target no simple {simple}");
+    };
+    let count = |id| targets.numbers(id).len();
+    format!(
+        "target yes value {} type {} tracks {} editions {} chapters {} attachments {} simple {simple}",
+        targets.number(TARGET_NUMBER),
+        targets.range(TARGET_TYPE, STRING_KIND),
+        count(TRACK_UID),
+        count(TAG_EDITION_UID),
+        count(TAG_CHAPTER_UID),
+        count(ATTACHMENT_UID)
+    )
+}
+
+/// The value is the last of both kinds of it.
+fn simple(simple: Record) -> String {
+    let text = simple.last(SIMPLE_TEXT, UTF8_KIND);
+    let binary = simple.last(SIMPLE_BINARY, BINARY_KIND);
+    let value = match (text, binary) {
+        (Some((place, text)), Some((other, _))) if place > other => {
+            format!("text {}", range(text))
+        }
+        (_, Some((_, binary))) => format!("binary {}", range(binary)),
+        (Some((_, text)), None) => format!("text {}", range(text)),
+        (None, None) => "unset".to_string(),
+    };
+    format!(
+        "name {} language {} default {} value {value}",
+        simple.range(SIMPLE_NAME, UTF8_KIND),
+        simple.language(SIMPLE_ISO, SIMPLE_IETF),
+        simple.flag(SIMPLE_DEFAULT)
+    )
+}
+
+fn audio(audio: Record) -> String {
+    let rate = audio.last(AUDIO_RATE, FLOAT_KIND);
+    format!(
+        "rate {} channels {} depth {}",
+        told(rate.map(|(_, row)| float(audio.body(row)))),
+        audio.number(AUDIO_CHANNELS),
+        audio.number(AUDIO_DEPTH)
+    )
+}
+
+/// The pattern of a float as one of 64 bits; all NaNs are one.
+fn float(body: &[u8]) -> String {
+    let wide = match *body {
+        [a, b, c, d] => f64::from(f32::from_be_bytes([a, b, c, d])),
+        _ => f64::from_be_bytes(body.try_into().expect("a float has 4 or 8 bytes")),
+    };
+    if wide.is_nan() {
+        return "nan".to_string();
+    }
+    format!("{:016X}", wide.to_bits())
+}
+
+fn track_type(number: u64) -> &'static str {
+    match number {
+        1 => "video",
+        2 => "audio",
+        3 => "complex",
+        16 => "logo",
+        17 => "subtitle",
+        18 => "buttons",
+        32 => "control",
+        _ => "unknown",
+    }
+}
+
+/// The bytes of a range in the recording; where it is unset, or not in it, the
+/// caller's own label.
+fn stage_label(range: Option<(u64, u64)>, label: &[u8], bytes: &[u8]) -> String {
+    let shown = range.and_then(|(address, length)| part(bytes, address, length));
+    match shown.unwrap_or(label) {
+        [] => "label -".to_string(),
+        some => some.iter().fold("label ".to_string(), |told, byte| {
+            told + &format!("{byte:02X}")
+        }),
+    }
+}
