@@ -1,13 +1,23 @@
 // The questions by their first word, and the form of each.
 ghost use Prim.Native.Nat.{_≤_};
 ghost use lib.ListN.{length};
+use crate::ask_attachment::attachment;
+use crate::ask_audio::audio;
 use crate::ask_body::body;
+use crate::ask_chapter::chapter;
+use crate::ask_display::display;
+use crate::ask_edition::edition;
 use crate::ask_header::header;
 use crate::ask_kind::kind;
+use crate::ask_label::label;
 use crate::ask_part::part;
 use crate::ask_payload::payload;
 use crate::ask_range::range;
 use crate::ask_read::read;
+use crate::ask_simple::simple;
+use crate::ask_tag::tag;
+use crate::ask_tracktype::tracktype;
+use crate::ask_uid::uid;
 use crate::ask_utf8::utf8;
 use crate::ask_whose::whose;
 use crate::asked::Asked;
@@ -36,19 +46,22 @@ fn line_told(
     out: &mut [u8; 65536],
     held: usize,
 ) -> usize {
-    let names = b"header kind utf8 body read whose part payload range";
-    let forms = b"ab ip b ipasb asptb aspdtb itb asptrb lrb";
+    let names =
+        b"header kind utf8 body read whose part payload range attachment edition chapter display tag uid simple audio tracktype label";
+    let forms =
+        b"ab np b npasb asptb aspdtb ntb asptrb lrb astkb astkb astkib astkijb astkb astkwib astkib astkb k gwb";
     let question = words::place_of(words::word(line, 0), names);
     let asked = asked_of(line, words::word(forms, question), recording, table);
     if !asked.good {
         return bad(out, held);
     }
-    lend(question, asked, recording, table, out, held)
+    lend(question, line, asked, recording, table, out, held)
 }
 
 // Lends the question its recording and its table: the parts of the room that its words filled.
 fn lend(
     question: usize,
+    line: &[u8],
     asked: Asked,
     recording: &[u8],
     table: &mut [u64],
@@ -61,6 +74,7 @@ fn lend(
     let numbers = asked.numbers;
     reply(
         question,
+        line,
         asked,
         &recording[..bytes],
         &mut table[..numbers],
@@ -69,9 +83,10 @@ fn lend(
     )
 }
 
-// The answer to a question, by its place among the names; a place behind them is no question.
+// The answer to a question, by its place among the names.
 fn reply(
     question: usize,
+    line: &[u8],
     asked: Asked,
     recording: &[u8],
     table: &mut [u64],
@@ -88,6 +103,31 @@ fn reply(
         6 => part(asked, recording, table, out, held),
         7 => payload(asked, recording, table, out, held),
         8 => range(asked, recording, table, out, held),
+        _ => record(question, line, asked, recording, table, out, held),
+    }
+}
+
+// The same for the questions from `attachment` on; a place behind all names is no question.
+fn record(
+    question: usize,
+    line: &[u8],
+    asked: Asked,
+    recording: &[u8],
+    table: &mut [u64],
+    out: &mut [u8; 65536],
+    held: usize,
+) -> usize {
+    match question {
+        9 => attachment(asked, recording, table, out, held),
+        10 => edition(asked, recording, table, out, held),
+        11 => chapter(asked, recording, table, out, held),
+        12 => display(asked, recording, table, out, held),
+        13 => tag(asked, recording, table, out, held),
+        14 => uid(asked, words::word(line, 5), recording, table, out, held),
+        15 => simple(asked, recording, table, out, held),
+        16 => audio(asked, recording, table, out, held),
+        17 => tracktype(asked, out, held),
+        18 => label(asked, words::word(line, 2), recording, out, held),
         _ => bad(out, held),
     }
 }

@@ -1,7 +1,8 @@
 // What a line asks: the words behind its first one, read by the form of its question.
 //
-// A form has a letter for each word: `i` ID, `p` PARENT, `a` AT or START, `s` SIZE, `d` ADDRESS, `r` ROW,
-// `b` BYTES, `t` NUMBERS, `l` the table's numbers themselves.
+// A form has a letter for each word: `n` ID, `p` PARENT, `a` AT or START, `s` SIZE, `d` ADDRESS, `r` ROW,
+// `k` K or a track type's N, `i` I, `j` J, `b` BYTES, `t` NUMBERS, `l` the table's numbers themselves, `g` RANGE,
+// `w` a word that the question itself reads.
 ghost use Rattle.lines.specs.Bounds.{Few};
 ghost use Rattle.ask.specs.Bounds.{InTable, Lent};
 use crate::table;
@@ -21,6 +22,11 @@ pub struct Asked {
     pub size: u64,
     pub address: u64,
     pub row: u64,
+    pub k: u64,
+    pub i: u64,
+    pub j: u64,
+    // Whether RANGE is set; then `at` is its address, and `size` its length.
+    pub set: bool,
     pub bytes: usize,
     pub numbers: usize,
 }
@@ -61,6 +67,10 @@ fn nothing(good: bool) -> Asked
         size: 0,
         address: 0,
         row: 0,
+        k: 0,
+        i: 0,
+        j: 0,
+        set: false,
         bytes: 0,
         numbers: 0,
     }
@@ -80,7 +90,9 @@ fn with_word(
         b'b' => with_bytes(asked, words::spell(word, recording)),
         b't' => with_numbers(asked, table::filled(word, table)),
         b'l' => with_numbers(asked, table::listed(word, table)),
-        b'i' | b'p' => with_id(asked, letter, words::id(word)),
+        b'g' => with_range(asked, word),
+        b'w' => asked,
+        b'n' | b'p' => with_id(asked, letter, words::id(word)),
         _ => with_value(asked, letter, words::decimal(word)),
     }
 }
@@ -154,6 +166,36 @@ fn with_value(asked: Asked, letter: u8, spelt: Count) -> Asked
             next.row = value;
             next
         }
+        b'k' => {
+            next.k = value;
+            next
+        }
+        b'i' => {
+            next.i = value;
+            next
+        }
+        b'j' => {
+            next.j = value;
+            next
+        }
         _ => nothing(false),
     }
+}
+
+// RANGE: `unset`, or `ADDRESS+LENGTH`.
+fn with_range(asked: Asked, word: &[u8]) -> Asked
+    requires { ⌜ Lent asked ⌝ }
+    ensures { λ r. ⌜ Lent r ⌝ }
+{
+    if words::same(word, b"unset") {
+        return asked;
+    }
+    let plus = words::find(word, 0, b'+');
+    if plus == word.len() {
+        return nothing(false);
+    }
+    let mut next = asked;
+    next.set = true;
+    next = with_value(next, b'a', words::decimal(&word[0..plus]));
+    with_value(next, b's', words::decimal(&word[plus + 1..]))
 }

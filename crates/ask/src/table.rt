@@ -74,6 +74,13 @@ pub fn rows_told(rows: u64, table: &[u64], out: &mut [u8; 65536], held: usize) -
     zeros_told(b" rest ", table, WIDTH * shown, out, now)
 }
 
+// ` rows N` without the rows, and whether a number beyond them is not 0.
+pub fn rest_told(rows: u64, table: &[u64], out: &mut [u8; 65536], held: usize) -> usize {
+    let within = rows_within(rows, table);
+    let n = numbers::put_decimal(out, held, b" rows ", rows);
+    zeros_told(b" rest ", table, WIDTH * within, out, n)
+}
+
 // How many of the rows lie in the table.
 fn rows_within(rows: u64, table: &[u64]) -> usize
     ensures { λ r. ⌜ 7 * r ≤ length (now (table .entry)) ⌝ }

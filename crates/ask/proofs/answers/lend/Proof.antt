@@ -8,7 +8,7 @@ use Rattle.ask.proofs.answers.lend.Tie as tie
 
 slice-aggregate-reply : tie.Need-slice-aggregate-reply
 slice-aggregate-reply c =
-    let a = c .before .before .before .args in
+    let a = c .before .before .before .before .args in
     sym (length-take-le (a .asked .bytes) (a .recording .now) (omega arith))
 
 slice-relend-prefix-reply : tie.Need-slice-relend-prefix-reply
@@ -16,7 +16,7 @@ slice-relend-prefix-reply c = search needs
 
 slice-aggregate-reply-2 : tie.Need-slice-aggregate-reply-2
 slice-aggregate-reply-2 c =
-    let a = c .before .before .before .before .args in
+    let a = c .before .before .before .before .before .args in
     sym (length-take-le (a .asked .numbers) (a .table .now) (omega arith))
 
 reply-requires : tie.Need-reply-requires
