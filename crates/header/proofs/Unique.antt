@@ -15,7 +15,7 @@ same-header h h′ i z l =
     ∙ ap (λ (y : ℕ). record { id = h′ .id; size = y; length = h .length }) z
     ∙ ap (λ (y : ℕ). record { id = h′ .id; size = h′ .size; length = y }) l
 
-same-refusal : (e e′ : Refusal) → e .number ≡ e′ .number → e .id ≡ e′ .id → e ≡ e′
+pub same-refusal : (e e′ : Refusal) → e .number ≡ e′ .number → e .id ≡ e′ .id → e ≡ e′
 same-refusal e e′ n i =
     ap (λ (y : ℕ). record { number = y; id = e .id }) n ∙ ap (λ (y : ℕ). record { number = e′ .number; id = y }) i
 

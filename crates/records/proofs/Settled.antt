@@ -9,6 +9,7 @@ use Rattle.header.specs.Refusals.{noRecord}
 use Rattle.header.specs.Reply.{accepted, refusalOf}
 use Rattle.header.specs.Promise.{mostBytes}
 use Rattle.header.specs.declared.refusal.Refusal.{Refusal}
+use Rattle.header.proofs.Unique.{same-refusal}
 use Rattle.elements.specs.Forest.{count}
 use Rattle.elements.specs.Reading.{Outcome, done, refused}
 use Rattle.elements.specs.Rows.{rows, width, flatten, rowsOf}
@@ -42,14 +43,7 @@ use Rattle.records.specs.declared.locate.Located.the-variants.{At, Refus
 -- What a reply that refuses says of the outcome.
 told-refused : (e : Refusal) (o : Outcome) → refusalOf e ≡ replyOf o → o ≡ refused e
 told-refused e (done f) q = let z : _≡_ {A = ℕ} 0 1 = cc in absurd (omega arith)
-told-refused e (refused g) q =
-    let a : e .number ≡ g .number = cc in
-    let b : e .id ≡ g .id = cc in
-    ap refused (sym (same (e .number) (g .number) (e .id) (g .id) a b))
-  where
-    same : (m n i j : ℕ) → m ≡ n → i ≡ j
-        → _≡_ {A = Refusal} (record { number = m; id = i }) (record { number = n; id = j })
-    same m n i j a b = rw (a, b)
+told-refused e (refused g) q = ap refused (sym (same-refusal e g (cc) (cc)))
 
 pub rows-held : (s : List ℕ) (start size parent : ℕ) (t : List ℕ) (n : ℕ) (t₁ : List ℕ)
     → ReadPromise s start size parent t (Rows n) t₁ → n ≤ length t₁ / width

@@ -4,6 +4,7 @@ use mathlib.Core.Path.{_≡_, refl, sym, ap, _∙_}
 use mathlib.Core.List.{List, [], _∷_, _++_}
 use native.Mathlib.Omega.{arith}
 use Rattle.header.specs.declared.refusal.Refusal.{Refusal}
+use Rattle.header.proofs.Unique.{same-refusal}
 use Rattle.elements.specs.declared.row.Row.{Row}
 use Rattle.fields.specs.Values.{Value, count}
 use Rattle.fields.specs.declared.field.Number.{Number}
@@ -65,10 +66,8 @@ rest {a} {b} {l} {m} q = cc
 count-once : (n m : ℕ) → count n ≡ count m → n ≡ m
 count-once n m q = cc
 
-same-refusal : (e f : Refusal) → refuses e ≡ refuses f → e ≡ f
-same-refusal e f q =
-    ap (λ (y : ℕ). record { number = y; id = e .id }) (cc)
-    ∙ ap (λ (y : ℕ). record { number = f .number; id = y }) (cc)
+same-refused : (e f : Refusal) → refuses e ≡ refuses f → e ≡ f
+same-refused e f q = same-refusal e f (cc) (cc)
 
 -- ---- the fields tell the record
 
@@ -242,55 +241,55 @@ attachment-told (IsAttachment a n) (IsAttachment b m) q =
     ap (λ (x : Attachment). IsAttachment x n) (attachment-once a b (cc)) ∙ ap (IsAttachment b) (cc)
 attachment-told (IsAttachment a n) (NoAttachment e) q = let z : _≡_ {A = ℕ} 0 1 = cc in absurd (omega arith)
 attachment-told (NoAttachment e) (IsAttachment b m) q = let z : _≡_ {A = ℕ} 0 1 = cc in absurd (omega arith)
-attachment-told (NoAttachment e) (NoAttachment f) q = ap NoAttachment (same-refusal e f q)
+attachment-told (NoAttachment e) (NoAttachment f) q = ap NoAttachment (same-refused e f q)
 
 edition-told : (r r′ : EditionReply) → editionTold r ≡ editionTold r′ → r ≡ r′
 edition-told (IsEdition a n) (IsEdition b m) q =
     ap (λ (x : ChapterEdition). IsEdition x n) (edition-once a b (cc)) ∙ ap (IsEdition b) (cc)
 edition-told (IsEdition a n) (NoEdition e) q = let z : _≡_ {A = ℕ} 0 1 = cc in absurd (omega arith)
 edition-told (NoEdition e) (IsEdition b m) q = let z : _≡_ {A = ℕ} 0 1 = cc in absurd (omega arith)
-edition-told (NoEdition e) (NoEdition f) q = ap NoEdition (same-refusal e f q)
+edition-told (NoEdition e) (NoEdition f) q = ap NoEdition (same-refused e f q)
 
 chapter-told : (r r′ : ChapterReply) → chapterTold r ≡ chapterTold r′ → r ≡ r′
 chapter-told (IsChapter a n) (IsChapter b m) q =
     ap (λ (x : Chapter). IsChapter x n) (chapter-once a b (cc)) ∙ ap (IsChapter b) (cc)
 chapter-told (IsChapter a n) (NoChapter e) q = let z : _≡_ {A = ℕ} 0 1 = cc in absurd (omega arith)
 chapter-told (NoChapter e) (IsChapter b m) q = let z : _≡_ {A = ℕ} 0 1 = cc in absurd (omega arith)
-chapter-told (NoChapter e) (NoChapter f) q = ap NoChapter (same-refusal e f q)
+chapter-told (NoChapter e) (NoChapter f) q = ap NoChapter (same-refused e f q)
 
 display-told : (r r′ : DisplayReply) → displayTold r ≡ displayTold r′ → r ≡ r′
 display-told (IsDisplay a n) (IsDisplay b m) q =
     ap (λ (x : ChapterDisplay). IsDisplay x n) (display-once a b (cc)) ∙ ap (IsDisplay b) (cc)
 display-told (IsDisplay a n) (NoDisplay e) q = let z : _≡_ {A = ℕ} 0 1 = cc in absurd (omega arith)
 display-told (NoDisplay e) (IsDisplay b m) q = let z : _≡_ {A = ℕ} 0 1 = cc in absurd (omega arith)
-display-told (NoDisplay e) (NoDisplay f) q = ap NoDisplay (same-refusal e f q)
+display-told (NoDisplay e) (NoDisplay f) q = ap NoDisplay (same-refused e f q)
 
 simple-told : (r r′ : SimpleReply) → simpleTold r ≡ simpleTold r′ → r ≡ r′
 simple-told (IsSimple a n) (IsSimple b m) q =
     ap (λ (x : SimpleTag). IsSimple x n) (simple-once a b (cc)) ∙ ap (IsSimple b) (cc)
 simple-told (IsSimple a n) (NoSimple e) q = let z : _≡_ {A = ℕ} 0 1 = cc in absurd (omega arith)
 simple-told (NoSimple e) (IsSimple b m) q = let z : _≡_ {A = ℕ} 0 1 = cc in absurd (omega arith)
-simple-told (NoSimple e) (NoSimple f) q = ap NoSimple (same-refusal e f q)
+simple-told (NoSimple e) (NoSimple f) q = ap NoSimple (same-refused e f q)
 
 audio-told : (r r′ : AudioReply) → audioTold r ≡ audioTold r′ → r ≡ r′
 audio-told (IsAudio a n) (IsAudio b m) q =
     ap (λ (x : Audio). IsAudio x n) (audio-once a b (cc)) ∙ ap (IsAudio b) (cc)
 audio-told (IsAudio a n) (NoAudio e) q = let z : _≡_ {A = ℕ} 0 1 = cc in absurd (omega arith)
 audio-told (NoAudio e) (IsAudio b m) q = let z : _≡_ {A = ℕ} 0 1 = cc in absurd (omega arith)
-audio-told (NoAudio e) (NoAudio f) q = ap NoAudio (same-refusal e f q)
+audio-told (NoAudio e) (NoAudio f) q = ap NoAudio (same-refused e f q)
 
 tag-told : (r r′ : TagReply) → tagTold r ≡ tagTold r′ → r ≡ r′
 tag-told (IsTag a n) (IsTag b m) q =
     ap (λ (x : Tag). IsTag x n) (tag-once a b (cc)) ∙ ap (IsTag b) (cc)
 tag-told (IsTag a n) (NoTag e) q = let z : _≡_ {A = ℕ} 0 1 = cc in absurd (omega arith)
 tag-told (NoTag e) (IsTag b m) q = let z : _≡_ {A = ℕ} 0 1 = cc in absurd (omega arith)
-tag-told (NoTag e) (NoTag f) q = ap NoTag (same-refusal e f q)
+tag-told (NoTag e) (NoTag f) q = ap NoTag (same-refused e f q)
 
 uid-told : (r r′ : UidReply) → uidTold r ≡ uidTold r′ → r ≡ r′
 uid-told (Uid a n) (Uid b m) q = cc
 uid-told (Uid a n) (NoUid e) q = let z : _≡_ {A = ℕ} 0 1 = cc in absurd (omega arith)
 uid-told (NoUid e) (Uid b m) q = let z : _≡_ {A = ℕ} 0 1 = cc in absurd (omega arith)
-uid-told (NoUid e) (NoUid f) q = ap NoUid (same-refusal e f q)
+uid-told (NoUid e) (NoUid f) q = ap NoUid (same-refused e f q)
 
 -- ---- the theorems
 
