@@ -4,7 +4,7 @@ use mathlib.Core.Path.{_≡_, refl, sym, ap, _∙_, subst}
 use mathlib.Core.List.{List, [], _∷_}
 use mathlib.Core.Bool.{Bool, true, false, cond}
 use native.Mathlib.Omega.{arith}
-use lib.ListN.{length, drop}
+use lib.ListN.{length, drop, length-drop}
 use lib.Dec.{ltb, eqb}
 use borrow.Author.Tests.{eq-eqb, ne-eqb}
 use Rattle.kinds.specs.declared.kind.Kind.{Kind}
@@ -37,11 +37,6 @@ deeper-fewer depth (r ∷ rs) = go (ltb depth (r .depth)) (deeper-fewer depth rs
         → length (cond b (r ∷ deeper depth rs) []) ≤ suc (length rs)
     go true l = omega arith
     go false l = omega arith
-
-length-drop : (n : ℕ) (rs : List Row) → length (drop n rs) ≡ length rs - n
-length-drop zero rs = omega arith
-length-drop (suc n) [] = omega arith
-length-drop (suc n) (r ∷ rs) = let e = length-drop n rs in omega arith
 
 pub subtree-fits : (rs : List Row) (parent : ℕ) → parent ≤ length rs
     → parent + length (subtree rs parent) ≤ length rs

@@ -8,14 +8,14 @@ use Rattle.records.specs.declared.tracktype.Tracktype.the-variants.{Vide
 use Rattle.records.specs.declared.tracktype.Tracktype.the-variants.{Subtitle, Buttons, Control, Unknown}
 
 -- A type with its number.
-pub record Numbered : Type 0 where
+pub record Entry : Type 0 where
   pub number : ℕ
   pub type : Tracktype
 
-abbrev row : ℕ → Tracktype → Numbered
+abbrev row : ℕ → Tracktype → Entry
 row number type = record { number = number; type = type }
 
-abbrev pub types : List Numbered
+abbrev pub types : List Entry
 types =
     row 1 Video
     ∷ row 2 Audio
@@ -27,7 +27,7 @@ types =
     ∷ []
 
 -- The type with a number; any other number is Unknown.
-unfoldable pub typeIn : List Numbered → ℕ → Tracktype
+unfoldable pub typeIn : List Entry → ℕ → Tracktype
 typeIn [] n = Unknown
 typeIn (t ∷ ts) n = cond (eqb n (t .number)) (t .type) (typeIn ts n)
 
