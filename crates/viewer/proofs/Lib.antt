@@ -1,0 +1,3 @@
+-- What the proofs of `viewer` share, and its theorems.
+pub mod Crossing
+pub mod Unique

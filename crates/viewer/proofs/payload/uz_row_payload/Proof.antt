@@ -1,0 +1,32 @@
+-- `uz_row_payload` meets its contract: the reply of `payload_range`, case by case. Assumes nothing.
+use Rattle.viewer.proofs.Crossing.{range-crosses}
+use borrow.Author.Needs.{needs}
+use Rattle.viewer.proofs.payload.uz_row_payload.Statement.{statement}
+use Rattle.viewer.proofs.payload.uz_row_payload.Tie as tie
+
+payload-range-requires : tie.Need-payload-range-requires
+payload-range-requires c κs = search needs
+
+enum-known-range : tie.Need-enum-known-range
+enum-known-range c = search needs
+
+enum-known-refusal : tie.Need-enum-known-refusal
+enum-known-refusal c = search needs
+
+cast-t8 : tie.Need-cast-t8
+cast-t8 c = search needs
+
+returns : tie.Need-returns
+returns c =
+    range-crosses _ _ _ _ (rw (c .before .range .given .1) at
+    (c .before .before .before .payload-range .ensures))
+
+returns-2 : tie.Need-returns-2
+returns-2 c =
+    range-crosses _ _ _ _ (rw (c .before .before .refusal .given .1) at
+    (c .before .before .before .before .payload-range .ensures))
+
+pub uz-row-payload-spec : {M : Type 1} → statement M
+uz-row-payload-spec =
+    tie.close
+    (tie.spec payload-range-requires enum-known-range enum-known-refusal cast-t8 returns returns-2)

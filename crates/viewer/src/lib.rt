@@ -1,0 +1,13 @@
+// The C face: the search for a part, a row's payload range and the address question, for the kit's viewer in C.
+//
+// A slice crosses as a pointer and a count, an answer as a struct of numbers. include/uzrafmed.h is the C side.
+mod part;
+mod payload;
+mod whose;
+
+pub use part::UzPart;
+pub use part::uz_find_part;
+pub use payload::UzRange;
+pub use payload::uz_row_payload;
+pub use whose::UzPlace;
+pub use whose::uz_whose_byte;

@@ -1,0 +1,49 @@
+// `uz_whose_byte`: the row that holds an address of a payload, which is read into the lent table.
+ghost use Rattle.viewer.specs.Promise.{UzPlacePromise};
+use places::WhoseReply;
+use places::whose_byte;
+
+// `uz_place` of include/uzrafmed.h.
+#[repr(C)]
+pub struct UzPlace {
+    // 0, or the number of the refusal; then the others are 0.
+    pub refused: u64,
+    // The row's number, and 1 if its leaf payload holds the address, 0 if its header does.
+    pub row: u64,
+    pub in_payload: u64,
+    // How many rows the payload has.
+    pub rows: u64,
+}
+
+#[no_mangle]
+pub extern "C" fn uz_whose_byte(
+    recording: &[u8],
+    start: u64,
+    size: u64,
+    parent: u32,
+    address: u64,
+    table: &mut [u64],
+) -> UzPlace
+    ensures { λ r. ⌜ UzPlacePromise (now (recording .entry)) start size parent address (now (table .entry)) r (now (table .exit)) ⌝ }
+{
+    match whose_byte(recording, start, size, parent, address, table) {
+        WhoseReply::Header { row, rows } => UzPlace {
+            refused: 0,
+            row,
+            in_payload: 0,
+            rows,
+        },
+        WhoseReply::Payload { row, rows } => UzPlace {
+            refused: 0,
+            row,
+            in_payload: 1,
+            rows,
+        },
+        WhoseReply::Refused(refusal) => UzPlace {
+            refused: refusal.number as u64,
+            row: 0,
+            in_payload: 0,
+            rows: 0,
+        },
+    }
+}
