@@ -1,0 +1,271 @@
+/*
+  uzrafmed.h - the C face of Uzrafmed, a verified reader of Matroska's element structure.
+
+  It implements the rules of docs/01-scope.md, which comments here call document 01, and those rules rest on
+  RFC 8794 (sizes, integers, floats, dates), RFC 9559 (the ids) and RFC 3629 (UTF-8). It is proved that every
+  call ends and answers as document 01 says, on all bytes and all numbers; the prover and the compiler are trusted.
+  What is asked of the caller is in "What every call asks and promises" below.
+
+  The archive is libviewer.a, for x86-64 programs under System V's calling
+  convention; it needs C's memset and nothing else. `rt staticlib viewer` writes it to target/staticlib:
+
+      cc -std=c99 -I include example.c target/staticlib/libviewer.a -o example
+
+  There are three calls:
+
+      uz_find_part     finds Tracks, Attachments, Chapters or Tags, and reads it into a table of rows
+      uz_row_payload   tells where in the recording the payload of a row is
+      uz_whose_byte    reads a payload into a table, and names the row that holds an address
+
+  A whole program, which prints the address and the text of every chapter string of a recording. It shows texts
+  as they are; a program that writes to a terminal has to escape control characters (viewer/stages.c does).
+
+--- example.c
+#include "uzrafmed.h"
+#include <stdio.h>
+#include <stdlib.h>
+
+static uint64_t table[UZ_MOST_NUMBERS];
+
+int main(int count, char **words) {
+    FILE *file = count == 2 ? fopen(words[1], "rb") : NULL;
+    long end = file != NULL && fseek(file, 0, SEEK_END) == 0 ? ftell(file) : -1;
+    size_t length = end > 0 ? (size_t)end : 0;
+    uint8_t *recording = malloc(length + 1); // never NULL for a call, not even if it is empty
+    if (end < 0 || recording == NULL || fseek(file, 0, SEEK_SET) != 0) return 2;
+    if (fread(recording, 1, length, file) != length) return 2;
+    fclose(file);
+
+    uz_part part = uz_find_part(recording, length, UZ_CHAPTERS, table, UZ_MOST_NUMBERS);
+    if (part.refused != 0) fprintf(stderr, "refused %u\n", (unsigned)part.refused);
+    for (uint64_t row = 0; row < part.rows; row++) {
+        if (table[row * UZ_WIDTH + UZ_ID] != 0x85) continue; // the id of a ChapString
+        uz_range text = uz_row_payload(recording, length, table, UZ_MOST_NUMBERS, row);
+        printf("%llu ", (unsigned long long)text.at);
+        fwrite(recording + text.at, 1, (size_t)text.length, stdout);
+        putchar('\n');
+    }
+    free(recording);
+    return part.refused != 0;
+}
+--- end of example.c
+
+  Addresses. An address counts bytes from the start of the recording, and the first byte has address 0. This holds
+  for every address that is given or taken, whatever part it lies in.
+
+  The table. The caller lends numbers of 64 bits, seven a row, and a call writes one row for each element of a
+  payload, in the order of the file: a master (an element that holds elements) stands right before what it holds.
+  Row R of a table T is T[R * UZ_WIDTH] up to T[R * UZ_WIDTH + 6]; the columns are named below. A table has 0 to
+  4,096 rows, so its count of numbers is a multiple of 7 and at most 28,672.
+
+  What every call asks and promises.
+
+  - `recording` points to `length` bytes and `table` to `numbers` numbers. Neither may be NULL, not even for a
+    count of 0; then it may point anywhere else. The table is aligned as a uint64_t is. The two do not overlap.
+    The counts are true: a table whose count is refused is filled with zeros all the same.
+  - The recording is only read, and only its `length` bytes. Nothing is allocated, nothing is kept after the
+    call, there is no global state. Calls may run at the same time, on the same recording too, if each that writes
+    a table has a table of its own. A call takes less than 16 kilobytes of stack (measured, not proved).
+  - Damaged or hostile bytes are answered like any others: the call ends, with an answer or a refusal.
+  - A refusal is a number from 1 to 15 in `refused`. Every other number of the reply is then 0, but `id` for 8, and
+    every number of a table that the call was to write is 0. After acceptance `refused` is 0, and the numbers of
+    the table beyond the last row are 0. No other outcome exists, and equal arguments get equal answers.
+  - The tests come in a fixed order, so a recording with two faults gets one number, always the same: 14 comes
+    before all else, then 15, then the others in the order in which the reader meets the elements.
+
+  What no call promises.
+
+  - That the bytes stay the same. A mapped file that another program writes or cuts short while a call runs may
+    give any answer, or a signal of the operating system. Read it into memory where that can happen.
+  - What happens on a NULL pointer, a wrong count, a misaligned table or an overlap: the call may crash.
+  - That an id is one that Matroska knows. Every id of one to four bytes is accepted; one that is not in document
+    01's list has the kind binary. What the elements mean is not looked at: a chapter may lack its name.
+  - That a size of all ones is unknown: it is a plain number here, as document 01 says. Live recordings are
+    therefore often refused with 1 or 3.
+  - Speed. The time of a search is at most about 64 times that of one pass over the recording, of the other reads
+    about one pass; skipped elements are not touched.
+*/
+#ifndef UZRAFMED_H
+#define UZRAFMED_H
+
+#include <stddef.h>
+#include <stdint.h>
+
+#ifdef __cplusplus
+extern "C" {
+#endif
+
+/* Limits of document 01. */
+#define UZ_MOST_BYTES UINT64_C(4294967295)        /* the longest recording */
+#define UZ_WIDTH 7                                /* the numbers of a row */
+#define UZ_MOST_ROWS 4096                         /* the most rows of a table */
+#define UZ_MOST_NUMBERS (UZ_MOST_ROWS * UZ_WIDTH) /* the most numbers of a table */
+#define UZ_MOST_HEADS 64                          /* the most seek heads that a search reads */
+#define UZ_MOST_DEPTH 15                          /* the largest depth of a row */
+
+/* The four parts that uz_find_part takes. */
+#define UZ_TRACKS UINT32_C(0x1654AE6B)
+#define UZ_ATTACHMENTS UINT32_C(0x1941A469)
+#define UZ_CHAPTERS UINT32_C(0x1043A770)
+#define UZ_TAGS UINT32_C(0x1254C367)
+
+/* The parent ids that uz_find_part reads the elements of each part under. uz_whose_byte gives the same rows if it is
+   asked with the same one. */
+#define UZ_UNDER_TRACKS UINT32_C(0xAE)
+#define UZ_UNDER_ATTACHMENTS UINT32_C(0x61A7)
+#define UZ_UNDER_CHAPTERS UINT32_C(0x45B9)
+#define UZ_UNDER_TAGS UINT32_C(0x7373)
+
+/* The columns of a row. */
+#define UZ_ID 0      /* the element's id, its marker bit included */
+#define UZ_PARENT 1  /* the row number of its master plus 1; 0 if it has none in the table */
+#define UZ_ADDRESS 2 /* the address of its header */
+#define UZ_HEADER 3  /* how many bytes the header has, 2 to 12 */
+#define UZ_PAYLOAD 4 /* how many bytes the payload has; they follow the header */
+#define UZ_KIND 5    /* one of the kinds below */
+#define UZ_DEPTH 6   /* 0 for a direct element of the payload that was read, up to UZ_MOST_DEPTH */
+
+/* The kinds of an element, by what its payload holds. A row of any kind but UZ_MASTER is a leaf row. */
+#define UZ_MASTER 1   /* elements; their rows follow */
+#define UZ_SIGNED 2   /* a signed integer, big-endian, 0 to 8 bytes */
+#define UZ_UNSIGNED 3 /* an unsigned integer, big-endian, 0 to 8 bytes */
+#define UZ_STRING 4   /* a text; it is UTF-8 too, and may hold zero bytes */
+#define UZ_UTF8 5     /* a text in UTF-8; it may hold zero bytes */
+#define UZ_BINARY 6   /* bytes */
+#define UZ_FLOAT 7    /* a float, big-endian, 4 or 8 bytes */
+#define UZ_DATE 8     /* a signed integer of 8 bytes: nanoseconds from 2001-01-01 */
+
+/* Refusals: one number for each broken rule. */
+#define UZ_ACCEPTED 0          /* no refusal */
+#define UZ_PAST_END 1          /* a byte needed lies beyond the recording */
+#define UZ_INVALID_ID 2        /* an id has more than four bytes */
+#define UZ_INVALID_SIZE 3      /* a size has more than eight bytes, or an element is larger than what holds it */
+#define UZ_INVALID_INTEGER 4   /* an integer, signed or not, has more than eight bytes */
+#define UZ_INVALID_FLOAT 5     /* a float has other than 4 or 8 bytes */
+#define UZ_INVALID_DATE 6      /* a date has other than 8 bytes */
+#define UZ_NOT_UTF8 7          /* a text is not UTF-8 */
+#define UZ_INVALID_SEEK_HEAD 8 /* segment start plus an entry's position exceeds 2^64-1; the reply has its id */
+#define UZ_STALE_ENTRY 9       /* a seek entry is stale: its address holds a header with another id */
+#define UZ_HEAD_AGAIN 10       /* a seek head is reached at an address already read as one */
+#define UZ_TOO_MANY_HEADS 11   /* a 65th seek head would be read */
+#define UZ_TOO_DEEP 12         /* an element would lie at depth 16 */
+#define UZ_NO_FREE_ROW 13      /* the table has no free row */
+#define UZ_BAD_ARGUMENT 14     /* a length, part, start or row that the caller gave is out of bounds */
+#define UZ_OUTSIDE 15          /* the address is outside the payload */
+
+/* The reply of uz_find_part. */
+typedef struct uz_part {
+    uint64_t refused; /* 0, or the number of the refusal; then the others are 0, but `id` for 8 */
+    uint64_t id;      /* for refusal 8 the id that the entry names, else 0 */
+    uint64_t found;   /* 1, or 0 for an absent part: then at, size and rows are 0 */
+    uint64_t at;      /* the address of the part's payload, that is the first byte after its header */
+    uint64_t size;    /* how many bytes the payload has; all of them are in the recording */
+    uint64_t rows;    /* how many rows were written */
+    uint64_t heads;   /* how many seek heads were read, 0 to 64; counted for an absent part too */
+} uz_part;
+
+/* The reply of uz_row_payload: bytes `at` up to `at + length - 1`, all of them in the recording. */
+typedef struct uz_range {
+    uint64_t refused; /* 0, or UZ_BAD_ARGUMENT; then the others are 0 */
+    uint64_t at;      /* the address of the first byte; the recording's length at most */
+    uint64_t length;  /* how many bytes there are; may be 0 */
+} uz_range;
+
+/* The reply of uz_whose_byte. */
+typedef struct uz_place {
+    uint64_t refused;    /* 0, or the number of the refusal; then the others are 0 */
+    uint64_t row;        /* the number of the one row that holds the address, from 0 on */
+    uint64_t in_payload; /* 1 if its payload holds the address (it is a leaf row), 0 if its header does */
+    uint64_t rows;       /* how many rows were written */
+} uz_place;
+
+/*
+  Finds a part of a recording and reads its payload into the table.
+
+  The search goes over the segment's elements up to the first seek head, or to the part itself if that comes first.
+  From a seek head on it follows the entries, to further heads and to the part; the last entry of an id wins. An
+  entry is believed only if the header at its address has the id that it names. A seek head that does not name a
+  part hides it, though it stands in the segment. A part that is not there is an accepted reply.
+
+  `part` is UZ_TRACKS, UZ_ATTACHMENTS, UZ_CHAPTERS or UZ_TAGS.
+
+  Owns: nothing. Reads: the recording. Writes: every number of the table.
+
+  Refusals, of which all but 13 and 14 are the recording's:
+     1  there is no segment, or a header, a seek head or the part reaches past the recording's end
+     2  the id of a header that was read has more than four bytes
+     3  the size in such a header has more than eight bytes; or an element of the part or of a seek head is larger
+        than what its master had left; or an element passed over overruns the segment
+     4  an integer of the part or of a seek head has more than eight bytes
+     5  a float there has other than 4 or 8 bytes
+     6  a date there has other than 8 bytes
+     7  a text there is not UTF-8
+     8  an entry's address exceeds 2^64-1; `id` is UZ_TRACKS or its like, or 0x114D9B74 for a further seek head
+     9  an entry is stale: at its address is a header with another id
+    10  seek heads lead back to one that was read
+    11  there are more than 64 linked seek heads
+    12  an element of the part or of a seek head would lie at depth 16
+    13  the part has more elements than the table has rows
+    14  length exceeds UZ_MOST_BYTES, numbers is no multiple of 7 or exceeds UZ_MOST_NUMBERS, or part is none of
+        the four
+
+  Not promised: that the part lies within the segment, that it is the only one of its id, or that two parts do not
+  overlap. A recording with several segments is searched in the first alone.
+*/
+uz_part uz_find_part(const uint8_t *recording, size_t length, uint32_t part, uint64_t *table, size_t numbers);
+
+/*
+  Tells where the payload of a row is. After acceptance the bytes from recording + at on, `length` of them, may be
+  read.
+
+  The table is usually one that another call wrote, but may hold any numbers: only the row's address, header length
+  and payload length are looked at, and no sum wraps. A row of an accepted table is never refused for its range if
+  the recording is the same.
+
+  Owns: nothing. The bytes stay the caller's. Reads: the table; of the recording only its length. Writes: nothing.
+
+  Refusals:
+    14  length exceeds UZ_MOST_BYTES, numbers is no multiple of 7 or exceeds UZ_MOST_NUMBERS, the table has no such
+        row (row >= numbers / 7), or the row's range is not in the recording
+
+  Not promised: that the row was ever written. An unused row is all zeros and gives 0 bytes at address 0, so
+  compare row with the `rows` of the call that wrote the table.
+*/
+uz_range uz_row_payload(const uint8_t *recording, size_t length, const uint64_t *table, size_t numbers, uint64_t row);
+
+/*
+  Reads the payload of `size` bytes from the address `start` on into the table, and names the one row that holds
+  `address`: by its header, or, if it is a leaf row, by its payload. Every byte of an accepted payload has exactly
+  one such row.
+
+  For a part, start and size are `at` and `size` of uz_find_part, and `parent` is UZ_UNDER_TRACKS or its like; the
+  rows are then those of uz_find_part. For the payload of a master row, parent is that row's id, and rows and depths
+  count from there. Any parent is allowed; 0 is none. It decides which ids are masters: below Info, Tracks,
+  Attachments, Chapters and Tags themselves only few are.
+
+  Owns: nothing. Reads: the recording. Writes: every number of the table.
+
+  Refusals, in this order: 14, 15, then those of the elements as they are met:
+     1  the recording ends before an element of the payload does
+     2  an id has more than four bytes
+     3  a size has more than eight bytes, or an element is larger than what its master, or the payload, had left
+     4  an integer has more than eight bytes
+     5  a float has other than 4 or 8 bytes
+     6  a date has other than 8 bytes
+     7  a text is not UTF-8
+    12  an element would lie at depth 16
+    13  the payload has more elements than the table has rows
+    14  length exceeds UZ_MOST_BYTES, numbers is no multiple of 7 or exceeds UZ_MOST_NUMBERS, or start exceeds length
+    15  address is not one of the `size` bytes from start on
+
+  Not promised: that start is the begin of an element. Bytes from elsewhere are read as elements too, and are
+  mostly refused. start + size may exceed the recording or 2^64-1; then the reading ends it.
+*/
+uz_place uz_whose_byte(const uint8_t *recording, size_t length, uint64_t start, uint64_t size, uint32_t parent,
+                       uint64_t address, uint64_t *table, size_t numbers);
+
+#ifdef __cplusplus
+}
+#endif
+
+#endif

@@ -1,0 +1,1086 @@
+// A test of the three calls of include/uzrafmed.h, by a program that trusts none of them.
+//
+//   faces [FILE..]   tests worked cases, limits, and damage to a recording made here and each file
+//
+// Recordings lie in memory that can only be read, tables in memory that is inaccessible on both
+// sides: right before the first number or right after the last one, in turn. A read past a
+// recording's end or a write past a table's end so ends the program. Every reply is held to what
+// the header says of all replies, and worked cases to their numbers.
+//
+// Prints what is wrong, and last 'faces: N checks, 0 wrong'. Status 1 if anything is wrong.
+#define _DEFAULT_SOURCE
+#include "uzrafmed.h"
+
+#include <inttypes.h>
+#include <stdbool.h>
+#include <stdio.h>
+#include <stdlib.h>
+#include <string.h>
+#include <sys/mman.h>
+
+// A multiple of the page size of every machine that this runs on.
+#define PAGE 65536
+
+// What a number holds before a call.
+#define FILLED UINT64_C(0xA5C3A5C3A5C3A5C3)
+
+// How many damaged copies are asked of the recording made here, and of each file.
+#define DAMAGED 6000
+#define DAMAGED_FILE 300
+
+// The longest file that is damaged.
+#define MOST_FILE (1 << 20)
+
+// The ids that the tests use by name.
+#define SEGMENT UINT32_C(0x18538067)
+#define SEEK_HEAD UINT32_C(0x114D9B74)
+#define SEEK UINT32_C(0x4DBB)
+#define SEEK_ID UINT32_C(0x53AB)
+#define SEEK_POSITION UINT32_C(0x53AC)
+#define VOID UINT32_C(0xEC)
+
+static uint64_t checks;
+static uint64_t wrong;
+static const char *about = "";
+
+static void check(bool good, const char *what) {
+    checks++;
+    if (good)
+        return;
+    wrong++;
+    if (wrong <= 20)
+        printf("faces: wrong: %s: %s\n", about, what);
+}
+
+static void give_up(const char *what) {
+    printf("faces: %s\n", what);
+    exit(1);
+}
+
+// ---- Memory between inaccessible pages ----
+
+typedef struct {
+    uint8_t *first;
+    size_t size;
+} arena;
+
+static arena make_arena(size_t size) {
+    arena made;
+    made.size = (size + PAGE - 1) / PAGE * PAGE;
+    uint8_t *all = mmap(NULL, made.size + 2 * (size_t)PAGE, PROT_NONE,
+                        MAP_PRIVATE | MAP_ANONYMOUS | MAP_NORESERVE, -1, 0);
+    if (all == MAP_FAILED)
+        give_up("there is no memory for a test");
+    made.first = all + PAGE;
+    if (mprotect(made.first, made.size, PROT_READ | PROT_WRITE) != 0)
+        give_up("memory can't be made accessible");
+    return made;
+}
+
+static void allow(arena in, int rights) {
+    if (mprotect(in.first, in.size, rights) != 0)
+        give_up("the rights of memory can't be changed");
+}
+
+typedef struct {
+    const uint8_t *bytes;
+    size_t length;
+} recording;
+
+static arena recordings;
+
+// The bytes as a recording that can only be read, before an inaccessible page or, if `front`, after
+// one.
+static recording placed(const uint8_t *bytes, size_t length, bool front) {
+    if (length > recordings.size)
+        give_up("a recording is too long for a test");
+    allow(recordings, PROT_READ | PROT_WRITE);
+    uint8_t *to = front ? recordings.first : recordings.first + recordings.size - length;
+    if (length > 0)
+        memcpy(to, bytes, length);
+    allow(recordings, PROT_READ);
+    recording made = {to, length};
+    return made;
+}
+
+typedef struct {
+    uint64_t *table;
+    size_t numbers;
+    arena in;
+} lent;
+
+// Room for more numbers than a table may have, and for the tables of the random tests.
+static arena large_tables;
+static arena small_tables;
+
+// A table of numbers that are all FILLED, and so is the rest of its arena.
+static lent lend(arena in, size_t numbers, bool front) {
+    size_t room = in.size / sizeof(uint64_t);
+    if (numbers > room)
+        give_up("a table is too long for a test");
+    uint64_t *first = (uint64_t *)(void *)in.first;
+    for (size_t i = 0; i < room; i++)
+        first[i] = FILLED;
+    lent made = {front ? first : first + room - numbers, numbers, in};
+    return made;
+}
+
+static bool all_are(const uint64_t *from, const uint64_t *to, uint64_t number) {
+    while (from < to)
+        if (*from++ != number)
+            return false;
+    return true;
+}
+
+// Nothing was written beside the table.
+static bool only_table(lent to) {
+    const uint64_t *first = (const uint64_t *)(const void *)to.in.first;
+    const uint64_t *last = first + to.in.size / sizeof(uint64_t);
+    return all_are(first, to.table, FILLED) && all_are(to.table + to.numbers, last, FILLED);
+}
+
+static bool zeros_from(lent in, uint64_t row) {
+    return all_are(in.table + row * UZ_WIDTH, in.table + in.numbers, 0);
+}
+
+static uint64_t cell(lent in, uint64_t row, unsigned column) {
+    return in.table[row * UZ_WIDTH + column];
+}
+
+// ---- What holds of every reply ----
+
+// An id or size at an address, of at most `most` bytes: its length, or 0 if none is there.
+static unsigned vint(recording from, uint64_t at, unsigned most, bool marked, uint64_t *value) {
+    if (at >= from.length)
+        return 0;
+    unsigned octets = 1;
+    while (octets <= most && (from.bytes[at] & (0x100u >> octets)) == 0)
+        octets++;
+    if (octets > most || from.length - at < octets)
+        return 0;
+    *value = marked ? from.bytes[at] : from.bytes[at] & ((0x100u >> octets) - 1);
+    for (unsigned i = 1; i < octets; i++)
+        *value = *value << 8 | from.bytes[at + i];
+    return octets;
+}
+
+// A header at an address: its length, or 0 if none is there.
+static unsigned header(recording from, uint64_t at, uint64_t *id, uint64_t *size) {
+    unsigned first = vint(from, at, 4, true, id);
+    unsigned second = first != 0 ? vint(from, at + first, 8, false, size) : 0;
+    return second != 0 ? first + second : 0;
+}
+
+static bool is_utf8(const uint8_t *text, uint64_t length) {
+    uint64_t i = 0;
+    while (i < length) {
+        uint8_t first = text[i++];
+        if (first < 0x80)
+            continue;
+        unsigned more = first >= 0xF0 ? 3 : first >= 0xE0 ? 2 : 1;
+        static const uint32_t least[] = {0, 0x80, 0x800, 0x10000};
+        if (first < 0xC0 || first > 0xF7 || length - i < more)
+            return false;
+        uint32_t character = first & (0x3Fu >> more);
+        for (unsigned k = 0; k < more; k++, i++) {
+            if ((text[i] & 0xC0) != 0x80)
+                return false;
+            character = character << 6 | (text[i] & 0x3F);
+        }
+        if (character < least[more] || character > 0x10FFFF)
+            return false;
+        if (character >= 0xD800 && character <= 0xDFFF)
+            return false;
+    }
+    return true;
+}
+
+// Whether a leaf's payload is one of its kind.
+static bool is_leaf(recording from, uint64_t at, uint64_t size, uint64_t kind) {
+    switch (kind) {
+    case UZ_SIGNED:
+    case UZ_UNSIGNED:
+        return size <= 8;
+    case UZ_STRING:
+    case UZ_UTF8:
+        return is_utf8(from.bytes + at, size);
+    case UZ_BINARY:
+        return true;
+    case UZ_FLOAT:
+        return size == 4 || size == 8;
+    case UZ_DATE:
+        return size == 8;
+    }
+    return false;
+}
+
+// Whether the table's rows are the elements of the payload: each at the place where the one before
+// ends, each header as the bytes have it, each master used up by what it holds, each leaf there and
+// of its kind, and zeros beyond.
+static bool are_rows(recording from, uint64_t at, uint64_t size, uint64_t rows, lent in) {
+    if (at > from.length || size > from.length - at || rows > in.numbers / UZ_WIDTH)
+        return false;
+    // The ends of the masters that are open, and their row numbers plus 1; the payload itself is
+    // the first.
+    uint64_t ends[UZ_MOST_DEPTH + 2] = {at + size};
+    uint64_t masters[UZ_MOST_DEPTH + 2] = {0};
+    uint64_t open = 0;
+    for (uint64_t row = 0; row < rows; row++) {
+        while (open > 0 && ends[open] == at)
+            open--;
+        uint64_t id, payload;
+        unsigned length = header(from, at, &id, &payload);
+        if (length == 0 || cell(in, row, UZ_ID) != id || cell(in, row, UZ_PARENT) != masters[open])
+            return false;
+        if (cell(in, row, UZ_ADDRESS) != at || cell(in, row, UZ_HEADER) != length)
+            return false;
+        if (cell(in, row, UZ_PAYLOAD) != payload || cell(in, row, UZ_DEPTH) != open)
+            return false;
+        at += length;
+        if (open > UZ_MOST_DEPTH || at > ends[open] || payload > ends[open] - at)
+            return false;
+        if (cell(in, row, UZ_KIND) == UZ_MASTER) {
+            open++;
+            ends[open] = at + payload;
+            masters[open] = row + 1;
+        } else {
+            if (!is_leaf(from, at, payload, cell(in, row, UZ_KIND)))
+                return false;
+            at += payload;
+        }
+    }
+    for (uint64_t i = 0; i <= open; i++)
+        if (ends[i] != at)
+            return false;
+    return zeros_from(in, rows);
+}
+
+// Whether a header with the id ends right before the address.
+static bool follows_header(recording from, uint64_t at, uint64_t wanted, uint64_t size) {
+    for (unsigned length = 2; length <= 12 && length <= at; length++) {
+        uint64_t id, payload;
+        if (header(from, at - length, &id, &payload) == length && id == wanted && payload == size)
+            return true;
+    }
+    return false;
+}
+
+// The call, and what holds of all its replies.
+static uz_part find_part(recording from, uint32_t part, lent to) {
+    uz_part said = uz_find_part(from.bytes, from.length, part, to.table, to.numbers);
+    check(only_table(to), "find_part writes the table alone");
+    if (said.refused != UZ_ACCEPTED) {
+        check(said.refused <= UZ_BAD_ARGUMENT, "find_part gives 1 to 14");
+        bool named = said.refused == UZ_INVALID_SEEK_HEAD;
+        check(named ? said.id == part || said.id == SEEK_HEAD : said.id == 0,
+              "the id comes with 8 alone");
+        check((said.found | said.at | said.size | said.rows | said.heads) == 0,
+              "a refused part is zeros");
+        check(zeros_from(to, 0), "the table of a refused part is zeros");
+        return said;
+    }
+    check(said.id == 0 && said.heads <= UZ_MOST_HEADS, "an accepted part has no id, and 64 heads");
+    if (said.found == 0) {
+        check((said.at | said.size | said.rows) == 0 && zeros_from(to, 0),
+              "an absent part is zeros");
+        return said;
+    }
+    check(said.found == 1, "found is 0 or 1");
+    check(follows_header(from, said.at, part, said.size), "a found part has the id");
+    check(are_rows(from, said.at, said.size, said.rows, to), "the rows are the part's elements");
+    return said;
+}
+
+// The row that owns an address by the table alone. Counts the owners; there has to be one.
+static unsigned owners(lent in, uint64_t rows, uint64_t address, uz_place *owner) {
+    unsigned found = 0;
+    for (uint64_t row = 0; row < rows; row++) {
+        uint64_t first = cell(in, row, UZ_ADDRESS);
+        uint64_t payload = first + cell(in, row, UZ_HEADER);
+        bool leaf = cell(in, row, UZ_KIND) != UZ_MASTER;
+        uint64_t end = payload + (leaf ? cell(in, row, UZ_PAYLOAD) : 0);
+        if (address < first || address >= end)
+            continue;
+        owner->row = row;
+        owner->in_payload = address >= payload;
+        found++;
+    }
+    owner->refused = UZ_ACCEPTED;
+    owner->rows = rows;
+    return found;
+}
+
+static bool same_place(uz_place one, uz_place other) {
+    return one.refused == other.refused && one.row == other.row &&
+           one.in_payload == other.in_payload && one.rows == other.rows;
+}
+
+// The call, and what holds of all its replies.
+static uz_place whose_byte(recording from, uint64_t start, uint64_t size, uint32_t parent,
+                           uint64_t address, lent to) {
+    uz_place said =
+        uz_whose_byte(from.bytes, from.length, start, size, parent, address, to.table, to.numbers);
+    check(only_table(to), "whose_byte writes the table alone");
+    if (said.refused != UZ_ACCEPTED) {
+        check(said.refused <= UZ_NOT_UTF8 ||
+                  (said.refused >= UZ_TOO_DEEP && said.refused <= UZ_OUTSIDE),
+              "whose_byte gives 1 to 7 and 12 to 15");
+        check((said.row | said.in_payload | said.rows) == 0, "a refused place is zeros");
+        check(zeros_from(to, 0), "the table of a refused place is zeros");
+        return said;
+    }
+    check(address >= start && address - start < size, "an accepted address is in the payload");
+    check(are_rows(from, start, size, said.rows, to), "the rows are the payload's elements");
+    uz_place owner = {0, 0, 0, 0};
+    check(owners(to, said.rows, address, &owner) == 1, "a byte has one owner");
+    check(same_place(said, owner), "the row named owns the byte");
+    return said;
+}
+
+static bool is_range(uz_range said, uint64_t refused, uint64_t at, uint64_t length) {
+    return said.refused == refused && said.at == at && said.length == length;
+}
+
+// Each row's payload is where the table says.
+static void check_payloads(recording from, uint64_t rows, lent in) {
+    for (uint64_t row = 0; row < rows; row++) {
+        uz_range said = uz_row_payload(from.bytes, from.length, in.table, in.numbers, row);
+        uint64_t at = cell(in, row, UZ_ADDRESS) + cell(in, row, UZ_HEADER);
+        check(is_range(said, UZ_ACCEPTED, at, cell(in, row, UZ_PAYLOAD)), "a row's payload");
+    }
+}
+
+// ---- Recordings that are written here ----
+
+typedef struct {
+    uint8_t bytes[1 << 16];
+    size_t length;
+} written;
+
+static void put_byte(written *to, unsigned byte) {
+    if (to->length == sizeof to->bytes)
+        give_up("a recording is too long to write");
+    to->bytes[to->length++] = (uint8_t)byte;
+}
+
+static void put_number(written *to, uint64_t number, unsigned bytes) {
+    while (bytes-- > 0)
+        put_byte(to, number >> 8 * bytes & 0xFF);
+}
+
+static void put_id(written *to, uint32_t id) {
+    put_number(to, id, id > 0xFFFFFF ? 4 : id > 0xFFFF ? 3 : id > 0xFF ? 2 : 1);
+}
+
+// A master is opened with a size of two bytes, which is known when it is closed.
+static size_t open_master(written *to, uint32_t id) {
+    put_id(to, id);
+    put_number(to, 0, 2);
+    return to->length;
+}
+
+static void close_master(written *to, size_t mark) {
+    size_t size = to->length - mark;
+    if (size >= 0x3FFF)
+        give_up("a master is too long to write");
+    to->bytes[mark - 2] = (uint8_t)(0x40 | size >> 8);
+    to->bytes[mark - 1] = (uint8_t)(size & 0xFF);
+}
+
+static void put_unsigned(written *to, uint32_t id, uint64_t number, unsigned bytes) {
+    put_id(to, id);
+    put_byte(to, 0x80 | bytes);
+    put_number(to, number, bytes);
+}
+
+static void put_text(written *to, uint32_t id, const char *text) {
+    put_id(to, id);
+    put_byte(to, 0x80 | (unsigned)strlen(text));
+    while (*text != '\0')
+        put_byte(to, (uint8_t)*text++);
+}
+
+// A seek entry with a position of eight bytes. Answers where the position is.
+static size_t put_seek(written *to, uint32_t id, uint64_t position) {
+    size_t seek = open_master(to, SEEK);
+    put_unsigned(to, SEEK_ID, id, 4);
+    put_unsigned(to, SEEK_POSITION, position, 8);
+    close_master(to, seek);
+    return to->length - 8;
+}
+
+static void set_position(written *to, size_t at, uint64_t position) {
+    size_t length = to->length;
+    to->length = at;
+    put_number(to, position, 8);
+    to->length = length;
+}
+
+static int hex_digit(char digit) {
+    return digit <= '9' ? digit - '0' : digit - 'A' + 10;
+}
+
+static void put_hex(written *to, const char *digits) {
+    for (; digits[0] != '\0' && digits[1] != '\0'; digits += 2)
+        put_byte(to, (unsigned)(hex_digit(digits[0]) * 16 + hex_digit(digits[1])));
+}
+
+static written *clean(void) {
+    static written scratch;
+    scratch.length = 0;
+    return &scratch;
+}
+
+static recording hex(const char *digits, bool front) {
+    written *made = clean();
+    put_hex(made, digits);
+    return placed(made->bytes, made->length, front);
+}
+
+// One chapter, with the chapters inside it.
+static void put_chapter(written *to, const char *name, uint64_t start, unsigned inside) {
+    size_t atom = open_master(to, 0xB6);
+    put_unsigned(to, 0x73C4, start + inside, 3);
+    put_unsigned(to, 0x91, start, 5);
+    size_t display = open_master(to, 0x80);
+    put_text(to, 0x85, name);
+    put_text(to, 0x437C, "eng");
+    close_master(to, display);
+    if (inside > 0)
+        put_chapter(to, "inner \xC3\xA4\xE2\x82\xAC\xF0\x9F\x94\xA7", start, inside - 1);
+    close_master(to, atom);
+}
+
+static void put_tag(written *to, const char *name, const char *value) {
+    size_t tag = open_master(to, 0x7373);
+    size_t targets = open_master(to, 0x63C0);
+    put_unsigned(to, 0x68CA, 50, 1);
+    close_master(to, targets);
+    size_t simple = open_master(to, 0x67C8);
+    put_text(to, 0x45A3, name);
+    put_text(to, 0x4487, value);
+    close_master(to, simple);
+    close_master(to, tag);
+}
+
+// A recording like the bench kit's: two linked seek heads, tracks, an attachment, nested chapters,
+// tags, and some elements of each kind.
+static void put_sample(written *to) {
+    static const uint32_t ids[] = {UZ_TRACKS, UZ_ATTACHMENTS, UZ_CHAPTERS, UZ_TAGS, SEEK_HEAD};
+    size_t places[5], positions[5];
+    size_t ebml = open_master(to, 0x1A45DFA3);
+    put_text(to, 0x4282, "matroska");
+    close_master(to, ebml);
+    size_t segment = open_master(to, SEGMENT);
+    size_t head = open_master(to, SEEK_HEAD);
+    for (size_t i = 0; i < 5; i++)
+        places[i] = i == 3 ? 0 : put_seek(to, ids[i], 0);
+    close_master(to, head);
+    put_text(to, VOID, "passed over");
+
+    positions[0] = to->length;
+    size_t tracks = open_master(to, UZ_TRACKS);
+    size_t entry = open_master(to, 0xAE);
+    put_unsigned(to, 0xD7, 1, 1);
+    put_unsigned(to, 0x83, 2, 1);
+    put_text(to, 0x86, "A_PCM/INT/LIT");
+    size_t audio = open_master(to, 0xE1);
+    put_unsigned(to, 0xB5, UINT64_C(0x40E7700000000000), 8);
+    put_unsigned(to, 0x9F, 2, 0);
+    close_master(to, audio);
+    put_unsigned(to, 0x4461, 1000, 8);
+    put_unsigned(to, 0xFB, 0xFF, 1);
+    close_master(to, entry);
+    close_master(to, tracks);
+
+    positions[1] = to->length;
+    size_t attachments = open_master(to, UZ_ATTACHMENTS);
+    size_t file = open_master(to, 0x61A7);
+    put_text(to, 0x466E, "board.dts");
+    put_text(to, 0x465C, "\x01\xFF\xFE");
+    close_master(to, file);
+    close_master(to, attachments);
+
+    positions[2] = to->length;
+    size_t chapters = open_master(to, UZ_CHAPTERS);
+    size_t edition = open_master(to, 0x45B9);
+    put_unsigned(to, 0x45BC, 7, 1);
+    put_chapter(to, "SPL", 0, 0);
+    put_chapter(to, "U-Boot", 1000000, 2);
+    put_chapter(to, "", 2000000, 11);
+    close_master(to, edition);
+    put_text(to, VOID, "");
+    close_master(to, chapters);
+
+    positions[4] = to->length;
+    size_t second = open_master(to, SEEK_HEAD);
+    places[3] = put_seek(to, UZ_TAGS, 0);
+    close_master(to, second);
+
+    positions[3] = to->length;
+    size_t tags = open_master(to, UZ_TAGS);
+    put_tag(to, "rail", "5V");
+    put_tag(to, "baud", "115200");
+    close_master(to, tags);
+    close_master(to, segment);
+    for (size_t i = 0; i < 5; i++)
+        set_position(to, places[i], positions[i] - segment);
+}
+
+// ---- Worked cases ----
+
+static const uint32_t parts[] = {UZ_TRACKS, UZ_ATTACHMENTS, UZ_CHAPTERS, UZ_TAGS};
+static const uint32_t parents[] = {UZ_UNDER_TRACKS, UZ_UNDER_ATTACHMENTS, UZ_UNDER_CHAPTERS,
+                                   UZ_UNDER_TAGS};
+
+static bool is_part(uz_part said, uz_part due) {
+    return said.refused == due.refused && said.id == due.id && said.found == due.found &&
+           said.at == due.at && said.size == due.size && said.rows == due.rows &&
+           said.heads == due.heads;
+}
+
+// The worked example of document 01, every number of it.
+static void test_example(void) {
+    static const char bytes[] = "18538067A2114D9B748E4DBB8B53AB841254C36753AC8113"
+                                "1254C3678A73738767C88445A38141";
+    static const uint64_t rows[3 * UZ_WIDTH] = {
+        0x7373, 0, 29, 3, 7, UZ_MASTER, 0, //
+        0x67C8, 1, 32, 3, 4, UZ_MASTER, 1, //
+        0x45A3, 2, 35, 3, 1, UZ_UTF8,   2, //
+    };
+    about = "document 01's 39 bytes";
+    recording from = hex(bytes, false);
+    check(from.length == 39, "39 bytes");
+    for (size_t i = 0; i < 4; i++) {
+        lent to = lend(large_tables, 5 * UZ_WIDTH, i % 2 != 0);
+        uz_part said = find_part(from, parts[i], to);
+        uz_part absent = {0, 0, 0, 0, 0, 0, 1};
+        uz_part tags = {0, 0, 1, 29, 10, 3, 1};
+        check(is_part(said, parts[i] == UZ_TAGS ? tags : absent), "the reply");
+        if (parts[i] == UZ_TAGS) {
+            check(memcmp(to.table, rows, sizeof rows) == 0, "the rows");
+            check_payloads(from, said.rows, to);
+        }
+    }
+    // Byte by byte: which row, and whether its payload holds the byte.
+    static const unsigned owner[10][2] = {{0, 0}, {0, 0}, {0, 0}, {1, 0}, {1, 0},
+                                          {1, 0}, {2, 0}, {2, 0}, {2, 0}, {2, 1}};
+    for (unsigned i = 0; i < 10; i++) {
+        lent to = lend(large_tables, 3 * UZ_WIDTH, i % 2 != 0);
+        uz_place due = {0, owner[i][0], owner[i][1], 3};
+        check(same_place(whose_byte(from, 29, 10, UZ_UNDER_TAGS, 29 + i, to), due), "the owner");
+        check(memcmp(to.table, rows, sizeof rows) == 0, "the rows of the address question");
+    }
+}
+
+typedef struct {
+    const char *bytes;
+    uint32_t part;
+    size_t numbers;
+    uz_part due;
+} part_case;
+
+// clang-format off
+static const part_case part_cases[] = {
+    // 1: nothing at all; no segment; a seek entry past the end; the part cut short.
+    {"", UZ_TAGS, 7, {1, 0, 0, 0, 0, 0, 0}},
+    {"EC81", UZ_TAGS, 7, {1, 0, 0, 0, 0, 0, 0}},
+    {"1853806784EC81", UZ_TAGS, 0, {1, 0, 0, 0, 0, 0, 0}},
+    {"0000", UZ_TAGS, 7, {1, 0, 0, 0, 0, 0, 0}},
+    {"1853806793114D9B748E4DBB8B53AB841254C36753AC8113", UZ_TAGS, 7, {1, 0, 0, 0, 0, 0, 0}},
+    {"18538067871254C3678285", UZ_TAGS, 7, {1, 0, 0, 0, 0, 0, 0}},
+    // 2 and 3: ids and sizes that are too long; a child that overruns; an element that does.
+    {"0F80", UZ_TAGS, 7, {2, 0, 0, 0, 0, 0, 0}},
+    {"0001", UZ_TAGS, 7, {2, 0, 0, 0, 0, 0, 0}},
+    {"AE0001", UZ_TAGS, 7, {3, 0, 0, 0, 0, 0, 0}},
+    {"1853806781EC80", UZ_TAGS, 0, {3, 0, 0, 0, 0, 0, 0}},
+    {"18538067871254C36782EC8141", UZ_TAGS, 7, {3, 0, 0, 0, 0, 0, 0}},
+    // 4 to 7: bodies.
+    {"18538067871254C367828389", UZ_TAGS, 7, {4, 0, 0, 0, 0, 0, 0}},
+    {"18538067871254C36782FB89", UZ_TAGS, 7, {4, 0, 0, 0, 0, 0, 0}},
+    {"18538067871254C36782B580", UZ_TAGS, 7, {5, 0, 0, 0, 0, 0, 0}},
+    {"18538067881254C36783446187", UZ_TAGS, 7, {6, 0, 0, 0, 0, 0, 0}},
+    {"185380678A1254C3678545A382C080", UZ_TAGS, 7, {7, 0, 0, 0, 0, 0, 0}},
+    {"185380678A1254C3678545A382C2A0", UZ_TAGS, 7, {0, 0, 1, 10, 5, 1, 0}},
+    // 8 to 10: the entries. The id of 8 is the entry's.
+    {"185380679A114D9B74954DBB9253AB84114D9B7453AC88FFFFFFFFFFFFFFFF",
+     UZ_TAGS, 0, {8, SEEK_HEAD, 0, 0, 0, 0, 0}},
+    {"185380679A114D9B74954DBB9253AB841254C36753AC88FFFFFFFFFFFFFFFF",
+     UZ_TAGS, 0, {8, UZ_TAGS, 0, 0, 0, 0, 0}},
+    {"185380679A114D9B74954DBB9253AB841254C36753AC88FFFFFFFFFFFFFFFF",
+     UZ_CHAPTERS, 0, {0, 0, 0, 0, 0, 0, 1}},
+    {"1853806793114D9B748E4DBB8B53AB841254C36753AC8100", UZ_TAGS, 7, {9, 0, 0, 0, 0, 0, 0}},
+    {"1853806793114D9B748E4DBB8B53AB841254C36753AC8100", UZ_TRACKS, 7, {0, 0, 0, 0, 0, 0, 1}},
+    {"1853806793114D9B748E4DBB8B53AB84114D9B7453AC8100", UZ_TAGS, 7, {10, 0, 0, 0, 0, 0, 0}},
+    {"1853806795114D9B748E4DBB8B53AB84114D9B7453AC8113EC80", UZ_TAGS, 7, {9, 0, 0, 0, 0, 0, 0}},
+    // The last entry of an id wins.
+    {"18538067A6114D9B749C4DBB8B53AB841254C36753AC81004DBB8B53AB841254C36753AC81211254C36780",
+     UZ_TAGS, 0, {0, 0, 1, 43, 0, 0, 1}},
+    {"18538067A6114D9B749C4DBB8B53AB841254C36753AC81214DBB8B53AB841254C36753AC81001254C36780",
+     UZ_TAGS, 0, {9, 0, 0, 0, 0, 0, 0}},
+    // Any master is one directly below each part.
+    {"185380678A1654AE6B85E083B08101", UZ_TRACKS, 14, {0, 0, 1, 10, 5, 2, 0}},
+    {"185380678A1941A46985E083B08101", UZ_ATTACHMENTS, 14, {0, 0, 1, 10, 5, 2, 0}},
+    {"185380678A1043A77085E083B08101", UZ_CHAPTERS, 14, {0, 0, 1, 10, 5, 2, 0}},
+    {"185380678A1254C36785E083B08101", UZ_TAGS, 14, {0, 0, 1, 10, 5, 2, 0}},
+    // 12: in a seek head, and in the part; depth 15 is accepted.
+    {"18538067A7114D9B74A2AEA0AE9EAE9CAE9AAE98AE96AE94AE92AE90AE8EAE8CAE8AAE88AE86AE84AE82AE80",
+     UZ_TAGS, 0, {12, 0, 0, 0, 0, 0, 0}},
+    {"18538067A71254C367A2AEA0AE9EAE9CAE9AAE98AE96AE94AE92AE90AE8EAE8CAE8AAE88AE86AE84AE82AE80",
+     UZ_TAGS, 119, {12, 0, 0, 0, 0, 0, 0}},
+    {"18538067A51254C367A0AE9EAE9CAE9AAE98AE96AE94AE92AE90AE8EAE8CAE8AAE88AE86AE84AE82AE80",
+     UZ_TAGS, 112, {0, 0, 1, 10, 32, 16, 0}},
+    // 13: one row too few, and none. An empty part needs none.
+    {"18538067891254C36784EC80EC80", UZ_TAGS, 7, {13, 0, 0, 0, 0, 0, 0}},
+    {"18538067891254C36784EC80EC80", UZ_TAGS, 14, {0, 0, 1, 10, 4, 2, 0}},
+    {"18538067871254C36782EC80", UZ_TAGS, 0, {13, 0, 0, 0, 0, 0, 0}},
+    {"18538067851254C36780", UZ_TAGS, 0, {0, 0, 1, 10, 0, 0, 0}},
+    // 14: no part of the four, before anything in the recording.
+    {"0F80", 0, 7, {14, 0, 0, 0, 0, 0, 0}},
+    {"0F80", SEEK_HEAD, 7, {14, 0, 0, 0, 0, 0, 0}},
+    {"0F80", UZ_UNDER_TAGS, 7, {14, 0, 0, 0, 0, 0, 0}},
+    {"0F80", UINT32_MAX, 7, {14, 0, 0, 0, 0, 0, 0}},
+    // Absent: an empty segment; a head that does not name it. A part may pass its segment's end.
+    {"1853806780", UZ_TAGS, 7, {0, 0, 0, 0, 0, 0, 0}},
+    {"185380678A114D9B74801254C36780", UZ_TAGS, 0, {0, 0, 0, 0, 0, 0, 1}},
+    {"18538067811254C36782EC80", UZ_TAGS, 7, {0, 0, 1, 10, 2, 1, 0}},
+};
+// clang-format on
+
+static void test_parts(void) {
+    for (size_t i = 0; i < sizeof part_cases / sizeof *part_cases; i++) {
+        const part_case *asked = &part_cases[i];
+        about = asked->bytes;
+        for (unsigned front = 0; front < 2; front++) {
+            recording from = hex(asked->bytes, front != 0);
+            lent to = lend(large_tables, asked->numbers, front != 0);
+            check(is_part(find_part(from, asked->part, to), asked->due), "the worked reply");
+        }
+    }
+}
+
+// A chain of linked heads, the last of which names Tags.
+static void test_chain(unsigned heads, uint64_t refused) {
+    about = "a chain of heads";
+    written *to = clean();
+    size_t segment = open_master(to, SEGMENT);
+    for (unsigned i = 0; i < heads; i++) {
+        size_t head = open_master(to, SEEK_HEAD);
+        size_t place = put_seek(to, i + 1 < heads ? SEEK_HEAD : UZ_TAGS, 0);
+        close_master(to, head);
+        set_position(to, place, to->length - segment);
+    }
+    put_id(to, UZ_TAGS);
+    put_byte(to, 0x80);
+    close_master(to, segment);
+    recording from = placed(to->bytes, to->length, false);
+    uz_part said = find_part(from, UZ_TAGS, lend(small_tables, 0, false));
+    check(said.refused == refused, "64 heads are read, and no 65th");
+    check(refused != UZ_ACCEPTED || (said.found == 1 && said.heads == heads), "heads are counted");
+}
+
+// ---- Tables ----
+
+// A Tags part of so many empty elements.
+static recording siblings(unsigned count, bool front) {
+    written *to = clean();
+    size_t segment = open_master(to, SEGMENT);
+    size_t tags = open_master(to, UZ_TAGS);
+    for (unsigned i = 0; i < count; i++)
+        put_hex(to, "EC80");
+    close_master(to, tags);
+    close_master(to, segment);
+    return placed(to->bytes, to->length, front);
+}
+
+static void test_tables(void) {
+    about = "a table's length";
+    static const size_t broken[] = {
+        1, 6, 8, 13, UZ_MOST_NUMBERS - 1, UZ_MOST_NUMBERS + 1, UZ_MOST_NUMBERS + 7};
+    for (unsigned front = 0; front < 2; front++) {
+        recording from = siblings(1, front != 0);
+        for (size_t i = 0; i < sizeof broken / sizeof *broken; i++) {
+            lent to = lend(large_tables, broken[i], front != 0);
+            check(find_part(from, UZ_TAGS, to).refused == UZ_BAD_ARGUMENT, "part: 14");
+            to = lend(large_tables, broken[i], front != 0);
+            uz_place said = whose_byte(from, 0, 1, 0, 99, to);
+            check(said.refused == UZ_BAD_ARGUMENT, "whose: 14 comes before 15");
+            to = lend(large_tables, broken[i], front != 0);
+            uz_range range = uz_row_payload(from.bytes, from.length, to.table, to.numbers, 0);
+            check(is_range(range, UZ_BAD_ARGUMENT, 0, 0), "payload: 14");
+            check(all_are(to.table, to.table + to.numbers, FILLED), "payload: only read");
+        }
+    }
+
+    about = "a full table";
+    static const unsigned rows[] = {0, 1, 2, UZ_MOST_ROWS - 1, UZ_MOST_ROWS};
+    for (size_t i = 0; i < sizeof rows / sizeof *rows; i++) {
+        for (unsigned front = 0; front < 2; front++) {
+            size_t numbers = (size_t)rows[i] * UZ_WIDTH;
+            recording from = siblings(rows[i], front != 0);
+            lent to = lend(large_tables, numbers, front != 0);
+            uz_part said = find_part(from, UZ_TAGS, to);
+            uz_part due = {0, 0, 1, 12, 2 * (uint64_t)rows[i], rows[i], 0};
+            check(is_part(said, due), "as many elements as rows");
+            check_payloads(from, rows[i], to);
+            if (rows[i] > 0) {
+                uint64_t last = said.at + said.size - 1;
+                uz_place owner = {0, rows[i] - 1, 0, rows[i]};
+                to = lend(large_tables, numbers, front != 0);
+                check(same_place(whose_byte(from, said.at, said.size, 0, last, to), owner),
+                      "the last byte is the last row's");
+            }
+            from = siblings(rows[i] + 1, front != 0);
+            to = lend(large_tables, numbers, front != 0);
+            check(find_part(from, UZ_TAGS, to).refused == UZ_NO_FREE_ROW, "one element more");
+            to = lend(large_tables, numbers, front != 0);
+            uint64_t size = 2 * (uint64_t)rows[i] + 2;
+            check(whose_byte(from, 12, size, 0, 12, to).refused == UZ_NO_FREE_ROW, "and again");
+        }
+    }
+}
+
+// ---- Payloads by any table ----
+
+static void test_payload(void) {
+    about = "a row's payload";
+    static const struct {
+        uint64_t address, header, payload, refused;
+    } asked[] = {
+        {0, 0, 0, 0},
+        {0, 2, 3, 0},
+        {0, 0, 5, 0},
+        {5, 0, 0, 0},
+        {4, 1, 0, 0},
+        {0, 2, 4, 14},
+        {0, 6, 0, 14},
+        {6, 0, 0, 14},
+        {UINT64_MAX, 1, 0, 14},
+        {UINT64_MAX, 0, 6, 14},
+        {0, UINT64_MAX, 1, 14},
+        {1, 1, UINT64_MAX - 1, 14},
+        {UINT64_MAX, UINT64_MAX, UINT64_MAX, 14},
+    };
+    recording from = hex("EC83414243", false);
+    for (size_t i = 0; i < sizeof asked / sizeof *asked; i++) {
+        lent to = lend(large_tables, 2 * UZ_WIDTH, i % 2 != 0);
+        uint64_t *row = to.table + UZ_WIDTH;
+        row[UZ_ADDRESS] = asked[i].address;
+        row[UZ_HEADER] = asked[i].header;
+        row[UZ_PAYLOAD] = asked[i].payload;
+        uint64_t before[2 * UZ_WIDTH];
+        memcpy(before, to.table, sizeof before);
+        // The table can't be written now.
+        allow(to.in, PROT_READ);
+        uz_range said = uz_row_payload(from.bytes, from.length, to.table, to.numbers, 1);
+        bool good = asked[i].refused == 0;
+        check(is_range(said, asked[i].refused, good ? asked[i].address + asked[i].header : 0,
+                       good ? asked[i].payload : 0),
+              "the range of made-up numbers");
+        static const uint64_t beyond[] = {2,         3, UZ_MOST_ROWS, UINT32_MAX, UINT64_MAX / 7,
+                                          UINT64_MAX};
+        for (size_t k = 0; k < sizeof beyond / sizeof *beyond; k++) {
+            said = uz_row_payload(from.bytes, from.length, to.table, to.numbers, beyond[k]);
+            check(is_range(said, UZ_BAD_ARGUMENT, 0, 0), "a row beyond the table");
+        }
+        check(memcmp(before, to.table, sizeof before) == 0 && only_table(to), "a table only read");
+        allow(to.in, PROT_READ | PROT_WRITE);
+    }
+    lent none = lend(large_tables, 0, false);
+    check(
+        is_range(uz_row_payload(from.bytes, from.length, none.table, 0, 0), UZ_BAD_ARGUMENT, 0, 0),
+        "a table without rows");
+    recording empty = placed(from.bytes, 0, false);
+    lent zero = lend(large_tables, UZ_WIDTH, false);
+    memset(zero.table, 0, UZ_WIDTH * sizeof(uint64_t));
+    check(is_range(uz_row_payload(empty.bytes, 0, zero.table, UZ_WIDTH, 0), UZ_ACCEPTED, 0, 0),
+          "an unused row of an empty recording");
+}
+
+// ---- The address question ----
+
+typedef struct {
+    const char *bytes;
+    uint64_t start, size;
+    uint32_t parent;
+    uint64_t address;
+    size_t numbers;
+    uz_place due;
+} place_case;
+
+// clang-format off
+static const place_case place_cases[] = {
+    // A setting of the bench, below a tag.
+    {"67C88C45A3847261696C4487823556", 0, 15, 0x7373, 8, 28, {0, 1, 1, 3}},
+    {"67C88C45A3847261696C4487823556", 0, 15, 0x7373, 0, 28, {0, 0, 0, 3}},
+    {"67C88C45A3847261696C4487823556", 3, 12, 0x67C8, 14, 14, {0, 1, 1, 2}},
+    {"67C88C45A3847261696C4487823556", 0, 14, 0x7373, 8, 28, {3, 0, 0, 0}},
+    // 14 for the start; the end itself is allowed, and no address lies there.
+    {"EC80", 3, 2, 0, 3, 7, {14, 0, 0, 0}},
+    {"EC80", 3, 2, 0, 9, 7, {14, 0, 0, 0}},
+    {"EC80", UINT64_MAX, 1, 0, UINT64_MAX, 7, {14, 0, 0, 0}},
+    {"EC80", 2, 0, 0, 2, 7, {15, 0, 0, 0}},
+    {"EC80", 2, 1, 0, 2, 7, {1, 0, 0, 0}},
+    // 15 comes before the reading.
+    {"EC80", 0, 2, 0, 2, 7, {15, 0, 0, 0}},
+    {"EC80", 1, 1, 0, 0, 7, {15, 0, 0, 0}},
+    {"0F80", 0, 2, 0, 2, 7, {15, 0, 0, 0}},
+    {"0F80", 0, 2, 0, 1, 7, {2, 0, 0, 0}},
+    {"EC80", 0, 0, 0, 0, 7, {15, 0, 0, 0}},
+    {"EC80", 0, 100, 0, 50, 7, {1, 0, 0, 0}},
+    {"EC80", 1, UINT64_MAX, 0, UINT64_MAX, 7, {1, 0, 0, 0}},
+    {"EC80", 0, 2, 0, UINT64_MAX, 7, {15, 0, 0, 0}},
+    // Document 01's P9 to P12, and the order of 13 and the body.
+    {"B580", 0, 2, 0, 0, 7, {5, 0, 0, 0}},
+    {"446187", 0, 3, 0, 0, 7, {6, 0, 0, 0}},
+    {"45A383EDA080", 0, 6, 0, 0, 7, {7, 0, 0, 0}},
+    {"838900", 0, 3, 0, 0, 7, {4, 0, 0, 0}},
+    {"67C88445A3824142", 0, 7, 0, 0, 14, {3, 0, 0, 0}},
+    {"67C88445A38241", 0, 7, 0, 0, 14, {1, 0, 0, 0}},
+    {"1654AE6B82E080", 0, 7, SEGMENT, 6, 14, {0, 1, 0, 2}},
+    {"EC81", 0, 2, 0, 0, 0, {13, 0, 0, 0}},
+    {"AEA0AE9EAE9CAE9AAE98AE96AE94AE92AE90AE8EAE8CAE8AAE88AE86AE84AE82AE80",
+     0, 34, 0, 0, 119, {12, 0, 0, 0}},
+};
+// clang-format on
+
+static void test_places(void) {
+    for (size_t i = 0; i < sizeof place_cases / sizeof *place_cases; i++) {
+        const place_case *asked = &place_cases[i];
+        about = asked->bytes;
+        for (unsigned front = 0; front < 2; front++) {
+            recording from = hex(asked->bytes, front != 0);
+            lent to = lend(small_tables, asked->numbers, front != 0);
+            uz_place said =
+                whose_byte(from, asked->start, asked->size, asked->parent, asked->address, to);
+            check(same_place(said, asked->due), "the worked reply");
+        }
+    }
+    about = "P12";
+    lent to = lend(small_tables, 2 * UZ_WIDTH, false);
+    whose_byte(hex("1654AE6B82E080", false), 0, 7, SEGMENT, 6, to);
+    check(cell(to, 1, UZ_ID) == 0xE0 && cell(to, 1, UZ_KIND) == UZ_BINARY, "E0 is binary there");
+}
+
+// Every byte of every part, and of every master inside it.
+static void test_sample(void) {
+    about = "the sample";
+    static const uint64_t rows[] = {9, 3, 99, 12};
+    written *made = clean();
+    put_sample(made);
+    recording from = placed(made->bytes, made->length, false);
+    static uint64_t kept[UZ_MOST_NUMBERS];
+    for (size_t i = 0; i < 4; i++) {
+        size_t numbers = (size_t)rows[i] * UZ_WIDTH;
+        lent to = lend(small_tables, numbers, false);
+        uz_part found = find_part(from, parts[i], to);
+        check(found.found == 1 && found.rows == rows[i] && found.heads == 2, "the part is found");
+        check_payloads(from, found.rows, to);
+        memcpy(kept, to.table, numbers * sizeof *kept);
+        for (uint64_t k = 0; k < found.size; k++) {
+            to = lend(small_tables, numbers, k % 2 != 0);
+            uz_place said = whose_byte(from, found.at, found.size, parents[i], found.at + k, to);
+            check(said.refused == UZ_ACCEPTED && said.rows == rows[i], "a byte of the part");
+            check(memcmp(kept, to.table, numbers * sizeof *kept) == 0, "the rows of the search");
+        }
+        static const int64_t outside[] = {-1, 0};
+        for (size_t k = 0; k < 2; k++) {
+            uint64_t address = found.at + (uint64_t)outside[k] + (k == 1 ? found.size : 0);
+            to = lend(small_tables, numbers, false);
+            uz_place said = whose_byte(from, found.at, found.size, parents[i], address, to);
+            check(said.refused == UZ_OUTSIDE, "a byte beside the part");
+        }
+        for (uint64_t row = 0; row < found.rows; row++) {
+            const uint64_t *master = kept + row * UZ_WIDTH;
+            uint64_t at = master[UZ_ADDRESS] + master[UZ_HEADER];
+            if (master[UZ_KIND] != UZ_MASTER || master[UZ_PAYLOAD] == 0)
+                continue;
+            to = lend(small_tables, numbers, false);
+            uz_place said =
+                whose_byte(from, at, master[UZ_PAYLOAD], (uint32_t)master[UZ_ID], at, to);
+            check(said.refused == UZ_ACCEPTED && said.row == 0, "the payload of a master");
+        }
+    }
+}
+
+// ---- The longest recording ----
+
+// Only the first and the last page can be read: what is passed over is not touched.
+static void test_longest(void) {
+    about = "the longest recording";
+    size_t length = (size_t)UZ_MOST_BYTES;
+    arena all = make_arena(length + 1);
+    allow(all, PROT_NONE);
+    arena front = {all.first, PAGE};
+    arena back = {all.first + all.size - PAGE, PAGE};
+    allow(front, PROT_READ | PROT_WRITE);
+    allow(back, PROT_READ | PROT_WRITE);
+    // The recording ends at the inaccessible page, so it begins one byte behind the front.
+    uint8_t *bytes = all.first + all.size - length;
+    written *to = clean();
+    put_id(to, SEGMENT);
+    put_number(to, UINT64_C(0x0100000000000000) | (length - 12), 8);
+    put_id(to, VOID);
+    put_number(to, UINT64_C(0x0100000000000000) | (length - 12 - 9 - 12), 8);
+    memcpy(bytes, to->bytes, to->length);
+    to = clean();
+    put_hex(to, "1254C36787737384EC824142");
+    memcpy(bytes + length - to->length, to->bytes, to->length);
+    allow(front, PROT_READ);
+    allow(back, PROT_READ);
+
+    recording from = {bytes, length};
+    lent table = lend(small_tables, 2 * UZ_WIDTH, false);
+    uz_part due = {0, 0, 1, length - 7, 7, 2, 0};
+    about = "the longest recording: Tags at its end";
+    uz_part said = uz_find_part(from.bytes, from.length, UZ_TAGS, table.table, table.numbers);
+    check(is_part(said, due), "the reply");
+    check(are_rows(from, said.at, said.size, said.rows, table), "the rows");
+    uz_range range = uz_row_payload(from.bytes, from.length, table.table, table.numbers, 1);
+    check(is_range(range, UZ_ACCEPTED, length - 2, 2), "the last payload");
+    table = lend(small_tables, 2 * UZ_WIDTH, false);
+    uz_place owner = {0, 1, 1, 2};
+    check(same_place(whose_byte(from, length - 7, 7, UZ_UNDER_TAGS, length - 1, table), owner),
+          "the last byte");
+
+    // One byte more is refused before any byte is looked at.
+    about = "a recording that is too long";
+    allow(all, PROT_NONE);
+    static const size_t long_by[] = {1, 2, (size_t)1 << 32, SIZE_MAX / 2 - (((size_t)1 << 32) - 1)};
+    for (size_t i = 0; i < sizeof long_by / sizeof *long_by; i++) {
+        recording none = {all.first, length + long_by[i]};
+        table = lend(small_tables, UZ_WIDTH, false);
+        check(find_part(none, UZ_TAGS, table).refused == UZ_BAD_ARGUMENT, "part");
+        table = lend(small_tables, UZ_WIDTH, false);
+        check(whose_byte(none, 0, 1, 0, 0, table).refused == UZ_BAD_ARGUMENT, "whose");
+        table = lend(small_tables, UZ_WIDTH, false);
+        memset(table.table, 0, UZ_WIDTH * sizeof(uint64_t));
+        range = uz_row_payload(none.bytes, none.length, table.table, table.numbers, 0);
+        check(is_range(range, UZ_BAD_ARGUMENT, 0, 0), "payload");
+    }
+    munmap(all.first - PAGE, all.size + 2 * (size_t)PAGE);
+}
+
+// ---- Damage ----
+
+// A generator of our own, so that every machine damages alike (xorshift64*).
+static uint64_t state = 1;
+
+static uint64_t any(uint64_t below) {
+    state ^= state >> 12;
+    state ^= state << 25;
+    state ^= state >> 27;
+    return (state * UINT64_C(0x2545F4914F6CDD1D) >> 32) % below;
+}
+
+// Changes up to four bytes, and cuts one copy in four short.
+static size_t damage(uint8_t *bytes, size_t length) {
+    static const uint8_t edges[] = {0x00, 0x01, 0x0F, 0x10, 0x7F, 0x80, 0x81, 0x82, 0xEC, 0xFF};
+    for (uint64_t n = 1 + any(4); n > 0; n--) {
+        uint8_t *byte = bytes + any(length);
+        switch (any(3)) {
+        case 0:
+            *byte = (uint8_t)any(256);
+            break;
+        case 1:
+            *byte = (uint8_t)(*byte ^ 1u << any(8));
+            break;
+        default:
+            *byte = edges[any(sizeof edges)];
+        }
+    }
+    return any(4) == 0 ? (size_t)any(length + 1) : length;
+}
+
+static lent lend_any(size_t rows) {
+    bool front = any(2) == 0;
+    return lend(small_tables, rows * UZ_WIDTH, front);
+}
+
+static void ask_damaged(recording from, uint64_t *accepted) {
+    size_t room = small_tables.size / sizeof(uint64_t) / UZ_WIDTH;
+    for (size_t i = 0; i < 4; i++) {
+        size_t rows = any(3) == 0 ? (size_t)any(40) : room;
+        lent to = lend_any(rows);
+        uz_part found = find_part(from, parts[i], to);
+        *accepted += found.refused == UZ_ACCEPTED;
+        check_payloads(from, found.rows, to);
+        if (found.size == 0)
+            continue;
+        // The address question gives the same table.
+        static uint64_t kept[UZ_MOST_NUMBERS];
+        memcpy(kept, to.table, to.numbers * sizeof *kept);
+        for (unsigned k = 0; k < 3; k++) {
+            uint64_t address = found.at + any(found.size);
+            to = lend_any(rows);
+            uz_place said = whose_byte(from, found.at, found.size, parents[i], address, to);
+            check(said.refused == UZ_ACCEPTED, "a byte of an accepted part has an owner");
+            check(memcmp(kept, to.table, to.numbers * sizeof *kept) == 0,
+                  "one table for a payload");
+        }
+    }
+    // Any payload at all, and addresses in its first half.
+    static const uint32_t above[] = {0, SEGMENT, UZ_TRACKS, UZ_CHAPTERS, 0xB6, 0x7373};
+    uint64_t start = any(from.length + 2);
+    uint64_t size = any(from.length + 2);
+    if (any(4) == 0)
+        size = UINT64_MAX - any(9);
+    uint32_t parent = above[any(sizeof above / sizeof *above)];
+    uint64_t address = start + any(size / 2 + 1);
+    whose_byte(from, start, size, parent, address, lend_any((size_t)any(60)));
+}
+
+static void test_damage(const char *name, const uint8_t *bytes, size_t length, unsigned copies) {
+    about = name;
+    uint8_t *copy = malloc(length + 1);
+    if (copy == NULL)
+        give_up("there is no memory for a copy");
+    uint64_t accepted = 0;
+    for (unsigned n = 0; n < copies; n++) {
+        memcpy(copy, bytes, length);
+        size_t left = n == 0 ? length : damage(copy, length);
+        recording from = placed(copy, left, n % 2 != 0);
+        ask_damaged(from, &accepted);
+        if (left > 0)
+            check(memcmp(copy, from.bytes, left) == 0, "the recording is not written");
+    }
+    free(copy);
+    printf("faces: %s: %u copies, %" PRIu64 " of %u searches accepted\n", name, copies, accepted,
+           4 * copies);
+}
+
+static void test_file(const char *name) {
+    static uint8_t bytes[MOST_FILE];
+    FILE *file = fopen(name, "rb");
+    size_t length = file != NULL ? fread(bytes, 1, sizeof bytes, file) : 0;
+    if (file == NULL || ferror(file) || fgetc(file) != EOF)
+        give_up("a file can't be read, or is longer than 1 MiB");
+    fclose(file);
+    const char *slash = strrchr(name, '/');
+    if (length > 0)
+        test_damage(slash != NULL ? slash + 1 : name, bytes, length, DAMAGED_FILE);
+}
+
+int main(int count, char **words) {
+    // What was told stays told if a call ends the program.
+    setvbuf(stdout, NULL, _IOLBF, 0);
+    recordings = make_arena(MOST_FILE);
+    large_tables = make_arena((UZ_MOST_NUMBERS + UZ_WIDTH) * sizeof(uint64_t));
+    small_tables = make_arena(PAGE);
+    test_example();
+    test_parts();
+    test_chain(UZ_MOST_HEADS, UZ_ACCEPTED);
+    test_chain(UZ_MOST_HEADS + 1, UZ_TOO_MANY_HEADS);
+    test_tables();
+    test_payload();
+    test_places();
+    test_sample();
+    test_longest();
+    static written sample;
+    put_sample(&sample);
+    test_damage("the sample", sample.bytes, sample.length, DAMAGED);
+    for (int i = 1; i < count; i++)
+        test_file(words[i]);
+    printf("faces: %" PRIu64 " checks, %" PRIu64 " wrong\n", checks, wrong);
+    return wrong != 0 || fflush(stdout) != 0;
+}
