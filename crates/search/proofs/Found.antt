@@ -1,6 +1,6 @@
 -- What a search says of the heads that it read and of the part that it found (`HeadsAllowed`, `HeadsCounted`,
 -- `FoundIsPart`, `FoundIsRead`). Assumes nothing.
-use Prim.Native.Nat.{ℕ}
+use Prim.Native.Nat.{ℕ, _/_, _≤_}
 use mathlib.Core.Path.{_≡_, refl, sym, ap, _∙_, subst}
 use mathlib.Core.List.{List, [], _∷_}
 use mathlib.Core.Bool.{Bool, true, false, cond, not}
@@ -11,14 +11,16 @@ use Rattle.header.specs.Reply.{accepted}
 use Rattle.elements.specs.Forest.{Forest, count}
 use Rattle.elements.specs.Reading.{Outcome, done}
 use Rattle.elements.specs.Reading.{refused as unread}
+use Rattle.elements.specs.Rows.{rows, width, rowsOf}
 use Rattle.elements.specs.Promise.{allowed, filled, readOf}
 use Rattle.elements.specs.Promise.{replyOf as readReply, tableOf as readTable}
+use Rattle.elements.proofs.Readback.{accepted-read}
 use Rattle.seektable.specs.Lookup.{Place}
 use Rattle.seektable.specs.Lookup.{found as foundAt, absent as absentAt, stopped as stoppedAt}
 use Rattle.seektable.specs.Theorems.{GoodHeads}
 use Rattle.search.specs.Walk.{placeOf}
 use Rattle.search.specs.Part.{parentOf, Search, found, absent, refused, onParent, onPlace, searchOf}
-use Rattle.search.specs.Part.{headsOf, replyOf, tableOf, told}
+use Rattle.search.specs.Part.{headsOf, replyOf, tableOf, told, PartPromise}
 use Rattle.search.specs.Theorems.{HeadsAllowed, HeadsCounted, FoundBy, FoundIsPart, FoundIsRead}
 use Rattle.search.specs.declared.part.Parent.{Parent}
 use Rattle.search.specs.declared.part.Parent.the-variants.{Id, NoPart}
@@ -157,4 +159,36 @@ found-is-read s part parent t at size rows n t′ p i =
     record {
       reply = ap (λ (k : ℕ). accepted (k ∷ [])) r ∙ sym (ap readReply o);
       table = p .table ∙ ap (tableOf (length t)) q ∙ sym (ap (readTable at (length t)) o);
+    }
+
+-- What the table of a part that was found holds: the rows of its elements, and no more than it has room for.
+pub record Holding (s : List ℕ) (part numbers at size n : ℕ) (t′ : List ℕ) : Type 0 where
+  pub heads : List ℕ
+  pub forest : Forest
+  pub searched : searchOf s part numbers ≡ found at size heads forest
+  pub counted : n ≡ count forest
+  pub rows-are : rowsOf t′ n ≡ rows 0 0 at 0 forest
+  pub fits : n ≤ numbers / width
+
+-- A payload has one reading.
+same-forest : (f g : Forest) {o : Outcome} → o ≡ done f → o ≡ done g → f ≡ g
+same-forest f g p q = cc
+
+pub found-holds :
+    (s : List ℕ) (part : ℕ) (t : List ℕ) (at size n heads : ℕ) (t′ : List ℕ)
+    → PartPromise s part t (Found at size n heads) t′ → Holding s part (length t) at size n t′
+found-holds s part t at size n k t′ p =
+    let (heads, f, q, r, l) = reply-found at size n k (searchOf s part (length t)) (p .reply) in
+    let g = sought s part (length t) at size heads f q in
+    let i = found-is-read s part (g .parent) t at size n k t′ p (g .named) in
+    let a = accepted-read s at size (g .parent) t n t′ i in
+    let w = allowed-at s at (length t) (g .within) (found-inside s part at size heads (g .place)) in
+    let e = same-forest f (a .forest) (read-at s at size (g .parent) (length t) w ∙ g .read) (a .outcome) in
+    record {
+      heads = heads;
+      forest = f;
+      searched = q;
+      counted = r;
+      rows-are = a .rows-are ∙ ap (rows 0 0 at 0) (sym e);
+      fits = a .fits;
     }

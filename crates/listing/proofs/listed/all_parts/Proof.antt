@@ -1,0 +1,49 @@
+-- `all_parts` meets its contract: the four parts, one after another. Assumes nothing.
+use native.Mathlib.Omega.{arith}
+use Rattle.listing.specs.Listing.{allParts}
+use Rattle.listing.proofs.Pages.{then}
+use borrow.Author.Needs.{needs}
+use Rattle.listing.proofs.listed.all_parts.Statement.{statement}
+use Rattle.listing.proofs.listed.all_parts.Tie as tie
+
+part-lines-requires : tie.Need-part-lines-requires
+part-lines-requires c κs = search needs
+
+part-lines-requires-2 : tie.Need-part-lines-requires-2
+part-lines-requires-2 c κs = search needs
+
+part-lines-requires-3 : tie.Need-part-lines-requires-3
+part-lines-requires-3 c κs = search needs
+
+part-lines-requires-4 : tie.Need-part-lines-requires-4
+part-lines-requires-4 c κs = search needs
+
+same-length : tie.Need-same-length
+same-length c = search needs
+
+same-length-2 : tie.Need-same-length-2
+same-length-2 c = search needs
+
+returns : tie.Need-returns
+unfolding allParts
+returns c =
+    let p = c .before .before .before .before .before .before .before .before .before .before .before .before .before .before .before .before .before .before .before .before .before .before .before .before .before .before .before .before .before .before .before .pre in
+    let (tracks, a) = c .before .before .before .before .before .before .before .before .before .before .before .before .before .before .before .before .before .before .before .before .before .before .before .before .before .part-lines .ensures in
+    let (attachments, b) = c .before .before .before .before .before .before .before .before .before .before .before .before .before .before .before .before .before .before .part-lines2 .ensures in
+    let (chapters, d) = c .before .before .before .before .before .before .before .before .before .before .before .part-lines3 .ensures in
+    let (tags, e) = c .before .before .before .before .part-lines4 .ensures in
+    let two = then _ _ _ _ _ _ _ _ (omega arith) tracks attachments in
+    let three = then _ _ _ _ _ _ _ _ (omega arith) two chapters in
+    (then _ _ _ _ _ _ _ _ (omega arith) three tags, omega arith)
+
+pub all-parts-spec : {M : Type 1} → statement M
+all-parts-spec =
+    tie.close
+    (tie.spec
+    part-lines-requires
+    part-lines-requires-2
+    part-lines-requires-3
+    part-lines-requires-4
+    same-length
+    same-length-2
+    returns)

@@ -1,0 +1,58 @@
+-- `listing` meets its contract: 14, or the first line and the parts. Assumes nothing.
+use native.Mathlib.Omega.{arith}
+use Rattle.listing.proofs.Pages.{then}
+use Rattle.listing.proofs.PartTexts.{listing-is, too-long, not-too-long}
+use borrow.Author.Needs.{needs}
+use Rattle.listing.proofs.listed.listing.Statement.{statement}
+use Rattle.listing.proofs.listed.listing.Tie as tie
+
+slice-aggregate-put : tie.Need-slice-aggregate-put
+slice-aggregate-put c = search needs
+
+put-requires : tie.Need-put-requires
+put-requires c κs = search needs
+
+returns : tie.Need-returns
+returns c = listing-is _ _ _ _ _ (too-long _ (c .before .before .before .if1 .taken)) (c .put .ensures)
+
+slice-aggregate-put-decimal : tie.Need-slice-aggregate-put-decimal
+slice-aggregate-put-decimal c = search needs
+
+put-decimal-requires : tie.Need-put-decimal-requires
+put-decimal-requires c κs = search needs
+
+slice-aggregate-put-2 : tie.Need-slice-aggregate-put-2
+slice-aggregate-put-2 c = search needs
+
+put-requires-2 : tie.Need-put-requires-2
+put-requires-2 c κs = search needs
+
+slice-aggregate-all-parts : tie.Need-slice-aggregate-all-parts
+slice-aggregate-all-parts c = search needs
+
+all-parts-requires : tie.Need-all-parts-requires
+all-parts-requires c κs = search needs
+
+returns-2 : tie.Need-returns-2
+returns-2 c =
+    let (first, a) = c .before .before .before .before .before .before .before .put-decimal .ensures in
+    let end = c .before .before .before .before .put2 .ensures in
+    let e = end .ends in
+    let (parts, b) = c .before .all-parts .ensures in
+    let line = then _ _ _ _ _ _ _ _ (search needs) first end in
+    listing-is _ _ _ _ _ (not-too-long _ (c .before .before .before .before .before .before .before .before .before .before .if1 .left)) (then _ _ _ _ _ _ _ _ (search needs) line parts)
+
+pub listing-spec : {M : Type 1} → statement M
+listing-spec =
+    tie.close
+    (tie.spec
+    slice-aggregate-put
+    put-requires
+    returns
+    slice-aggregate-put-decimal
+    put-decimal-requires
+    slice-aggregate-put-2
+    put-requires-2
+    slice-aggregate-all-parts
+    all-parts-requires
+    returns-2)

@@ -1,0 +1,62 @@
+-- `part_place` meets its contract: three labelled numbers and the line's end. Assumes nothing.
+use native.Mathlib.Omega.{arith}
+use Rattle.listing.specs.Listing.{partPlace}
+use Rattle.listing.proofs.Pages.{then, then-labelled}
+use borrow.Author.Needs.{needs}
+use Rattle.listing.proofs.listed.part_place.Statement.{statement}
+use Rattle.listing.proofs.listed.part_place.Tie as tie
+
+slice-aggregate-put-decimal : tie.Need-slice-aggregate-put-decimal
+slice-aggregate-put-decimal c = search needs
+
+put-decimal-requires : tie.Need-put-decimal-requires
+put-decimal-requires c κs = search needs
+
+slice-aggregate-put-decimal-2 : tie.Need-slice-aggregate-put-decimal-2
+slice-aggregate-put-decimal-2 c = search needs
+
+put-decimal-requires-2 : tie.Need-put-decimal-requires-2
+put-decimal-requires-2 c κs = search needs
+
+slice-aggregate-put-decimal-3 : tie.Need-slice-aggregate-put-decimal-3
+slice-aggregate-put-decimal-3 c = search needs
+
+put-decimal-requires-3 : tie.Need-put-decimal-requires-3
+put-decimal-requires-3 c κs = search needs
+
+slice-aggregate-put : tie.Need-slice-aggregate-put
+slice-aggregate-put c = search needs
+
+put-requires : tie.Need-put-requires
+put-requires c κs = search needs
+
+same-length : tie.Need-same-length
+same-length c = search needs
+
+returns : tie.Need-returns
+unfolding partPlace
+returns c =
+    let p = c .before .before .before .before .before .before .before .before .before .before .before .before .before .before .before .before .before .before .before .before .before .pre in
+    let (at, a) = c .before .before .before .before .before .before .before .before .before .before .before .before .before .before .before .before .before .put-decimal .ensures in
+    let (size, s) = c .before .before .before .before .before .before .before .before .before .before .before .before .put-decimal2 .ensures in
+    let (count, k) = c .before .before .before .before .before .before .before .put-decimal3 .ensures in
+    let end = c .before .before .put .ensures in
+    let e = end .ends in
+    let two = then-labelled _ _ _ _ _ _ _ _ _ (omega arith) at size in
+    let three = then-labelled _ _ _ _ _ _ _ _ _ (omega arith) two count in
+    (then _ _ _ _ _ _ _ _ (omega arith) three end, omega arith)
+
+pub part-place-spec : {M : Type 1} → statement M
+part-place-spec =
+    tie.close
+    (tie.spec
+    slice-aggregate-put-decimal
+    put-decimal-requires
+    slice-aggregate-put-decimal-2
+    put-decimal-requires-2
+    slice-aggregate-put-decimal-3
+    put-decimal-requires-3
+    slice-aggregate-put
+    put-requires
+    same-length
+    returns)

@@ -1,0 +1,54 @@
+-- `row_line` meets its contract: where the row is, its kind, its id. Assumes nothing.
+use native.Mathlib.Omega.{arith}
+use Rattle.listing.specs.Listing.{rowLine}
+use Rattle.listing.proofs.Pages.{then, then-labelled}
+use borrow.Author.Needs.{needs}
+use Rattle.listing.proofs.listed.row_line.Statement.{statement}
+use Rattle.listing.proofs.listed.row_line.Tie as tie
+
+row-place-requires : tie.Need-row-place-requires
+row-place-requires c κs = search needs
+
+put-kind-requires : tie.Need-put-kind-requires
+put-kind-requires c κs = search needs
+
+slice-aggregate-put-hexadecimal : tie.Need-slice-aggregate-put-hexadecimal
+slice-aggregate-put-hexadecimal c = search needs
+
+put-hexadecimal-requires : tie.Need-put-hexadecimal-requires
+put-hexadecimal-requires c κs = search needs
+
+slice-aggregate-put : tie.Need-slice-aggregate-put
+slice-aggregate-put c = search needs
+
+put-requires : tie.Need-put-requires
+put-requires c κs = search needs
+
+same-length : tie.Need-same-length
+same-length c = search needs
+
+returns : tie.Need-returns
+unfolding rowLine
+returns c =
+    let p = c .before .before .before .before .before .before .before .before .before .before .before .before .before .before .before .before .before .before .before .pre in
+    let (place, a) = c .before .before .before .before .before .before .before .before .before .before .before .before .before .before .before .before .row-place .ensures in
+    let (kind, k) = c .before .before .before .before .before .before .before .before .before .before .before .before .put-kind .ensures in
+    let (id, i) = c .before .before .before .before .before .before .before .put-hexadecimal .ensures in
+    let end = c .before .before .put .ensures in
+    let e = end .ends in
+    let two = then-labelled _ _ _ _ _ _ _ _ _ (omega arith) place kind in
+    let three = then-labelled _ _ _ _ _ _ _ _ _ (omega arith) two id in
+    (then _ _ _ _ _ _ _ _ (omega arith) three end, omega arith)
+
+pub row-line-spec : {M : Type 1} → statement M
+row-line-spec =
+    tie.close
+    (tie.spec
+    row-place-requires
+    put-kind-requires
+    slice-aggregate-put-hexadecimal
+    put-hexadecimal-requires
+    slice-aggregate-put
+    put-requires
+    same-length
+    returns)

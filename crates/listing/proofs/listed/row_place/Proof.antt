@@ -1,0 +1,61 @@
+-- `row_place` meets its contract: four numbers, a space between them. Assumes nothing.
+use native.Mathlib.Omega.{arith}
+use Rattle.listing.specs.Listing.{rowPlace}
+use Rattle.listing.proofs.Pages.{then-labelled}
+use borrow.Author.Needs.{needs}
+use Rattle.listing.proofs.listed.row_place.Statement.{statement}
+use Rattle.listing.proofs.listed.row_place.Tie as tie
+
+slice-aggregate-put-decimal : tie.Need-slice-aggregate-put-decimal
+slice-aggregate-put-decimal c = search needs
+
+put-decimal-requires : tie.Need-put-decimal-requires
+put-decimal-requires c κs = search needs
+
+slice-aggregate-put-decimal-2 : tie.Need-slice-aggregate-put-decimal-2
+slice-aggregate-put-decimal-2 c = search needs
+
+put-decimal-requires-2 : tie.Need-put-decimal-requires-2
+put-decimal-requires-2 c κs = search needs
+
+slice-aggregate-put-decimal-3 : tie.Need-slice-aggregate-put-decimal-3
+slice-aggregate-put-decimal-3 c = search needs
+
+put-decimal-requires-3 : tie.Need-put-decimal-requires-3
+put-decimal-requires-3 c κs = search needs
+
+slice-aggregate-put-decimal-4 : tie.Need-slice-aggregate-put-decimal-4
+slice-aggregate-put-decimal-4 c = search needs
+
+put-decimal-requires-4 : tie.Need-put-decimal-requires-4
+put-decimal-requires-4 c κs = search needs
+
+same-length : tie.Need-same-length
+same-length c = search needs
+
+returns : tie.Need-returns
+unfolding rowPlace
+returns c =
+    let p = c .before .before .before .before .before .before .before .before .before .before .before .before .before .before .before .before .before .before .before .before .before .pre in
+    let (address, a) = c .before .before .before .before .before .before .before .before .before .before .before .before .before .before .before .before .before .put-decimal .ensures in
+    let (header, h) = c .before .before .before .before .before .before .before .before .before .before .before .before .put-decimal2 .ensures in
+    let (payload, l) = c .before .before .before .before .before .before .before .put-decimal3 .ensures in
+    let (depth, d) = c .before .before .put-decimal4 .ensures in
+    let two = then-labelled _ _ _ _ _ _ _ _ _ (omega arith) address header in
+    let three = then-labelled _ _ _ _ _ _ _ _ _ (omega arith) two payload in
+    (then-labelled _ _ _ _ _ _ _ _ _ (omega arith) three depth, omega arith)
+
+pub row-place-spec : {M : Type 1} → statement M
+row-place-spec =
+    tie.close
+    (tie.spec
+    slice-aggregate-put-decimal
+    put-decimal-requires
+    slice-aggregate-put-decimal-2
+    put-decimal-requires-2
+    slice-aggregate-put-decimal-3
+    put-decimal-requires-3
+    slice-aggregate-put-decimal-4
+    put-decimal-requires-4
+    same-length
+    returns)

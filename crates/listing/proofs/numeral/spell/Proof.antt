@@ -1,0 +1,100 @@
+-- `spell` meets its contract: the digits from the last to the first. Assumes nothing.
+use Prim.Native.Nat.{_-_}
+use native.Mathlib.Omega.{arith}
+use mathlib.Core.Path.{sym, _∙_}
+use lib.ListN.{length-set}
+use native.Mathlib.Nat.{mod-lt, div-lt-self}
+use Rattle.listing.proofs.Numerals.{Spelling, spelling-starts, spelling-goes-on, spelling-ends}
+use borrow.Author.Needs.{needs}
+use Rattle.listing.proofs.numeral.spell.Statement.{statement}
+use Rattle.listing.proofs.numeral.spell.Tie as tie
+
+abbrev Inv-loop : tie.InvT-loop
+Inv-loop value base text₀ first₀ rest₀ text first rest = Spelling base value text first rest
+
+abbrev μ-loop : tie.MeasureT-loop
+μ-loop value base text₀ first₀ rest₀ text first rest = rest
+
+loop-holds : tie.Need-loop-holds Inv-loop μ-loop
+loop-holds c =
+    let start′ = c .before in
+    spelling-starts _ (start′ .pre .1 .0) _ _ (start′ .pre .0) (start′ .pre .1 .1 .1)
+
+sub-first : tie.Need-sub-first Inv-loop μ-loop
+sub-first c = let i = c .before .loop .inv .some in omega arith
+
+rem-glyph : tie.Need-rem-glyph Inv-loop μ-loop
+rem-glyph c = search needs
+
+glyph-requires : tie.Need-glyph-requires Inv-loop μ-loop
+glyph-requires c κs =
+    let start′ = c .before .before .before in
+    let b = start′ .pre in
+    let m = mod-lt (c .before .loop .rest) {m = start′ .args .base} (omega arith) in
+    omega arith
+
+slice-write-text : tie.Need-slice-write-text Inv-loop μ-loop
+slice-write-text c =
+    let i = c .before .before .loop .inv in
+    let l = i .long in
+    let f = i .few in
+    let n = i .some in
+    omega arith
+
+div-rest : tie.Need-div-rest Inv-loop μ-loop
+div-rest c = search needs
+
+loop-less : tie.Need-loop-less Inv-loop μ-loop
+loop-less c =
+    let start′ = c .before .before .before .before in
+    let b = start′ .pre in
+    div-lt-self {n = c .before .before .loop .rest} {k = start′ .args .base} (omega arith) (b .1 .0)
+
+loop-again : tie.Need-loop-again Inv-loop μ-loop
+loop-again c =
+    spelling-goes-on _ (c .before .before .before .before .pre .1 .0) _ _ _ _ _ (c .before .loop-test .taken) (c .glyph .ensures) (c .before .before .loop .inv)
+
+sub-first-2 : tie.Need-sub-first-2 Inv-loop μ-loop
+sub-first-2 c = let i = c .before .loop .inv .some in omega arith
+
+glyph-requires-2 : tie.Need-glyph-requires-2 Inv-loop μ-loop
+glyph-requires-2 c κs = search needs
+
+slice-write-text-2 : tie.Need-slice-write-text-2 Inv-loop μ-loop
+slice-write-text-2 c =
+    let i = c .before .before .loop .inv in
+    let l = i .long in
+    let f = i .few in
+    let n = i .some in
+    omega arith
+
+same-length : tie.Need-same-length Inv-loop μ-loop
+same-length c =
+    let loop′ = c .before .before .loop in
+    length-set (loop′ .text) (loop′ .first - 1) (c .glyph2 .result) ∙ loop′ .inv .long ∙ sym (c .before .before .before .before .pre .0)
+
+returns : tie.Need-returns Inv-loop μ-loop
+returns c =
+    let i = c .before .before .loop .inv in
+    let f = i .few in
+    (omega arith, spelling-ends _ (c .before .before .before .before .pre .1 .0) _ _ _ _ _ (c .before .loop-test .left) (c .glyph2 .ensures) i)
+
+pub spell-spec : {M : Type 1} → statement M
+spell-spec =
+    tie.close
+    (tie.spec
+    Inv-loop
+    μ-loop
+    loop-holds
+    sub-first
+    rem-glyph
+    glyph-requires
+    slice-write-text
+    div-rest
+    loop-less
+    loop-again
+    sub-first-2
+    glyph-requires-2
+    slice-write-text-2
+    same-length
+    returns)

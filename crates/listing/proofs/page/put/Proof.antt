@@ -1,0 +1,79 @@
+-- `put` meets its contract: a copy, byte by byte. Assumes nothing.
+use Prim.Native.Nat.{_-_, _≤_}
+use mathlib.Core.Path.{_≡_}
+use native.Mathlib.Omega.{arith}
+use lib.ListN.{length}
+use lib.Seq.{paste, paste-zero}
+use Rattle.listing.proofs.Pages.{copied, copied-on, copied-long}
+use borrow.Author.Needs.{needs}
+use Rattle.listing.proofs.page.put.Statement.{statement}
+use Rattle.listing.proofs.page.put.Tie as tie
+
+abbrev Inv-loop : tie.InvT-loop
+Inv-loop page₀ held bytes i₀ page i = (i ≤ length bytes) × (page ≡ paste page₀ held bytes i)
+
+abbrev μ-loop : tie.MeasureT-loop
+μ-loop page₀ held bytes i₀ page i = length bytes - i
+
+loop-holds : tie.Need-loop-holds Inv-loop μ-loop
+loop-holds c = (omega arith, paste-zero (c .args .page .now) (c .args .held) (c .args .bytes .now))
+
+shared-slice-read-page : tie.Need-shared-slice-read-page Inv-loop μ-loop
+shared-slice-read-page c = search needs
+
+add-page : tie.Need-add-page Inv-loop μ-loop
+add-page c =
+    let p = c .before .before .before .pre in
+    let t = c .before .loop-test .taken in
+    search needs
+
+slice-write-page : tie.Need-slice-write-page Inv-loop μ-loop
+slice-write-page c =
+    let i = c .before .before .loop .inv in
+    let p = c .before .before .before .pre in
+    let t = c .before .loop-test .taken in
+    let l = copied-long _ _ _ _ _ p (i .0) (i .1) in
+    omega arith
+
+add-i : tie.Need-add-i Inv-loop μ-loop
+add-i c = search needs
+
+loop-less : tie.Need-loop-less Inv-loop μ-loop
+loop-less c = search needs
+
+loop-again : tie.Need-loop-again Inv-loop μ-loop
+loop-again c =
+    let i = c .before .before .loop .inv in
+    let p = c .before .before .before .pre in
+    let t = c .before .loop-test .taken in
+    (omega arith, copied-on _ _ _ _ _ (omega arith) t (i .1))
+
+add-result : tie.Need-add-result Inv-loop μ-loop
+add-result c = search needs
+
+same-length : tie.Need-same-length Inv-loop μ-loop
+same-length c =
+    let i = c .before .loop .inv in
+    copied-long _ _ _ _ _ (c .before .before .pre) (i .0) (i .1)
+
+returns : tie.Need-returns Inv-loop μ-loop
+returns c =
+    let i = c .before .loop .inv in
+    copied _ _ _ _ _ (c .before .before .pre) (i .0) (c .loop-test .left) (i .1)
+
+pub put-spec : {M : Type 1} → statement M
+put-spec =
+    tie.close
+    (tie.spec
+    Inv-loop
+    μ-loop
+    loop-holds
+    shared-slice-read-page
+    add-page
+    slice-write-page
+    add-i
+    loop-less
+    loop-again
+    add-result
+    same-length
+    returns)

@@ -1,0 +1,50 @@
+-- `put_decimal` meets its contract: the label, and then the digits. Assumes nothing.
+use mathlib.Core.Path.{_∙_}
+use Rattle.listing.proofs.Pages.{whole-end, labelled-number}
+use borrow.Author.Needs.{needs}
+use Rattle.listing.proofs.page.put_decimal.Statement.{statement}
+use Rattle.listing.proofs.page.put_decimal.Tie as tie
+
+put-requires : tie.Need-put-requires
+put-requires c κs = search needs
+
+slice-aggregate-spell : tie.Need-slice-aggregate-spell
+slice-aggregate-spell c = search needs
+
+spell-requires : tie.Need-spell-requires
+spell-requires c κs = search needs
+
+sub-put : tie.Need-sub-put
+sub-put c = search needs
+
+part-put-start : tie.Need-part-put-start
+part-put-start c = search needs
+
+part-put-end : tie.Need-part-put-end
+part-put-end c = search needs
+
+put-requires-2 : tie.Need-put-requires-2
+put-requires-2 c κs = search needs
+
+same-length : tie.Need-same-length
+same-length c = search needs
+
+returns : tie.Need-returns
+returns c =
+    let spell′ = c .before .before .before .before .before .before .before .spell in
+    labelled-number _ _ _ _ _ _ _ _ 10 _ (c .before .before .before .before .before .before .before .before .before .before .before .before .before .before .before .pre) (c .before .before .before .before .before .before .before .before .before .before .before .put .ensures) (c .before .before .put2 .ensures)
+    (whole-end (spell′ .last .1 .1 .0) (spell′ .result) (spell′ .kept .1 .1 .0) ∙ spell′ .ensures .1)
+
+pub put-decimal-spec : {M : Type 1} → statement M
+put-decimal-spec =
+    tie.close
+    (tie.spec
+    put-requires
+    slice-aggregate-spell
+    spell-requires
+    sub-put
+    part-put-start
+    part-put-end
+    put-requires-2
+    same-length
+    returns)

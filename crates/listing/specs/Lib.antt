@@ -1,0 +1,6 @@
+-- The definitions that the contracts of `listing` cite, and the statements of its theorems.
+pub mod Text
+pub mod Page
+pub mod Listing
+pub mod Promise
+pub mod Theorems

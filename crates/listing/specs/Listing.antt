@@ -1,0 +1,81 @@
+-- The listing of a recording (document 01, 'Program `rows`').
+use Prim.Native.Nat.{ℕ, _+_, _*_}
+use mathlib.Core.Bool.{cond}
+use mathlib.Core.List.{List, [], _∷_, _++_}
+use lib.ListN.{length}
+use lib.Dec.{eqb, ltb}
+use Rattle.header.specs.declared.refusal.Refusal.{Refusal}
+use Rattle.elements.specs.Forest.{count}
+use Rattle.elements.specs.Rows.{rows, width}
+use Rattle.elements.specs.declared.row.Row.{Row}
+use Rattle.search.specs.Part.{Search, found, absent, refused, searchOf}
+use Rattle.listing.specs.Text.{ascii, decimal, hexadecimal}
+
+-- The most bytes of a recording that is listed, and the table that its parts are read into: 1,024 rows.
+abbrev pub mostListed : ℕ
+mostListed = 65536
+
+abbrev pub tableNumbers : ℕ
+tableNumbers = 1024 * width
+
+-- The words for the kinds 1 to 8. A row has no other kind.
+unfoldable pub kindWord : ℕ → List ℕ
+kindWord kind =
+    cond (eqb kind 1) (ascii "master")
+    (cond (eqb kind 2) (ascii "int")
+    (cond (eqb kind 3) (ascii "uint")
+    (cond (eqb kind 4) (ascii "string")
+    (cond (eqb kind 5) (ascii "utf8")
+    (cond (eqb kind 6) (ascii "binary")
+    (cond (eqb kind 7) (ascii "float")
+    (cond (eqb kind 8) (ascii "date") [])))))))
+
+-- Header address, header length, payload length, depth.
+unfoldable pub rowPlace : Row → List ℕ
+rowPlace r =
+    decimal (r .address)
+    ++ ascii " " ++ decimal (r .header)
+    ++ ascii " " ++ decimal (r .payload)
+    ++ ascii " " ++ decimal (r .depth)
+
+-- Then the kind and the id.
+unfoldable pub rowLine : Row → List ℕ
+rowLine r = rowPlace r ++ ascii " " ++ kindWord (r .kind) ++ ascii " " ++ hexadecimal (r .id) ++ ascii "\n"
+
+unfoldable pub rowLines : List Row → List ℕ
+rowLines [] = []
+rowLines (r ∷ rs) = rowLine r ++ rowLines rs
+
+-- The payload's address and size, and how many rows it has.
+unfoldable pub partPlace : ℕ → ℕ → ℕ → List ℕ
+partPlace at size rows =
+    ascii " at " ++ decimal at ++ ascii " size " ++ decimal size ++ ascii " rows " ++ decimal rows ++ ascii "\n"
+
+-- What stands behind a part's id: that it is absent; the refusal's number, without an id; or where it is, and directly
+-- under that its rows.
+unfoldable pub searchText : Search → List ℕ
+searchText (absent heads) = ascii " absent\n"
+searchText (refused e) = ascii " refused " ++ decimal (e .number) ++ ascii "\n"
+searchText (found at size heads f) = partPlace at size (count f) ++ rowLines (rows 0 0 at 0 f)
+
+unfoldable pub partLines : List ℕ → ℕ → List ℕ
+partLines s part = ascii "part " ++ hexadecimal part ++ searchText (searchOf s part tableNumbers)
+
+-- The four parts in their order: Tracks, Attachments, Chapters, Tags.
+unfoldable pub allParts : List ℕ → List ℕ
+allParts s =
+    partLines s 0x1654AE6B ++ partLines s 0x1941A469 ++ partLines s 0x1043A770 ++ partLines s 0x1254C367
+
+-- The listing; a longer recording is refused with 14.
+unfoldable pub listingOf : List ℕ → List ℕ
+listingOf s =
+    cond (ltb mostListed (length s))
+    (ascii "refused 14\n")
+    (ascii "recording " ++ decimal (length s) ++ ascii "\n" ++ allParts s)
+
+-- Room that is enough for a row's line, and for a part's lines with 1,024 rows.
+abbrev pub lineRoom : ℕ
+lineRoom = 128
+
+abbrev pub partRoom : ℕ
+partRoom = 1025 * lineRoom

@@ -1,0 +1,149 @@
+// The lines of the listing.
+ghost use mathlib.Core.Path.{_≡_};
+ghost use mathlib.Core.List.{_++_};
+ghost use Prim.Native.Nat.{_+_, _*_, _/_, _≤_};
+ghost use lib.ListN.{length};
+ghost use Rattle.elements.specs.Rows.{width, rowsOf};
+ghost use Rattle.listing.specs.Page.{Wrote};
+ghost use Rattle.listing.specs.Text.{ascii};
+ghost use Rattle.listing.specs.Listing.{kindWord, rowPlace, rowLine, rowLines, partPlace, partLines, allParts};
+ghost use Rattle.listing.specs.Listing.{lineRoom, partRoom, tableNumbers};
+ghost use Rattle.listing.specs.Promise.{ListingPromise};
+use crate::page::put;
+use crate::page::put_decimal;
+use crate::page::put_hexadecimal;
+use elements::Row;
+use elements::row_at;
+use kinds::ids;
+use search::PartReply;
+use search::find_part;
+
+// The most bytes of a recording that is listed.
+const MOST_LISTED: usize = 65536;
+
+// How many bytes the page has: room for the longest listing.
+pub const PAGE: usize = 524928;
+
+// A space, and the word for a kind's number.
+fn put_kind(page: &mut [u8], held: usize, kind: u64) -> usize
+    requires { ⌜ held + 7 ≤ length (now page) ⌝ }
+    ensures { λ r. ⌜ Wrote (now (page .entry)) held (ascii " " ++ kindWord kind) r (now (page .exit)) ⌝ }
+    ensures { λ r. ⌜ r ≤ held + 7 ⌝ }
+{
+    match kind {
+        1 => put(page, held, b" master"),
+        2 => put(page, held, b" int"),
+        3 => put(page, held, b" uint"),
+        4 => put(page, held, b" string"),
+        5 => put(page, held, b" utf8"),
+        6 => put(page, held, b" binary"),
+        7 => put(page, held, b" float"),
+        8 => put(page, held, b" date"),
+        _ => put(page, held, b" "),
+    }
+}
+
+// Where a row is: header address, header length, payload length, depth.
+fn row_place(page: &mut [u8], held: usize, row: Row) -> usize
+    requires { ⌜ held + 83 ≤ length (now page) ⌝ }
+    ensures { λ r. ⌜ Wrote (now (page .entry)) held (rowPlace row) r (now (page .exit)) ⌝ }
+    ensures { λ r. ⌜ r ≤ held + 83 ⌝ }
+{
+    let address = put_decimal(page, held, b"", row.address);
+    let header = put_decimal(page, address, b" ", row.header);
+    let payload = put_decimal(page, header, b" ", row.payload);
+    put_decimal(page, payload, b" ", row.depth)
+}
+
+// A row: where it is, its kind and its id.
+fn row_line(page: &mut [u8], held: usize, row: Row) -> usize
+    requires { ⌜ held + lineRoom ≤ length (now page) ⌝ }
+    ensures { λ r. ⌜ Wrote (now (page .entry)) held (rowLine row) r (now (page .exit)) ⌝ }
+    ensures { λ r. ⌜ r ≤ held + lineRoom ⌝ }
+{
+    let place = row_place(page, held, row);
+    let kind = put_kind(page, place, row.kind);
+    let id = put_hexadecimal(page, kind, b" ", row.id);
+    put(page, id, b"\n")
+}
+
+// The lines of the table's first rows.
+fn row_lines(page: &mut [u8], held: usize, table: &[u64], rows: usize) -> usize
+    requires { ⌜ rows ≤ length (now table) / width ⌝ }
+    requires { ⌜ held + rows * lineRoom ≤ length (now page) ⌝ }
+    ensures { λ r. ⌜ Wrote (now (page .entry)) held (rowLines (rowsOf (now (table .entry)) rows)) r (now (page .exit)) ⌝ }
+    ensures { λ r. ⌜ r ≤ held + rows * lineRoom ⌝ }
+{
+    let mut end = held;
+    let mut n: usize = 0;
+    while n < rows {
+        end = row_line(page, end, row_at(table, n));
+        n += 1;
+    }
+    end
+}
+
+// Where a part is: its payload's address and size, and how many rows it has.
+fn part_place(page: &mut [u8], held: usize, at: u64, size: u64, rows: u64) -> usize
+    requires { ⌜ held + lineRoom ≤ length (now page) ⌝ }
+    ensures { λ r. ⌜ Wrote (now (page .entry)) held (partPlace at size rows) r (now (page .exit)) ⌝ }
+    ensures { λ r. ⌜ r ≤ held + 80 ⌝ }
+{
+    let placed = put_decimal(page, held, b" at ", at);
+    let sized = put_decimal(page, placed, b" size ", size);
+    let counted = put_decimal(page, sized, b" rows ", rows);
+    put(page, counted, b"\n")
+}
+
+// A part's line, and its rows directly under it.
+fn part_lines(page: &mut [u8], held: usize, recording: &[u8], part: u32, table: &mut [u64]) -> usize
+    requires { ⌜ length (now table) ≡ tableNumbers ⌝ }
+    requires { ⌜ held + partRoom ≤ length (now page) ⌝ }
+    ensures { λ r. ⌜ Wrote (now (page .entry)) held (partLines (now (recording .entry)) part) r (now (page .exit)) ⌝ }
+    ensures { λ r. ⌜ r ≤ held + partRoom ⌝ }
+{
+    let named = put_hexadecimal(page, held, b"part ", part as u64);
+    match find_part(recording, part, table) {
+        PartReply::Absent { heads } => put(page, named, b" absent\n"),
+        PartReply::Refused(refusal) => {
+            let number = put_decimal(page, named, b" refused ", refusal.number as u64);
+            put(page, number, b"\n")
+        }
+        PartReply::Found {
+            at,
+            size,
+            rows,
+            heads,
+        } => {
+            let placed = part_place(page, named, at, size, rows);
+            row_lines(page, placed, table, rows as usize)
+        }
+    }
+}
+
+// The lines of the four parts, each read into the same table.
+fn all_parts(page: &mut [u8], held: usize, recording: &[u8], table: &mut [u64]) -> usize
+    requires { ⌜ length (now table) ≡ tableNumbers ⌝ }
+    requires { ⌜ held + 4 * partRoom ≤ length (now page) ⌝ }
+    ensures { λ r. ⌜ Wrote (now (page .entry)) held (allParts (now (recording .entry))) r (now (page .exit)) ⌝ }
+    ensures { λ r. ⌜ r ≤ held + 4 * partRoom ⌝ }
+{
+    let tracks = part_lines(page, held, recording, ids::TRACKS, table);
+    let attachments = part_lines(page, tracks, recording, ids::ATTACHMENTS, table);
+    let chapters = part_lines(page, attachments, recording, ids::CHAPTERS, table);
+    part_lines(page, chapters, recording, ids::TAGS, table)
+}
+
+// Writes the listing at the start of the page, and answers how many bytes it has. A recording of more than 65,536 bytes
+// is refused with 14.
+pub fn listing(recording: &[u8], page: &mut [u8; 524928]) -> usize
+    ensures { λ r. ⌜ ListingPromise (now (recording .entry)) (now (page .entry)) r (now (page .exit)) ⌝ }
+{
+    if MOST_LISTED < recording.len() {
+        return put(page, 0, b"refused 14\n");
+    }
+    let counted = put_decimal(page, 0, b"recording ", recording.len() as u64);
+    let ended = put(page, counted, b"\n");
+    let mut table = [0u64; 7168];
+    all_parts(page, ended, recording, &mut table)
+}

@@ -1,0 +1,40 @@
+// Lists the recording on standard input: its four parts and their rows (document 01, 'Program `rows`').
+use lines::input::Got;
+use lines::input::read_more;
+use listing::listing;
+
+// One byte more than a recording that is listed may have, so that a longer one is seen to be longer.
+const ROOM: usize = 65537;
+
+// Reads until the room is full or the input ends. A count beyond the room says that a read failed.
+fn read_recording(room: &mut [u8]) -> usize {
+    let mut held: usize = 0;
+    while held < room.len() {
+        match read_more(room, held) {
+            Got::Bytes(n) => {
+                held += n;
+            }
+            Got::Ended => {
+                return held;
+            }
+            Got::Failed => {
+                return ROOM + 1;
+            }
+        }
+    }
+    held
+}
+
+// A recording that can't be read is not listed: nothing is written then.
+fn main() {
+    let mut room = [0u8; 65537];
+    let held = read_recording(&mut room);
+    if ROOM < held {
+        return;
+    }
+    let mut page = [0u8; 524928];
+    let n = listing(&room[..held], &mut page);
+    if n <= 524928 {
+        io::write_all(1, &page[..n]);
+    }
+}
