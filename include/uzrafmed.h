@@ -6,8 +6,9 @@
   call ends and answers as document 01 says, on all bytes and all numbers; the prover and the compiler are trusted.
   What is asked of the caller is in "What every call asks and promises" below.
 
-  The archive is libviewer.a, for x86-64 programs under System V's calling
-  convention; it needs C's memset and nothing else. `rt staticlib viewer` writes it to target/staticlib:
+  The archive is libviewer.a, for x86-64 programs under System V's calling convention. Of the C library it needs
+  memset and its like (memcpy, memmove, memcmp) and nothing else. `rt staticlib viewer` writes it to
+  target/staticlib:
 
       cc -std=c99 -I include example.c target/staticlib/libviewer.a -o example
 

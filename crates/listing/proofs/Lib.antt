@@ -5,3 +5,4 @@ pub mod PartTexts
 pub mod RowTexts
 pub mod Words
 pub mod Unique
+pub mod Cases

@@ -75,11 +75,16 @@ part-text s part text page held r page′ r′ page″ e room v w =
 -- ---- the whole listing
 
 pub listing-is :
-    (s text page : List ℕ) (r : ℕ) (page′ : List ℕ) → listingOf s ≡ text → Wrote page 0 text r page′
+    (s text page : List ℕ) (r : ℕ) (page′ : List ℕ) → listingOf s ≡ text → r ≤ length page → Wrote page 0 text r page′
     → ListingPromise s page r page′
-listing-is s text page r page′ e w =
+listing-is s text page r page′ e l w =
     let f = sym e in
-    record { reply = w .ends ∙ zero-add (length text) ∙ ap length f; text = w .says ∙ ap (written page 0) f }
+    record {
+      reply = w .ends ∙ zero-add (length text) ∙ ap length f;
+      text = w .says ∙ ap (written page 0) f;
+      fits = rw (w .long) l;
+      long = w .long;
+    }
 
 pub too-long : (s : List ℕ) → mostListed < length s → listingOf s ≡ ascii "refused 14\n"
 unfolding listingOf

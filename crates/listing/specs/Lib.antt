@@ -4,3 +4,4 @@ pub mod Page
 pub mod Listing
 pub mod Promise
 pub mod Theorems
+pub mod Cases

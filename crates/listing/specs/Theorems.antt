@@ -1,9 +1,7 @@
 -- What is proved of the listing beside the contracts: the statements of the theorems.
-use Prim.Native.Nat.{ℕ, _≤_}
+use Prim.Native.Nat.{ℕ}
 use mathlib.Core.Path.{_≡_}
-use mathlib.Core.List.{List, [], _∷_, _++_}
-use Rattle.listing.specs.Text.{ascii}
-use Rattle.listing.specs.Listing.{listingOf}
+use mathlib.Core.List.{List}
 use Rattle.listing.specs.Promise.{ListingPromise}
 
 -- Any two answers and pages that the promise permits to one question are equal (document 01, Strength of the promises).

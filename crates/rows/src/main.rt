@@ -32,9 +32,9 @@ fn main() {
     if ROOM < held {
         return;
     }
+    let whole: &[u8] = &room;
     let mut page = [0u8; 524928];
-    let n = listing(&room[..held], &mut page);
-    if n <= 524928 {
-        io::write_all(1, &page[..n]);
-    }
+    let n = listing(&whole[..held], &mut page);
+    let text: &[u8] = &page;
+    io::write_all(1, &text[..n]);
 }

@@ -1,5 +1,4 @@
 -- `listing` meets its contract: 14, or the first line and the parts. Assumes nothing.
-use native.Mathlib.Omega.{arith}
 use Rattle.listing.proofs.Pages.{then}
 use Rattle.listing.proofs.PartTexts.{listing-is, too-long, not-too-long}
 use borrow.Author.Needs.{needs}
@@ -13,7 +12,10 @@ put-requires : tie.Need-put-requires
 put-requires c κs = search needs
 
 returns : tie.Need-returns
-returns c = listing-is _ _ _ _ _ (too-long _ (c .before .before .before .if1 .taken)) (c .put .ensures)
+returns c =
+    let w = c .put .ensures in
+    let e = w .ends in
+    listing-is _ _ _ _ _ (too-long _ (c .before .before .before .if1 .taken)) (search needs) w
 
 slice-aggregate-put-decimal : tie.Need-slice-aggregate-put-decimal
 slice-aggregate-put-decimal c = search needs
@@ -40,7 +42,8 @@ returns-2 c =
     let e = end .ends in
     let (parts, b) = c .before .all-parts .ensures in
     let line = then _ _ _ _ _ _ _ _ (search needs) first end in
-    listing-is _ _ _ _ _ (not-too-long _ (c .before .before .before .before .before .before .before .before .before .before .if1 .left)) (then _ _ _ _ _ _ _ _ (search needs) line parts)
+    let whole = then _ _ _ _ _ _ _ _ (search needs) line parts in
+    listing-is _ _ _ _ _ (not-too-long _ (c .before .before .before .before .before .before .before .before .before .before .if1 .left)) (search needs) whole
 
 pub listing-spec : {M : Type 1} → statement M
 listing-spec =

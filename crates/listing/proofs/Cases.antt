@@ -1,0 +1,32 @@
+-- The worked listings hold. Assumes nothing.
+use mathlib.Core.Path.{refl}
+use Rattle.header.specs.Vint.{octetBits, bits, oneMore, widthOf, bigEndianFrom, bigEndian, ofWidth, vintOf}
+use Rattle.header.specs.Header.{sized, named, headerOf}
+use Rattle.header.specs.Reads.{headerRead, headerAt}
+use Rattle.kinds.specs.Elements.{elements}
+use Rattle.kinds.specs.Kinds.{kindIn, keeps, demoted, kindUnder}
+use Rattle.kinds.specs.Kinds.{member as memberOf}
+use Rattle.utf8.specs.Utf8.{utf8Char, behind, anyOf, goesOn, utf8}
+use Rattle.bodies.specs.Bodies.{bodyOf}
+use Rattle.elements.specs.Forest.{span, count, join}
+use Rattle.elements.specs.Reading.{refuseIf, full, siblings, element, masterBody}
+use Rattle.elements.specs.Rows.{rows}
+use Rattle.elements.specs.Promise.{isTable, allowed, filled}
+use Rattle.seektable.specs.Seeks.{headOf, lastFour, withMembers, entryOf, entries}
+use Rattle.seektable.specs.Heads.{later, latestFrom, member, sought, chain}
+use Rattle.seektable.specs.Lookup.{byHeads}
+use Rattle.search.specs.Walk.{toSegment, segmentOf, visit, walk, children, placeOf}
+use Rattle.search.specs.Part.{parentOf, searchOf}
+use Rattle.listing.specs.Text.{glyph, numeral}
+use Rattle.listing.specs.Listing.{kindWord, rowPlace, rowLine, rowLines, partPlace, searchText, partLines}
+use Rattle.listing.specs.Listing.{allParts, listingOf}
+use Rattle.listing.specs.Cases.{cases, Hold}
+
+pub cases-hold : Hold cases
+unfolding octetBits bits oneMore widthOf bigEndianFrom bigEndian ofWidth vintOf sized named headerOf headerRead headerAt
+    elements kindIn keeps demoted kindUnder memberOf utf8Char behind anyOf goesOn utf8 bodyOf
+    span count join refuseIf full siblings element masterBody rows isTable allowed filled
+    headOf lastFour withMembers entryOf entries later latestFrom member sought chain byHeads
+    toSegment segmentOf visit walk children placeOf parentOf searchOf
+    glyph numeral kindWord rowPlace rowLine rowLines partPlace searchText partLines allParts listingOf
+cases-hold = (refl, (refl, (refl, tt)))
