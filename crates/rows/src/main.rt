@@ -25,16 +25,19 @@ fn read_recording(room: &mut [u8]) -> usize {
     held
 }
 
-// A recording that can't be read is not listed: nothing is written then.
+// What can't be read is not listed. A program has no exit status, so that and a failed write are told on standard error.
 fn main() {
     let mut room = [0u8; 65537];
     let held = read_recording(&mut room);
     if ROOM < held {
+        io::write_all(2, b"rows: standard input can't be read\n");
         return;
     }
     let whole: &[u8] = &room;
     let mut page = [0u8; 524928];
     let n = listing(&whole[..held], &mut page);
     let text: &[u8] = &page;
-    io::write_all(1, &text[..n]);
+    if !io::write_all(1, &text[..n]) {
+        io::write_all(2, b"rows: standard output can't be written\n");
+    }
 }

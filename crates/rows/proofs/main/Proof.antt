@@ -14,6 +14,12 @@ slice-aggregate-read-recording c = search needs
 read-recording-requires : tie.Need-read-recording-requires
 read-recording-requires c κs = search needs
 
+slice-aggregate-write-all : tie.Need-slice-aggregate-write-all
+slice-aggregate-write-all c = search needs
+
+write-all-requires : tie.Need-write-all-requires
+write-all-requires c κs = search needs
+
 returns : tie.Need-returns
 returns c = search needs
 
@@ -34,16 +40,25 @@ listing-requires c κs = search needs
 slice-aggregate-text : tie.Need-slice-aggregate-text
 slice-aggregate-text c = sym (c .before .listing .ensures .long ∙ length-replicate {A = ℕ} 524928 0)
 
-slice-aggregate-write-all : tie.Need-slice-aggregate-write-all
-slice-aggregate-write-all c =
+slice-aggregate-write-all-2 : tie.Need-slice-aggregate-write-all-2
+slice-aggregate-write-all-2 c =
     let listing′ = c .before .before .listing in
     sym (length-take-le (listing′ .result) (listing′ .last .1 .0) (listing′ .ensures .fits))
 
-write-all-requires : tie.Need-write-all-requires
-write-all-requires c κs = search needs
+write-all-requires-2 : tie.Need-write-all-requires-2
+write-all-requires-2 c κs = search needs
+
+slice-aggregate-write-all-3 : tie.Need-slice-aggregate-write-all-3
+slice-aggregate-write-all-3 c = search needs
+
+write-all-requires-3 : tie.Need-write-all-requires-3
+write-all-requires-3 c κs = search needs
 
 returns-2 : tie.Need-returns-2
 returns-2 c = search needs
+
+returns-3 : tie.Need-returns-3
+returns-3 c = search needs
 
 pub main-spec : {M : Type 1} → statement M
 main-spec =
@@ -51,11 +66,16 @@ main-spec =
     (tie.spec
     slice-aggregate-read-recording
     read-recording-requires
+    slice-aggregate-write-all
+    write-all-requires
     returns
     slice-aggregate-whole
     slice-aggregate-listing
     listing-requires
     slice-aggregate-text
-    slice-aggregate-write-all
-    write-all-requires
-    returns-2)
+    slice-aggregate-write-all-2
+    write-all-requires-2
+    slice-aggregate-write-all-3
+    write-all-requires-3
+    returns-2
+    returns-3)
