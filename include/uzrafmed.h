@@ -3,7 +3,8 @@
 
   It implements the rules of docs/01-scope.md, which comments here call document 01, and those rules rest on
   RFC 8794 (sizes, integers, floats, dates), RFC 9559 (the ids) and RFC 3629 (UTF-8). It is proved that every
-  call ends and answers as document 01 says, on all bytes and all numbers; the prover and the compiler are trusted.
+  call ends and answers, on all bytes and all numbers, as the definitions in crates/NAME/specs say, which are written
+  from document 01. docs/TRUSTED.md lists what has to be believed; this header, which is written by hand, is in it.
   What is asked of the caller is in "What every call asks and promises" below.
 
   The archive is libviewer.a, for x86-64 programs under System V's calling convention. Of the C library it needs
@@ -66,7 +67,7 @@ int main(int count, char **words) {
     The counts are true: a table whose count is refused is filled with zeros all the same.
   - The recording is only read, and only its `length` bytes. Nothing is allocated, nothing is kept after the
     call, there is no global state. Calls may run at the same time, on the same recording too, if each that writes
-    a table has a table of its own. A call takes less than 16 kilobytes of stack (measured, not proved).
+    a table has one that no other call uses meanwhile. A call takes less than 16 kilobytes of stack (measured, not proved).
   - Damaged or hostile bytes are answered like any others: the call ends, with an answer or a refusal.
   - A refusal is a number from 1 to 15 in `refused`. Every other number of the reply is then 0, but `id` for 8, and
     every number of a table that the call was to write is 0. After acceptance `refused` is 0, and the numbers of
@@ -204,7 +205,7 @@ typedef struct uz_place {
      8  an entry's address exceeds 2^64-1; `id` is UZ_TRACKS or its like, or 0x114D9B74 for a further seek head
      9  an entry is stale: at its address is a header with another id
     10  seek heads lead back to one that was read
-    11  there are more than 64 linked seek heads
+    11  64 linked seek heads were read, and the last names one more
     12  an element of the part or of a seek head would lie at depth 16
     13  the part has more elements than the table has rows
     14  length exceeds UZ_MOST_BYTES, numbers is no multiple of 7 or exceeds UZ_MOST_NUMBERS, or part is none of
@@ -260,7 +261,8 @@ uz_range uz_row_payload(const uint8_t *recording, size_t length, const uint64_t 
     15  address is not one of the `size` bytes from start on
 
   Not promised: that start is the begin of an element. Bytes from elsewhere are read as elements too, and are
-  mostly refused. start + size may exceed the recording or 2^64-1; then the reading ends it.
+  mostly refused. start + size may exceed the recording or 2^64-1; such a payload is refused where its bytes run
+  out, mostly with 1.
 */
 uz_place uz_whose_byte(const uint8_t *recording, size_t length, uint64_t start, uint64_t size, uint32_t parent,
                        uint64_t address, uint64_t *table, size_t numbers);

@@ -13,9 +13,9 @@
 // byte is told in a line: the part, the row's number, header or payload, its id and kind, its two
 // ranges as ADDRESS+LENGTH, and the text if it is one. A part's own header is in no payload.
 //
-// Texts are shown in UTF-8, as the reader proved them. Control characters and the backslash are
+// Texts are shown in UTF-8, which the reader has checked. Control characters and the backslash are
 // shown as \xNN, each byte of them, so that a recording can't command a terminal, and a line is one
-// row.
+// row. Names of files are shown so too, and what is not ASCII in them, since they may be any bytes.
 //
 // Status 0: answered; a recording without Chapters is told on standard error. Status 1: the file
 // can't be read, a part is refused, the address is past the end, or the answer can't be written.
@@ -86,7 +86,13 @@ static void show(FILE *out, const uint8_t *bytes, size_t length) {
 }
 
 static void show_word(FILE *out, const char *word) {
-    show(out, (const uint8_t *)word, strlen(word));
+    for (; *word != '\0'; word++) {
+        uint8_t byte = (uint8_t)*word;
+        if (byte < 0x80)
+            show(out, &byte, 1);
+        else
+            fprintf(out, "\\x%02X", byte);
+    }
 }
 
 // One line on standard error. Answers: status 1, for the caller to hand on.
@@ -120,7 +126,7 @@ static const char *meaning(uint64_t refusal) {
     case UZ_HEAD_AGAIN:
         return "seek heads lead back to one that was read";
     case UZ_TOO_MANY_HEADS:
-        return "there are more than 64 linked seek heads";
+        return "64 linked seek heads were read, and the last names one more";
     case UZ_TOO_DEEP:
         return "elements are nested more than 16 deep";
     case UZ_NO_FREE_ROW:
@@ -240,7 +246,7 @@ static int whose(const recording *from, uint64_t address) {
 }
 
 // Maps the file read-only. A file that another program cuts short while it is mapped ends the
-// viewer with SIGBUS; the kit's recordings are closed before they are viewed.
+// viewer with SIGBUS.
 static int open_recording(const char *name, recording *to) {
     // A named pipe would keep a plain open waiting.
     int file = open(name, O_RDONLY | O_CLOEXEC | O_NONBLOCK);

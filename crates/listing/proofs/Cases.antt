@@ -17,7 +17,7 @@ use Rattle.seektable.specs.Heads.{later, latestFrom, member, sought, chain}
 use Rattle.seektable.specs.Lookup.{byHeads}
 use Rattle.search.specs.Walk.{toSegment, segmentOf, visit, walk, children, placeOf}
 use Rattle.search.specs.Part.{parentOf, searchOf}
-use Rattle.listing.specs.Text.{glyph, numeral}
+use Rattle.pages.specs.Text.{glyph, numeral}
 use Rattle.listing.specs.Listing.{kindWord, rowPlace, rowLine, rowLines, partPlace, searchText, partLines}
 use Rattle.listing.specs.Listing.{allParts, listingOf}
 use Rattle.listing.specs.Cases.{cases, Hold}

@@ -1,6 +1,4 @@
 -- The laws that the proofs of `listing` share, and its theorems.
-pub mod Numerals
-pub mod Pages
 pub mod PartTexts
 pub mod RowTexts
 pub mod Words

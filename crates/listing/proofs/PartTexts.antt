@@ -6,19 +6,19 @@ use native.Mathlib.Omega.{arith}
 use native.Mathlib.Nat.{zero-add}
 use borrow.Author.Tests.{lt-ltb, le-ltb}
 use lib.ListN.{length}
-use Rattle.header.specs.Reply.{Reply, accepted, refusalOf}
+use Rattle.header.specs.Reply.{accepted, refusalOf}
 use Rattle.header.specs.declared.refusal.Refusal.{Refusal}
 use Rattle.elements.specs.Rows.{rows, rowsOf}
 use Rattle.elements.specs.declared.row.Row.{Row}
 use Rattle.search.specs.Part.{Search, found, absent, refused, searchOf, replyOf, PartPromise}
 use Rattle.search.specs.declared.part.PartReply.the-variants.{Found, Absent, Refused}
 use Rattle.search.proofs.Found.{found-holds}
-use Rattle.listing.specs.Text.{ascii, decimal, hexadecimal}
-use Rattle.listing.specs.Page.{written, Wrote}
+use Rattle.pages.specs.Text.{ascii, decimal, hexadecimal}
+use Rattle.pages.specs.Page.{written, Wrote}
 use Rattle.listing.specs.Listing.{mostListed, tableNumbers, rowLines, partPlace, searchText, partLines}
 use Rattle.listing.specs.Listing.{allParts, listingOf}
 use Rattle.listing.specs.Promise.{ListingPromise}
-use Rattle.listing.proofs.Pages.{then}
+use Rattle.pages.proofs.Pages.{then}
 
 -- ---- what a reply tells
 

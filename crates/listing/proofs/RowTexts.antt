@@ -1,17 +1,17 @@
 -- The lines of rows one after another, and the text of a search by its reply. Assumes nothing.
-use Prim.Native.Nat.{ℕ, zero, suc, _+_, _-_, _*_, _/_, _≤_, _<_}
-use mathlib.Core.Path.{_≡_, refl, sym, ap, _∙_}
-use mathlib.Core.List.{List, [], _∷_, _++_, append-assoc, append-nil}
+use Prim.Native.Nat.{ℕ, zero, suc, _+_, _-_, _*_, _≤_, _<_}
+use mathlib.Core.Path.{_≡_, sym, ap, _∙_}
+use mathlib.Core.List.{List, _++_, append-assoc, append-nil}
 use native.Mathlib.Omega.{arith}
-use native.Mathlib.Nat.{zero-mul}
 use native.Mathlib.Numerals.{add-one}
 use lib.ListN.{length, drop}
 use lib.Seq.{drop-drop}
 use Rattle.elements.specs.Rows.{width, firstRow, rowAt, rowsOf}
 use Rattle.elements.specs.declared.row.Row.{Row}
-use Rattle.listing.specs.Page.{Wrote}
-use Rattle.listing.specs.Listing.{rowLine, rowLines, lineRoom}
-use Rattle.listing.proofs.Pages.{then, wrote-none}
+use Rattle.pages.specs.Page.{Wrote}
+use Rattle.listing.specs.Listing.{rowLine, rowLines}
+use Rattle.listing.specs.Room.{lineRoom}
+use Rattle.pages.proofs.Pages.{then, wrote-none}
 
 -- One row more.
 pub lines-more : (t : List ℕ) (n : ℕ) → rowLines (rowsOf t (suc n)) ≡ rowLines (rowsOf t n) ++ rowLine (rowAt t n)

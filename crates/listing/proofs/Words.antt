@@ -1,11 +1,11 @@
 -- The words for the kinds, as `put_kind` writes them behind a space. Assumes nothing.
 use Prim.Native.Nat.{ℕ, _+_, _≤_}
-use mathlib.Core.Path.{_≡_, refl, sym}
+use mathlib.Core.Path.{_≡_, sym}
 use mathlib.Core.List.{List, [], _++_}
 use native.Mathlib.Omega.{arith}
 use lib.ListN.{length}
-use Rattle.listing.specs.Text.{ascii}
-use Rattle.listing.specs.Page.{Wrote}
+use Rattle.pages.specs.Text.{ascii}
+use Rattle.pages.specs.Page.{Wrote}
 use Rattle.listing.specs.Listing.{kindWord}
 
 -- A kind that has a word: what was put is the word of that number.

@@ -2,7 +2,7 @@
 use Prim.Native.Nat.{ℕ}
 use mathlib.Core.Path.{_≡_}
 use mathlib.Core.List.{List, [], _∷_, _++_}
-use Rattle.listing.specs.Text.{ascii}
+use Rattle.pages.specs.Text.{ascii}
 use Rattle.listing.specs.Listing.{listingOf}
 
 pub data Case : Type 0 where

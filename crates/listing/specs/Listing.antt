@@ -4,12 +4,11 @@ use mathlib.Core.Bool.{cond}
 use mathlib.Core.List.{List, [], _∷_, _++_}
 use lib.ListN.{length}
 use lib.Dec.{eqb, ltb}
-use Rattle.header.specs.declared.refusal.Refusal.{Refusal}
 use Rattle.elements.specs.Forest.{count}
 use Rattle.elements.specs.Rows.{rows, width}
 use Rattle.elements.specs.declared.row.Row.{Row}
 use Rattle.search.specs.Part.{Search, found, absent, refused, searchOf}
-use Rattle.listing.specs.Text.{ascii, decimal, hexadecimal}
+use Rattle.pages.specs.Text.{ascii, decimal, hexadecimal}
 
 -- The most bytes of a recording that is listed, and the table that its parts are read into: 1,024 rows.
 abbrev pub mostListed : ℕ
@@ -72,10 +71,3 @@ listingOf s =
     cond (ltb mostListed (length s))
     (ascii "refused 14\n")
     (ascii "recording " ++ decimal (length s) ++ ascii "\n" ++ allParts s)
-
--- Room that is enough for a row's line, and for a part's lines with 1,024 rows.
-abbrev pub lineRoom : ℕ
-lineRoom = 128
-
-abbrev pub partRoom : ℕ
-partRoom = 1025 * lineRoom

@@ -3,7 +3,7 @@ use Prim.Native.Nat.{ℕ, _≤_}
 use mathlib.Core.Path.{_≡_}
 use mathlib.Core.List.{List}
 use lib.ListN.{length}
-use Rattle.listing.specs.Page.{written}
+use Rattle.pages.specs.Page.{written}
 use Rattle.listing.specs.Listing.{listingOf}
 
 -- It answers how long the listing is, and the page begins with it, whole; the bytes behind it stay as they were.

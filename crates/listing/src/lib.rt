@@ -2,8 +2,6 @@
 //
 // `listing` is the public call.
 mod listed;
-mod numeral;
-mod page;
 
 pub use listed::PAGE;
 pub use listed::listing;

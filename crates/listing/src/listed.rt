@@ -4,17 +4,18 @@ ghost use mathlib.Core.List.{_++_};
 ghost use Prim.Native.Nat.{_+_, _*_, _/_, _≤_};
 ghost use lib.ListN.{length};
 ghost use Rattle.elements.specs.Rows.{width, rowsOf};
-ghost use Rattle.listing.specs.Page.{Wrote};
-ghost use Rattle.listing.specs.Text.{ascii};
+ghost use Rattle.pages.specs.Page.{Wrote};
+ghost use Rattle.pages.specs.Text.{ascii};
 ghost use Rattle.listing.specs.Listing.{kindWord, rowPlace, rowLine, rowLines, partPlace, partLines, allParts};
-ghost use Rattle.listing.specs.Listing.{lineRoom, partRoom, tableNumbers};
+ghost use Rattle.listing.specs.Listing.{tableNumbers};
+ghost use Rattle.listing.specs.Room.{lineRoom, partRoom};
 ghost use Rattle.listing.specs.Promise.{ListingPromise};
-use crate::page::put;
-use crate::page::put_decimal;
-use crate::page::put_hexadecimal;
 use elements::Row;
 use elements::row_at;
 use kinds::ids;
+use pages::put;
+use pages::put_decimal;
+use pages::put_hexadecimal;
 use search::PartReply;
 use search::find_part;
 
@@ -136,7 +137,7 @@ fn all_parts(page: &mut [u8], held: usize, recording: &[u8], table: &mut [u64]) 
 
 // Writes the listing at the start of the page, and answers how many bytes it has. A recording of more than 65,536 bytes
 // is refused with 14.
-pub fn listing(recording: &[u8], page: &mut [u8; 524928]) -> usize
+pub fn listing(recording: &[u8], page: &mut [u8; PAGE]) -> usize
     ensures { λ r. ⌜ ListingPromise (now (recording .entry)) (now (page .entry)) r (now (page .exit)) ⌝ }
 {
     if MOST_LISTED < recording.len() {

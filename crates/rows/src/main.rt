@@ -1,6 +1,7 @@
 // Lists the recording on standard input: its four parts and their rows (document 01, 'Program `rows`').
 use lines::input::Got;
 use lines::input::read_more;
+use listing::PAGE;
 use listing::listing;
 
 // One byte more than a recording that is listed may have, so that a longer one is seen to be longer.
@@ -25,16 +26,17 @@ fn read_recording(room: &mut [u8]) -> usize {
     held
 }
 
-// What can't be read is not listed. A program has no exit status, so that and a failed write are told on standard error.
+// What can't be read is not listed. That, and a failed write, is told on standard error: a program can't set its exit
+// status.
 fn main() {
-    let mut room = [0u8; 65537];
+    let mut room = [0u8; ROOM];
     let held = read_recording(&mut room);
     if ROOM < held {
         io::write_all(2, b"rows: standard input can't be read\n");
         return;
     }
     let whole: &[u8] = &room;
-    let mut page = [0u8; 524928];
+    let mut page = [0u8; PAGE];
     let n = listing(&whole[..held], &mut page);
     let text: &[u8] = &page;
     if !io::write_all(1, &text[..n]) {

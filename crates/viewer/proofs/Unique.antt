@@ -1,7 +1,7 @@
 -- Any two answers that a promise of the C face permits are equal (`OneUzPart`, `OneUzRange`, `OneUzPlace`). Assumes
 -- nothing.
 use Prim.Native.Nat.{ℕ}
-use mathlib.Core.Path.{_≡_, sym, ap, _∙_}
+use mathlib.Core.Path.{sym, ap, _∙_}
 use Rattle.elements.specs.Promise.{tableOf as readTable}
 use Rattle.places.specs.Whose.{askedOf, whoseOf}
 use Rattle.search.specs.Part.{searchOf, replyOf, tableOf}

@@ -1,6 +1,5 @@
 -- How a reply crosses to C: `refused` is 0 and the values follow in document 01's order; or it is the number, with the
 -- id that 8 carries, and every other number is 0.
-use Prim.Native.Nat.{ℕ}
 use lib.ListN.{getD}
 use Rattle.header.specs.Reply.{Reply, accepted, refusal}
 use Rattle.viewer.specs.declared.part.UzPart.{UzPart}

@@ -1,7 +1,7 @@
 -- `part_place` meets its contract: three labelled numbers and the line's end. Assumes nothing.
 use native.Mathlib.Omega.{arith}
 use Rattle.listing.specs.Listing.{partPlace}
-use Rattle.listing.proofs.Pages.{then, then-labelled}
+use Rattle.pages.proofs.Pages.{then, then-labelled}
 use borrow.Author.Needs.{needs}
 use Rattle.listing.proofs.listed.part_place.Statement.{statement}
 use Rattle.listing.proofs.listed.part_place.Tie as tie

@@ -1,7 +1,7 @@
 -- `row_line` meets its contract: where the row is, its kind, its id. Assumes nothing.
 use native.Mathlib.Omega.{arith}
 use Rattle.listing.specs.Listing.{rowLine}
-use Rattle.listing.proofs.Pages.{then, then-labelled}
+use Rattle.pages.proofs.Pages.{then, then-labelled}
 use borrow.Author.Needs.{needs}
 use Rattle.listing.proofs.listed.row_line.Statement.{statement}
 use Rattle.listing.proofs.listed.row_line.Tie as tie

@@ -1,7 +1,7 @@
 -- `row_place` meets its contract: four numbers, a space between them. Assumes nothing.
 use native.Mathlib.Omega.{arith}
 use Rattle.listing.specs.Listing.{rowPlace}
-use Rattle.listing.proofs.Pages.{then-labelled}
+use Rattle.pages.proofs.Pages.{then-labelled}
 use borrow.Author.Needs.{needs}
 use Rattle.listing.proofs.listed.row_place.Statement.{statement}
 use Rattle.listing.proofs.listed.row_place.Tie as tie

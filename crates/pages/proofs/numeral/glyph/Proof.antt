@@ -1,9 +1,9 @@
 -- `glyph` meets its contract: the two runs of letters. Assumes nothing.
 use borrow.Author.Tests.{lt-ltb, le-ltb}
-use Rattle.listing.specs.Text.{glyph}
+use Rattle.pages.specs.Text.{glyph}
 use borrow.Author.Needs.{needs}
-use Rattle.listing.proofs.numeral.glyph.Statement.{statement}
-use Rattle.listing.proofs.numeral.glyph.Tie as tie
+use Rattle.pages.proofs.numeral.glyph.Statement.{statement}
+use Rattle.pages.proofs.numeral.glyph.Tie as tie
 
 cast-result : tie.Need-cast-result
 cast-result c = search needs

@@ -2,8 +2,8 @@
 ghost use mathlib.Core.Path.{_≡_};
 ghost use Prim.Native.Nat.{_≤_, _<_, _^_};
 ghost use lib.ListN.{length, drop};
-ghost use Rattle.listing.specs.Text.{numeral};
-ghost use Rattle.listing.specs.Text.{glyph as Text·glyph};
+ghost use Rattle.pages.specs.Text.{numeral};
+ghost use Rattle.pages.specs.Text.{glyph as Text·glyph};
 
 // The most digits of a 64-bit number in a base of 10 or more.
 const DIGITS: usize = 20;

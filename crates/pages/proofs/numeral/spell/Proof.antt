@@ -4,10 +4,10 @@ use native.Mathlib.Omega.{arith}
 use mathlib.Core.Path.{sym, _∙_}
 use lib.ListN.{length-set}
 use native.Mathlib.Nat.{mod-lt, div-lt-self}
-use Rattle.listing.proofs.Numerals.{Spelling, spelling-starts, spelling-goes-on, spelling-ends}
+use Rattle.pages.proofs.Numerals.{Spelling, spelling-starts, spelling-goes-on, spelling-ends}
 use borrow.Author.Needs.{needs}
-use Rattle.listing.proofs.numeral.spell.Statement.{statement}
-use Rattle.listing.proofs.numeral.spell.Tie as tie
+use Rattle.pages.proofs.numeral.spell.Statement.{statement}
+use Rattle.pages.proofs.numeral.spell.Tie as tie
 
 abbrev Inv-loop : tie.InvT-loop
 Inv-loop value base text₀ first₀ rest₀ text first rest = Spelling base value text first rest

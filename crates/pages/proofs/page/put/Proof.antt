@@ -4,10 +4,10 @@ use mathlib.Core.Path.{_≡_}
 use native.Mathlib.Omega.{arith}
 use lib.ListN.{length}
 use lib.Seq.{paste, paste-zero}
-use Rattle.listing.proofs.Pages.{copied, copied-on, copied-long}
+use Rattle.pages.proofs.Pages.{copied, copied-on, copied-long}
 use borrow.Author.Needs.{needs}
-use Rattle.listing.proofs.page.put.Statement.{statement}
-use Rattle.listing.proofs.page.put.Tie as tie
+use Rattle.pages.proofs.page.put.Statement.{statement}
+use Rattle.pages.proofs.page.put.Tie as tie
 
 abbrev Inv-loop : tie.InvT-loop
 Inv-loop page₀ held bytes i₀ page i = (i ≤ length bytes) × (page ≡ paste page₀ held bytes i)

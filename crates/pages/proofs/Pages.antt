@@ -1,15 +1,15 @@
 -- Texts written one behind the other into a page are one text. Assumes nothing.
 use Prim.Native.Nat.{ℕ, _+_, _-_, _≤_, _<_}
 use mathlib.Core.Path.{_≡_, refl, sym, ap, _∙_}
-use mathlib.Core.List.{List, [], _∷_, _++_, append-assoc, append-nil}
+use mathlib.Core.List.{List, [], _++_, append-assoc, append-nil}
 use native.Mathlib.Omega.{arith}
 use native.Mathlib.Nat.{add-zero}
 use native.Mathlib.Numerals.{add-one}
 use lib.ListN.{length, take, drop, set, getD, length-append, length-drop, take-append-drop}
 use lib.Seq.{take-all, take-at, take-length, drop-append-add, drop-drop, length-take-le, paste, paste-suc, length-paste}
-use Rattle.listing.specs.Text.{numeral}
-use Rattle.listing.specs.Page.{written, Wrote}
-use Rattle.listing.proofs.Numerals.{digits-most}
+use Rattle.pages.specs.Text.{numeral}
+use Rattle.pages.specs.Page.{written, Wrote}
+use Rattle.pages.proofs.Numerals.{digits-most}
 
 -- Nothing is a text too.
 pub wrote-none : (page : List ℕ) (held : ℕ) → Wrote page held [] held page

@@ -2,8 +2,8 @@
 ghost use mathlib.Core.List.{_++_};
 ghost use Prim.Native.Nat.{_+_, _≤_};
 ghost use lib.ListN.{length};
-ghost use Rattle.listing.specs.Text.{decimal, hexadecimal};
-ghost use Rattle.listing.specs.Page.{Wrote};
+ghost use Rattle.pages.specs.Text.{decimal, hexadecimal};
+ghost use Rattle.pages.specs.Page.{Wrote};
 use crate::numeral::spell;
 
 // Bytes as they are.

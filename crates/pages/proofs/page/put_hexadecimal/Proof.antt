@@ -1,9 +1,9 @@
--- `put_decimal` meets its contract: the label, and then the digits. Assumes nothing.
+-- `put_hexadecimal` meets its contract: the label, and then the digits. Assumes nothing.
 use mathlib.Core.Path.{_∙_}
-use Rattle.listing.proofs.Pages.{whole-end, labelled-number}
+use Rattle.pages.proofs.Pages.{whole-end, labelled-number}
 use borrow.Author.Needs.{needs}
-use Rattle.listing.proofs.page.put_decimal.Statement.{statement}
-use Rattle.listing.proofs.page.put_decimal.Tie as tie
+use Rattle.pages.proofs.page.put_hexadecimal.Statement.{statement}
+use Rattle.pages.proofs.page.put_hexadecimal.Tie as tie
 
 put-requires : tie.Need-put-requires
 put-requires c κs = search needs
@@ -32,11 +32,11 @@ same-length c = search needs
 returns : tie.Need-returns
 returns c =
     let spell′ = c .before .before .before .before .before .before .before .spell in
-    labelled-number _ _ _ _ _ _ _ _ 10 _ (c .before .before .before .before .before .before .before .before .before .before .before .before .before .before .before .pre) (c .before .before .before .before .before .before .before .before .before .before .before .put .ensures) (c .before .before .put2 .ensures)
+    labelled-number _ _ _ _ _ _ _ _ 16 _ (c .before .before .before .before .before .before .before .before .before .before .before .before .before .before .before .pre) (c .before .before .before .before .before .before .before .before .before .before .before .put .ensures) (c .before .before .put2 .ensures)
     (whole-end (spell′ .last .1 .1 .0) (spell′ .result) (spell′ .kept .1 .1 .0) ∙ spell′ .ensures .1)
 
-pub put-decimal-spec : {M : Type 1} → statement M
-put-decimal-spec =
+pub put-hexadecimal-spec : {M : Type 1} → statement M
+put-hexadecimal-spec =
     tie.close
     (tie.spec
     put-requires
