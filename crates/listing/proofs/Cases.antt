@@ -23,7 +23,8 @@ use Rattle.listing.specs.Listing.{allParts, listingOf}
 use Rattle.listing.specs.Cases.{cases, Hold}
 
 pub cases-hold : Hold cases
-unfolding octetBits bits oneMore widthOf bigEndianFrom bigEndian ofWidth vintOf sized named headerOf headerRead headerAt
+unfolding octetBits bits oneMore widthOf bigEndianFrom bigEndian ofWidth vintOf sized named headerOf headerRead
+    headerAt
     elements kindIn keeps demoted kindUnder memberOf utf8Char behind anyOf goesOn utf8 bodyOf
     span count join refuseIf full siblings element masterBody rows isTable allowed filled
     headOf lastFour withMembers entryOf entries later latestFrom member sought chain byHeads

@@ -22,7 +22,8 @@ use Rattle.pages.proofs.Pages.{then}
 
 -- ---- what a reply tells
 
-told-absent : (heads : ℕ) (y : Search) → accepted (0 ∷ 0 ∷ 0 ∷ 0 ∷ heads ∷ []) ≡ replyOf y → searchText y ≡ ascii " absent\n"
+told-absent : (heads : ℕ) (y : Search) → accepted (0 ∷ 0 ∷ 0 ∷ 0 ∷ heads ∷ []) ≡ replyOf y → searchText y ≡
+    ascii " absent\n"
 unfolding searchText
 told-absent heads (found at size hs f) e = let z : _≡_ {A = ℕ} 0 1 = cc in absurd (omega arith)
 told-absent heads (absent hs) e = refl
@@ -75,7 +76,8 @@ part-text s part text page held r page′ r′ page″ e room v w =
 -- ---- the whole listing
 
 pub listing-is :
-    (s text page : List ℕ) (r : ℕ) (page′ : List ℕ) → listingOf s ≡ text → r ≤ length page → Wrote page 0 text r page′
+    (s text page : List ℕ) (r : ℕ) (page′ : List ℕ) → listingOf s ≡ text → r ≤ length page → Wrote page 0 text
+    r page′
     → ListingPromise s page r page′
 listing-is s text page r page′ e l w =
     let f = sym e in

@@ -19,7 +19,8 @@ named number kind text page held r page′ e t l w =
 
 -- A number that is no kind's has no word.
 pub unnamed :
-    (kind : ℕ) (page : List ℕ) (held r : ℕ) (page′ : List ℕ) → kindWord kind ≡ [] → Wrote page held (ascii " ") r page′
+    (kind : ℕ) (page : List ℕ) (held r : ℕ) (page′ : List ℕ) → kindWord kind ≡ [] → Wrote page held (ascii " ")
+    r page′
     → Wrote page held (ascii " " ++ kindWord kind) r page′ × (r ≤ held + 7)
 unnamed kind page held r page′ e w =
     let h = w .ends in

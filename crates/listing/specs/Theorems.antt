@@ -4,7 +4,8 @@ use mathlib.Core.Path.{_≡_}
 use mathlib.Core.List.{List}
 use Rattle.listing.specs.Promise.{ListingPromise}
 
--- Any two answers and pages that the promise permits to one question are equal (document 01, Strength of the promises).
+-- Any two answers and pages that the promise permits to one question are equal (document 01, Strength of the
+-- promises).
 abbrev pub OneListing : Type 0
 OneListing =
     (s page : List ℕ) (r r′ : ℕ) (page′ page″ : List ℕ)

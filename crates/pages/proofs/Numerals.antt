@@ -58,7 +58,8 @@ module _ (base : ℕ) (two : 1 < base) where
       absurd (omega arith)
   more-to-come (suc j) rest g l = omega arith
 
-  pub spelling-starts : (value : ℕ) (text : List ℕ) → length text ≡ 20 → value < base ^ 20 → Spelling base value text 20 value
+  pub spelling-starts : (value : ℕ) (text : List ℕ) → length text ≡ 20 → value < base ^ 20 → Spelling base
+      value text 20 value
   spelling-starts value text l v =
       record {
         long = l;

@@ -6,7 +6,8 @@ use native.Mathlib.Omega.{arith}
 use native.Mathlib.Nat.{add-zero}
 use native.Mathlib.Numerals.{add-one}
 use lib.ListN.{length, take, drop, set, getD, length-append, length-drop, take-append-drop}
-use lib.Seq.{take-all, take-at, take-length, drop-append-add, drop-drop, length-take-le, paste, paste-suc, length-paste}
+use lib.Seq.{take-all, take-at, take-length, drop-append-add, drop-drop}
+use lib.Seq.{length-take-le, paste, paste-suc, length-paste}
 use Rattle.pages.specs.Text.{numeral}
 use Rattle.pages.specs.Page.{written, Wrote}
 use Rattle.pages.proofs.Numerals.{digits-most}
@@ -55,14 +56,16 @@ module _ (page : List ℕ) (held : ℕ) (a b : List ℕ) (room : held + length a
 
   front-long : length front ≡ held + length a
   unfolding front
-  front-long = length-append (take held page) a ∙ ap (λ (x : ℕ). x + length a) (length-take-le held page (omega arith))
+  front-long = length-append (take held page) a ∙ ap (λ (x : ℕ). x + length a) (length-take-le held page (omega
+      arith))
 
   pub written-twice : written (written page held a) (held + length a) b ≡ written page held (a ++ b)
   unfolding front
   written-twice =
       let rest = drop (held + length a) page in
       let t : take (held + length a) (front ++ rest) ≡ front = take-at front rest (held + length a) front-long in
-      let e : held + length a + length b ≡ length front + length b = ap (λ (x : ℕ). x + length b) (sym front-long) in
+      let e : held + length a + length b ≡ length front + length b = ap (λ (x : ℕ). x + length b) (sym
+      front-long) in
       let f : held + length a + length b ≡ held + length (a ++ b) = omega (arith, length-append a b) in
       let d : drop (held + length a + length b) (front ++ rest) ≡ drop (held + length (a ++ b)) page
       = ap (λ (x : ℕ). drop x (front ++ rest)) e ∙ drop-append-add front rest (length b)
@@ -111,5 +114,6 @@ pub labelled-number :
 labelled-number page held label r page′ digits r′ page″ base value room v w d =
     let m = digits-most base 20 value in
     let e : r′ ≡ held + length label + length (numeral base 20 value)
-    = w .ends ∙ ap (λ (x : List ℕ). r + length x) d ∙ ap (λ (x : ℕ). x + length (numeral base 20 value)) (v .ends) in
+    = w .ends ∙ ap (λ (x : List ℕ). r + length x) d ∙ ap (λ (x : ℕ). x + length (numeral base 20 value))
+    (v .ends) in
     (then page held label r page′ (numeral base 20 value) r′ page″ (omega arith) v (rw d at w), omega arith)

@@ -15,8 +15,8 @@ ascii (c then s) = code c ∷ ascii s
 unfoldable pub glyph : ℕ → ℕ
 glyph digit = cond (ltb digit 10) (48 + digit) (55 + digit)
 
--- A number in a base, with no zero in front, of at most so many digits: below the base it is its digit; else the numeral
--- of the quotient comes first, and the remainder is the last digit.
+-- A number in a base, with no zero in front, of at most so many digits: below the base it is its digit; else the
+-- numeral of the quotient comes first, and the remainder is the last digit.
 unfoldable pub numeral : ℕ → ℕ → ℕ → List ℕ
 numeral base zero n = []
 numeral base (suc most) n =

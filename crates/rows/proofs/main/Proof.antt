@@ -28,11 +28,11 @@ slice-aggregate-whole c = search needs
 
 slice-aggregate-listing : tie.Need-slice-aggregate-listing
 slice-aggregate-listing c =
-    let readreco′ = c .before .before .before .before .read-recording in
-    let k = readreco′ .kept .0 in
+    let p2 = c .before .before .before .before in
+    let k = p2 .read-recording .kept .0 in
     let h = c .before .before .if1 .left in
     let r = length-replicate {A = ℕ} 65537 0 in
-    sym (length-take-le (readreco′ .result) (readreco′ .last .0) (omega arith))
+    sym (length-take-le (p2 .read-recording .result) (p2 .read-recording .last .0) (omega arith))
 
 listing-requires : tie.Need-listing-requires
 listing-requires c κs = search needs
@@ -42,8 +42,8 @@ slice-aggregate-text c = sym (c .before .listing .ensures .long ∙ length-repli
 
 slice-aggregate-write-all-2 : tie.Need-slice-aggregate-write-all-2
 slice-aggregate-write-all-2 c =
-    let listing′ = c .before .before .listing in
-    sym (length-take-le (listing′ .result) (listing′ .last .1 .0) (listing′ .ensures .fits))
+    sym (length-take-le (c .before .before .listing .result) (c .before .before .listing .last .1 .0)
+    (c .before .before .listing .ensures .fits))
 
 write-all-requires-2 : tie.Need-write-all-requires-2
 write-all-requires-2 c κs = search needs

@@ -24,21 +24,25 @@ enum-known-n c = search needs
 
 add-held : tie.Need-add-held Inv-loop μ-loop
 add-held c =
-    let (p, q) = rw (c .before .n .given .1) at (c .before .before .before .before .before .read-more .ensures) in
+    let p2 = c .before .before .before .before .before in
+    let (p, q) = rw (c .before .n .given .1) at (p2 .read-more .ensures) in
     search needs
 
 loop-less : tie.Need-loop-less Inv-loop μ-loop
 loop-less c =
-    let (p, q) = rw (c .before .n .given .1) at (c .before .before .before .before .before .read-more .ensures) in
-    let (l, e) = c .before .before .before .before .before .before .before .before .loop .inv in
+    let p2 = c .before .before .before .before .before in
+    let p3 = p2 .before .before .before in
+    let (p, q) = rw (c .before .n .given .1) at (p2 .read-more .ensures) in
+    let (l, e) = p3 .loop .inv in
     omega arith
 
 loop-again : tie.Need-loop-again Inv-loop μ-loop
 loop-again c =
-    let readmore′ = c .before .before .before .before .before .read-more in
-    let (p, q) = rw (c .before .n .given .1) at (readmore′ .ensures) in
-    let (l, e) = c .before .before .before .before .before .before .before .before .loop .inv in
-    let k = readmore′ .kept .0 in
+    let p2 = c .before .before .before .before .before in
+    let p3 = p2 .before .before .before in
+    let (p, q) = rw (c .before .n .given .1) at (p2 .read-more .ensures) in
+    let (l, e) = p3 .loop .inv in
+    let k = p2 .read-more .kept .0 in
     (omega arith, k ∙ e)
 
 enum-told : tie.Need-enum-told Inv-loop μ-loop

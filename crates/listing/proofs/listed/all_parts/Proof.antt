@@ -27,11 +27,16 @@ same-length-2 c = search needs
 returns : tie.Need-returns
 unfolding allParts
 returns c =
-    let p = c .before .before .before .before .before .before .before .before .before .before .before .before .before .before .before .before .before .before .before .before .before .before .before .before .before .before .before .before .before .before .before .pre in
-    let (tracks, a) = c .before .before .before .before .before .before .before .before .before .before .before .before .before .before .before .before .before .before .before .before .before .before .before .before .before .part-lines .ensures in
-    let (attachments, b) = c .before .before .before .before .before .before .before .before .before .before .before .before .before .before .before .before .before .before .part-lines2 .ensures in
-    let (chapters, d) = c .before .before .before .before .before .before .before .before .before .before .before .part-lines3 .ensures in
-    let (tags, e) = c .before .before .before .before .part-lines4 .ensures in
+    let p1 = c .before .before .before .before in
+    let p2 = p1 .before .before .before .before .before .before .before in
+    let p3 = p2 .before .before .before .before .before .before .before in
+    let p4 = p3 .before .before .before .before .before .before .before in
+    let p5 = p4 .before .before .before .before .before .before in
+    let p = p5 .pre in
+    let (tracks, a) = p4 .part-lines .ensures in
+    let (attachments, b) = p3 .part-lines2 .ensures in
+    let (chapters, d) = p2 .part-lines3 .ensures in
+    let (tags, e) = p1 .part-lines4 .ensures in
     let two = then _ _ _ _ _ _ _ _ (omega arith) tracks attachments in
     let three = then _ _ _ _ _ _ _ _ (omega arith) two chapters in
     (then _ _ _ _ _ _ _ _ (omega arith) three tags, omega arith)

@@ -13,9 +13,10 @@ put-requires c κs = search needs
 
 returns : tie.Need-returns
 returns c =
+    let p1 = c .before .before .before in
     let w = c .put .ensures in
     let e = w .ends in
-    listing-is _ _ _ _ _ (too-long _ (c .before .before .before .if1 .taken)) (search needs) w
+    listing-is _ _ _ _ _ (too-long _ (p1 .if1 .taken)) (search needs) w
 
 slice-aggregate-put-decimal : tie.Need-slice-aggregate-put-decimal
 slice-aggregate-put-decimal c = search needs
@@ -37,13 +38,16 @@ all-parts-requires c κs = search needs
 
 returns-2 : tie.Need-returns-2
 returns-2 c =
-    let (first, a) = c .before .before .before .before .before .before .before .put-decimal .ensures in
-    let end = c .before .before .before .before .put2 .ensures in
+    let p2 = c .before .before .before .before in
+    let p3 = p2 .before .before .before in
+    let p4 = p3 .before .before .before in
+    let (first, a) = p3 .put-decimal .ensures in
+    let end = p2 .put2 .ensures in
     let e = end .ends in
     let (parts, b) = c .before .all-parts .ensures in
     let line = then _ _ _ _ _ _ _ _ (search needs) first end in
     let whole = then _ _ _ _ _ _ _ _ (search needs) line parts in
-    listing-is _ _ _ _ _ (not-too-long _ (c .before .before .before .before .before .before .before .before .before .before .if1 .left)) (search needs) whole
+    listing-is _ _ _ _ _ (not-too-long _ (p4 .if1 .left)) (search needs) whole
 
 pub listing-spec : {M : Type 1} → statement M
 listing-spec =

@@ -50,13 +50,17 @@ part-place-requires c κs = search needs
 
 row-lines-requires : tie.Need-row-lines-requires
 row-lines-requires c κs =
-    let findpart′ = c .before .before .before .before .before .before .before .before .before .before .before .find-part in
-    let (l, p) = c .before .before .before .before .before .before .before .before .before .before .before .before .before .before .before .before .before .before .before .before .before .pre in
-    let f = rw (c .before .before .before .before .before .before .before .at .given .1) at (findpart′ .ensures) in
+    let p1 = c .before .before .before .before in
+    let p2 = p1 .before .before .before in
+    let p3 = p2 .before .before .before .before in
+    let p4 = p3 .before .before .before .before in
+    let p5 = p4 .before .before .before .before .before .before in
+    let (l, p) = p5 .pre in
+    let f = rw (p2 .at .given .1) at (p3 .find-part .ensures) in
     let k = found-few _ _ _ _ l _ _ _ _ f in
-    let t = findpart′ .kept .1 .1 .0 in
-    let (a, x) = c .before .before .before .before .before .before .before .before .before .before .before .before .before .before .before .put-hexadecimal .ensures in
-    let (b, y) = c .before .before .before .before .part-place .ensures in
+    let t = p3 .find-part .kept .1 .1 .0 in
+    let (a, x) = p4 .put-hexadecimal .ensures in
+    let (b, y) = p1 .part-place .ensures in
     let m = a .long in
     let n = b .long in
     (omega arith, omega arith)
@@ -69,9 +73,13 @@ same-length-2 c = search needs
 
 returns : tie.Need-returns
 returns c =
-    let (l, p) = c .before .before .before .before .before .before .before .before .before .before .before .before .before .before .before .before .before .before .before .before .pre in
-    let f = rw (c .before .before .before .before .before .before .heads .given .1) at (c .before .before .before .before .before .before .before .before .before .before .find-part .ensures) in
-    let (a, x) = c .before .before .before .before .before .before .before .before .before .before .before .before .before .before .put-hexadecimal .ensures in
+    let p2 = c .before .before .before .before .before .before in
+    let p3 = p2 .before .before .before .before in
+    let p4 = p3 .before .before .before .before in
+    let p5 = p4 .before .before .before .before .before .before in
+    let (l, p) = p5 .pre in
+    let f = rw (p2 .heads .given .1) at (p3 .find-part .ensures) in
+    let (a, x) = p4 .put-hexadecimal .ensures in
     let b = c .before .before .put .ensures in
     let e = b .ends in
     (part-text _ _ _ _ _ _ _ _ _ (absent-text _ _ _ _ l _ f) (omega arith) a b, omega arith)
@@ -84,10 +92,15 @@ same-length-4 c = search needs
 
 returns-2 : tie.Need-returns-2
 returns-2 c =
-    let (l, p) = c .before .before .before .before .before .before .before .before .before .before .before .before .before .before .before .before .before .before .before .before .before .before .before .before .before .before .pre in
-    let f = rw (c .before .before .before .before .before .before .before .before .before .before .before .before .refusal .given .1) at (c .before .before .before .before .before .before .before .before .before .before .before .before .before .before .before .before .find-part .ensures) in
-    let (a, x) = c .before .before .before .before .before .before .before .before .before .before .before .before .before .before .before .before .before .before .before .before .put-hexadecimal .ensures in
-    let (b, y) = c .before .before .before .before .before .before .before .put-decimal .ensures in
+    let p2 = c .before .before .before .before .before .before .before in
+    let p3 = p2 .before .before .before .before .before in
+    let p4 = p3 .before .before .before .before in
+    let p5 = p4 .before .before .before .before in
+    let p6 = p5 .before .before .before .before .before .before in
+    let (l, p) = p6 .pre in
+    let f = rw (p3 .refusal .given .1) at (p4 .find-part .ensures) in
+    let (a, x) = p5 .put-hexadecimal .ensures in
+    let (b, y) = p2 .put-decimal .ensures in
     let d = c .before .before .put2 .ensures in
     let e = d .ends in
     let m = a .long in
@@ -102,11 +115,16 @@ same-length-6 c = search needs
 
 returns-3 : tie.Need-returns-3
 returns-3 c =
-    let (l, p) = c .before .before .before .before .before .before .before .before .before .before .before .before .before .before .before .before .before .before .before .before .before .before .before .before .pre in
-    let f = rw (c .before .before .before .before .before .before .before .before .before .before .at .given .1) at (c .before .before .before .before .before .before .before .before .before .before .before .before .before .before .find-part .ensures) in
+    let p2 = c .before .before .before .before .before .before .before in
+    let p3 = p2 .before .before .before in
+    let p4 = p3 .before .before .before .before in
+    let p5 = p4 .before .before .before .before in
+    let p6 = p5 .before .before .before .before .before .before in
+    let (l, p) = p6 .pre in
+    let f = rw (p3 .at .given .1) at (p4 .find-part .ensures) in
     let k = found-few _ _ _ _ l _ _ _ _ f in
-    let (a, x) = c .before .before .before .before .before .before .before .before .before .before .before .before .before .before .before .before .before .before .put-hexadecimal .ensures in
-    let (b, y) = c .before .before .before .before .before .before .before .part-place .ensures in
+    let (a, x) = p5 .put-hexadecimal .ensures in
+    let (b, y) = p2 .part-place .ensures in
     let (d, z) = c .before .before .row-lines .ensures in
     let m = a .long in
     let w = then _ _ _ _ _ _ _ _ (omega arith) b d in

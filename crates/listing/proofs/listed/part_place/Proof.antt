@@ -36,10 +36,14 @@ same-length c = search needs
 returns : tie.Need-returns
 unfolding partPlace
 returns c =
-    let p = c .before .before .before .before .before .before .before .before .before .before .before .before .before .before .before .before .before .before .before .before .before .pre in
-    let (at, a) = c .before .before .before .before .before .before .before .before .before .before .before .before .before .before .before .before .before .put-decimal .ensures in
-    let (size, s) = c .before .before .before .before .before .before .before .before .before .before .before .before .put-decimal2 .ensures in
-    let (count, k) = c .before .before .before .before .before .before .before .put-decimal3 .ensures in
+    let p2 = c .before .before .before .before .before .before .before in
+    let p3 = p2 .before .before .before .before .before in
+    let p4 = p3 .before .before .before .before .before in
+    let p5 = p4 .before .before .before .before in
+    let p = p5 .pre in
+    let (at, a) = p4 .put-decimal .ensures in
+    let (size, s) = p3 .put-decimal2 .ensures in
+    let (count, k) = p2 .put-decimal3 .ensures in
     let end = c .before .before .put .ensures in
     let e = end .ends in
     let two = then-labelled _ _ _ _ _ _ _ _ _ (omega arith) at size in

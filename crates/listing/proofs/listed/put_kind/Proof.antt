@@ -69,7 +69,8 @@ same-length c = search needs
 returns : tie.Need-returns
 unfolding kindWord
 returns c =
-    named 1 _ _ _ _ _ _ (c .before .before .before .before .before .match .keys1) refl (omega arith) (c .before .before .put .ensures)
+    let p2 = c .before .before .before .before .before in
+    named 1 _ _ _ _ _ _ (p2 .match .keys1) refl (omega arith) (c .before .before .put .ensures)
 
 same-length-2 : tie.Need-same-length-2
 same-length-2 c = search needs
@@ -77,7 +78,8 @@ same-length-2 c = search needs
 returns-2 : tie.Need-returns-2
 unfolding kindWord
 returns-2 c =
-    named 2 _ _ _ _ _ _ (c .before .before .before .before .before .match .keys2) refl (omega arith) (c .before .before .put2 .ensures)
+    let p2 = c .before .before .before .before .before in
+    named 2 _ _ _ _ _ _ (p2 .match .keys2) refl (omega arith) (c .before .before .put2 .ensures)
 
 same-length-3 : tie.Need-same-length-3
 same-length-3 c = search needs
@@ -85,7 +87,8 @@ same-length-3 c = search needs
 returns-3 : tie.Need-returns-3
 unfolding kindWord
 returns-3 c =
-    named 3 _ _ _ _ _ _ (c .before .before .before .before .before .match .keys3) refl (omega arith) (c .before .before .put3 .ensures)
+    let p2 = c .before .before .before .before .before in
+    named 3 _ _ _ _ _ _ (p2 .match .keys3) refl (omega arith) (c .before .before .put3 .ensures)
 
 same-length-4 : tie.Need-same-length-4
 same-length-4 c = search needs
@@ -93,7 +96,8 @@ same-length-4 c = search needs
 returns-4 : tie.Need-returns-4
 unfolding kindWord
 returns-4 c =
-    named 4 _ _ _ _ _ _ (c .before .before .before .before .before .match .keys4) refl (omega arith) (c .before .before .put4 .ensures)
+    let p2 = c .before .before .before .before .before in
+    named 4 _ _ _ _ _ _ (p2 .match .keys4) refl (omega arith) (c .before .before .put4 .ensures)
 
 same-length-5 : tie.Need-same-length-5
 same-length-5 c = search needs
@@ -101,7 +105,8 @@ same-length-5 c = search needs
 returns-5 : tie.Need-returns-5
 unfolding kindWord
 returns-5 c =
-    named 5 _ _ _ _ _ _ (c .before .before .before .before .before .match .keys5) refl (omega arith) (c .before .before .put5 .ensures)
+    let p2 = c .before .before .before .before .before in
+    named 5 _ _ _ _ _ _ (p2 .match .keys5) refl (omega arith) (c .before .before .put5 .ensures)
 
 same-length-6 : tie.Need-same-length-6
 same-length-6 c = search needs
@@ -109,7 +114,8 @@ same-length-6 c = search needs
 returns-6 : tie.Need-returns-6
 unfolding kindWord
 returns-6 c =
-    named 6 _ _ _ _ _ _ (c .before .before .before .before .before .match .keys6) refl (omega arith) (c .before .before .put6 .ensures)
+    let p2 = c .before .before .before .before .before in
+    named 6 _ _ _ _ _ _ (p2 .match .keys6) refl (omega arith) (c .before .before .put6 .ensures)
 
 same-length-7 : tie.Need-same-length-7
 same-length-7 c = search needs
@@ -117,7 +123,8 @@ same-length-7 c = search needs
 returns-7 : tie.Need-returns-7
 unfolding kindWord
 returns-7 c =
-    named 7 _ _ _ _ _ _ (c .before .before .before .before .before .match .keys7) refl (omega arith) (c .before .before .put7 .ensures)
+    let p2 = c .before .before .before .before .before in
+    named 7 _ _ _ _ _ _ (p2 .match .keys7) refl (omega arith) (c .before .before .put7 .ensures)
 
 same-length-8 : tie.Need-same-length-8
 same-length-8 c = search needs
@@ -125,7 +132,8 @@ same-length-8 c = search needs
 returns-8 : tie.Need-returns-8
 unfolding kindWord
 returns-8 c =
-    named 8 _ _ _ _ _ _ (c .before .before .before .before .before .match .keys8) refl (omega arith) (c .before .before .put8 .ensures)
+    let p2 = c .before .before .before .before .before in
+    named 8 _ _ _ _ _ _ (p2 .match .keys8) refl (omega arith) (c .before .before .put8 .ensures)
 
 same-length-9 : tie.Need-same-length-9
 same-length-9 c = search needs
@@ -133,9 +141,10 @@ same-length-9 c = search needs
 returns-9 : tie.Need-returns-9
 unfolding kindWord
 returns-9 c =
-    let start′ = c .before .before .before .before .before .before .before in
-    let other = c .before .before .before .before .before .match .rest in
-    let none : kindWord (start′ .args .kind) ≡ [] =
+    let p2 = c .before .before .before .before .before in
+    let p3 = p2 .before .before in
+    let other = p2 .match .rest in
+    let none : kindWord (p3 .args .kind) ≡ [] =
     rw (
       ne-eqb _ _ (other .0 .0 .0 .0 .0 .0 .0 .1),
       ne-eqb _ _ (other .0 .0 .0 .0 .0 .0 .1),
@@ -147,7 +156,7 @@ returns-9 c =
       ne-eqb _ _ (other .1),
     )
     refl in
-    unnamed (start′ .args .kind) _ _ _ _ none (c .before .before .put9 .ensures)
+    unnamed (p3 .args .kind) _ _ _ _ none (c .before .before .put9 .ensures)
 
 pub put-kind-spec : {M : Type 1} → statement M
 put-kind-spec =

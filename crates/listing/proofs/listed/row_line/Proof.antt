@@ -30,10 +30,14 @@ same-length c = search needs
 returns : tie.Need-returns
 unfolding rowLine
 returns c =
-    let p = c .before .before .before .before .before .before .before .before .before .before .before .before .before .before .before .before .before .before .before .pre in
-    let (place, a) = c .before .before .before .before .before .before .before .before .before .before .before .before .before .before .before .before .row-place .ensures in
-    let (kind, k) = c .before .before .before .before .before .before .before .before .before .before .before .before .put-kind .ensures in
-    let (id, i) = c .before .before .before .before .before .before .before .put-hexadecimal .ensures in
+    let p2 = c .before .before .before .before .before .before .before in
+    let p3 = p2 .before .before .before .before .before in
+    let p4 = p3 .before .before .before .before in
+    let p5 = p4 .before .before .before in
+    let p = p5 .pre in
+    let (place, a) = p4 .row-place .ensures in
+    let (kind, k) = p3 .put-kind .ensures in
+    let (id, i) = p2 .put-hexadecimal .ensures in
     let end = c .before .before .put .ensures in
     let e = end .ends in
     let two = then-labelled _ _ _ _ _ _ _ _ _ (omega arith) place kind in

@@ -17,15 +17,18 @@ loop-holds c = listed-starts _ _ _ _
 
 row-at-requires : tie.Need-row-at-requires Inv-loop μ-loop
 row-at-requires c κs =
-    let p = c .before .before .before .before .before .pre in
+    let p2 = c .before .before .before .before .before in
+    let p = p2 .pre in
     let t = c .before .loop-test .taken in
     omega arith
 
 row-line-requires : tie.Need-row-line-requires Inv-loop μ-loop
 row-line-requires c κs =
-    let p = c .before .before .before .before .before .before .pre in
+    let p2 = c .before .before .before in
+    let p3 = p2 .before .before .before in
+    let p = p3 .pre in
     let t = c .before .before .loop-test .taken in
-    let i = c .before .before .before .loop .inv in
+    let i = p2 .loop .inv in
     let f = i .few in
     let l = i .wrote .long in
     omega arith
@@ -38,8 +41,12 @@ loop-less c = search needs
 
 loop-again : tie.Need-loop-again Inv-loop μ-loop
 loop-again c =
+    let p2 = c .before .before .before in
+    let p3 = p2 .before .before in
+    let p4 = p3 .before in
+    let p5 = p4 .before .before .before in
     let (w, m) = c .before .before .row-line .ensures in
-    listed-goes-on _ _ _ _ _ _ _ _ _ _ (c .before .before .before .before .before .before .before .before .before .pre .1) (c .before .before .before .before .before .loop-test .taken) (c .before .before .before .row-at .ensures) (c .before .before .before .before .before .before .loop .inv) w m
+    listed-goes-on _ _ _ _ _ _ _ _ _ _ (p5 .pre .1) (p3 .loop-test .taken) (p2 .row-at .ensures) (p4 .loop .inv) w m
 
 same-length : tie.Need-same-length Inv-loop μ-loop
 same-length c = c .before .loop .inv .wrote .long

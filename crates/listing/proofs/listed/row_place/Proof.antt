@@ -36,10 +36,14 @@ same-length c = search needs
 returns : tie.Need-returns
 unfolding rowPlace
 returns c =
-    let p = c .before .before .before .before .before .before .before .before .before .before .before .before .before .before .before .before .before .before .before .before .before .pre in
-    let (address, a) = c .before .before .before .before .before .before .before .before .before .before .before .before .before .before .before .before .before .put-decimal .ensures in
-    let (header, h) = c .before .before .before .before .before .before .before .before .before .before .before .before .put-decimal2 .ensures in
-    let (payload, l) = c .before .before .before .before .before .before .before .put-decimal3 .ensures in
+    let p2 = c .before .before .before .before .before .before .before in
+    let p3 = p2 .before .before .before .before .before in
+    let p4 = p3 .before .before .before .before .before in
+    let p5 = p4 .before .before .before .before in
+    let p = p5 .pre in
+    let (address, a) = p4 .put-decimal .ensures in
+    let (header, h) = p3 .put-decimal2 .ensures in
+    let (payload, l) = p2 .put-decimal3 .ensures in
     let (depth, d) = c .before .before .put-decimal4 .ensures in
     let two = then-labelled _ _ _ _ _ _ _ _ _ (omega arith) address header in
     let three = then-labelled _ _ _ _ _ _ _ _ _ (omega arith) two payload in

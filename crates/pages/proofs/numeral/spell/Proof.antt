@@ -16,9 +16,7 @@ abbrev μ-loop : tie.MeasureT-loop
 μ-loop value base text₀ first₀ rest₀ text first rest = rest
 
 loop-holds : tie.Need-loop-holds Inv-loop μ-loop
-loop-holds c =
-    let start′ = c .before in
-    spelling-starts _ (start′ .pre .1 .0) _ _ (start′ .pre .0) (start′ .pre .1 .1 .1)
+loop-holds c = spelling-starts _ (c .before .pre .1 .0) _ _ (c .before .pre .0) (c .before .pre .1 .1 .1)
 
 sub-first : tie.Need-sub-first Inv-loop μ-loop
 sub-first c = let i = c .before .loop .inv .some in omega arith
@@ -28,9 +26,9 @@ rem-glyph c = search needs
 
 glyph-requires : tie.Need-glyph-requires Inv-loop μ-loop
 glyph-requires c κs =
-    let start′ = c .before .before .before in
-    let b = start′ .pre in
-    let m = mod-lt (c .before .loop .rest) {m = start′ .args .base} (omega arith) in
+    let p2 = c .before .before .before in
+    let b = p2 .pre in
+    let m = mod-lt (c .before .loop .rest) {m = p2 .args .base} (omega arith) in
     omega arith
 
 slice-write-text : tie.Need-slice-write-text Inv-loop μ-loop
@@ -46,13 +44,15 @@ div-rest c = search needs
 
 loop-less : tie.Need-loop-less Inv-loop μ-loop
 loop-less c =
-    let start′ = c .before .before .before .before in
-    let b = start′ .pre in
-    div-lt-self {n = c .before .before .loop .rest} {k = start′ .args .base} (omega arith) (b .1 .0)
+    let p2 = c .before .before .before .before in
+    let b = p2 .pre in
+    div-lt-self {n = c .before .before .loop .rest} {k = p2 .args .base} (omega arith) (b .1 .0)
 
 loop-again : tie.Need-loop-again Inv-loop μ-loop
 loop-again c =
-    spelling-goes-on _ (c .before .before .before .before .pre .1 .0) _ _ _ _ _ (c .before .loop-test .taken) (c .glyph .ensures) (c .before .before .loop .inv)
+    let p3 = c .before .before .before .before in
+    spelling-goes-on _ (p3 .pre .1 .0) _ _ _ _ _ (c .before .loop-test .taken) (c .glyph .ensures)
+    (c .before .before .loop .inv)
 
 sub-first-2 : tie.Need-sub-first-2 Inv-loop μ-loop
 sub-first-2 c = let i = c .before .loop .inv .some in omega arith
@@ -70,14 +70,16 @@ slice-write-text-2 c =
 
 same-length : tie.Need-same-length Inv-loop μ-loop
 same-length c =
-    let loop′ = c .before .before .loop in
-    length-set (loop′ .text) (loop′ .first - 1) (c .glyph2 .result) ∙ loop′ .inv .long ∙ sym (c .before .before .before .before .pre .0)
+    let p2 = c .before .before .before .before in
+    length-set (c .before .before .loop .text) (c .before .before .loop .first - 1) (c .glyph2 .result) ∙
+    c .before .before .loop .inv .long ∙ sym (p2 .pre .0)
 
 returns : tie.Need-returns Inv-loop μ-loop
 returns c =
+    let p3 = c .before .before .before .before in
     let i = c .before .before .loop .inv in
     let f = i .few in
-    (omega arith, spelling-ends _ (c .before .before .before .before .pre .1 .0) _ _ _ _ _ (c .before .loop-test .left) (c .glyph2 .ensures) i)
+    (omega arith, spelling-ends _ (p3 .pre .1 .0) _ _ _ _ _ (c .before .loop-test .left) (c .glyph2 .ensures) i)
 
 pub spell-spec : {M : Type 1} → statement M
 spell-spec =

@@ -23,14 +23,16 @@ shared-slice-read-page c = search needs
 
 add-page : tie.Need-add-page Inv-loop μ-loop
 add-page c =
-    let p = c .before .before .before .pre in
+    let p2 = c .before .before .before in
+    let p = p2 .pre in
     let t = c .before .loop-test .taken in
     search needs
 
 slice-write-page : tie.Need-slice-write-page Inv-loop μ-loop
 slice-write-page c =
+    let p3 = c .before .before .before in
     let i = c .before .before .loop .inv in
-    let p = c .before .before .before .pre in
+    let p = p3 .pre in
     let t = c .before .loop-test .taken in
     let l = copied-long _ _ _ _ _ p (i .0) (i .1) in
     omega arith
@@ -43,8 +45,9 @@ loop-less c = search needs
 
 loop-again : tie.Need-loop-again Inv-loop μ-loop
 loop-again c =
+    let p3 = c .before .before .before in
     let i = c .before .before .loop .inv in
-    let p = c .before .before .before .pre in
+    let p = p3 .pre in
     let t = c .before .loop-test .taken in
     (omega arith, copied-on _ _ _ _ _ (omega arith) t (i .1))
 

@@ -31,9 +31,11 @@ same-length c = search needs
 
 returns : tie.Need-returns
 returns c =
-    let spell′ = c .before .before .before .before .before .before .before .spell in
-    labelled-number _ _ _ _ _ _ _ _ 16 _ (c .before .before .before .before .before .before .before .before .before .before .before .before .before .before .before .pre) (c .before .before .before .before .before .before .before .before .before .before .before .put .ensures) (c .before .before .put2 .ensures)
-    (whole-end (spell′ .last .1 .1 .0) (spell′ .result) (spell′ .kept .1 .1 .0) ∙ spell′ .ensures .1)
+    let p2 = c .before .before .before .before .before .before .before in
+    let p3 = p2 .before .before .before .before in
+    let p4 = p3 .before .before .before .before in
+    labelled-number _ _ _ _ _ _ _ _ 16 _ (p4 .pre) (p3 .put .ensures) (c .before .before .put2 .ensures)
+    (whole-end (p2 .spell .last .1 .1 .0) (p2 .spell .result) (p2 .spell .kept .1 .1 .0) ∙ p2 .spell .ensures .1)
 
 pub put-hexadecimal-spec : {M : Type 1} → statement M
 put-hexadecimal-spec =
