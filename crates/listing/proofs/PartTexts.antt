@@ -71,7 +71,7 @@ pub part-text :
     → Wrote page held (partLines s part) r′ page″
 unfolding partLines
 part-text s part text page held r page′ r′ page″ e room v w =
-    rw e (then page held (ascii "part " ++ hexadecimal part) r page′ text r′ page″ room v w)
+    rw e (then page held (ascii "part " ++ hexadecimal part) r page′ text r′ page″ v w room)
 
 -- ---- the whole listing
 

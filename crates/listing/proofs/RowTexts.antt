@@ -43,8 +43,7 @@ pub listed-goes-on :
     → Listed page held table rows page″ r (n + 1)
 listed-goes-on page held table rows page′ end n row r page″ room l e i w m =
     let f = i .few in
-    let both = then page held (rowLines (rowsOf table n)) end page′ (rowLine row) r page″ (omega arith)
-    (i .wrote) w in
+    let both = then page held (rowLines (rowsOf table n)) end page′ (rowLine row) r page″ (i .wrote) w (omega arith) in
     record {
       some = omega arith;
       few = omega arith;

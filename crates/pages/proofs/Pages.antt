@@ -78,8 +78,8 @@ module _ (page : List ℕ) (held : ℕ) (a b : List ℕ) (room : held + length a
 -- A text behind a text.
 pub then :
     (page : List ℕ) (held : ℕ) (a : List ℕ) (r : ℕ) (page′ b : List ℕ) (r′ : ℕ) (page″ : List ℕ)
-    → r′ ≤ length page → Wrote page held a r page′ → Wrote page′ r b r′ page″ → Wrote page held (a ++ b) r′ page″
-then page held a r page′ b r′ page″ room v w =
+    → Wrote page held a r page′ → Wrote page′ r b r′ page″ → r′ ≤ length page → Wrote page held (a ++ b) r′ page″
+then page held a r page′ b r′ page″ v w room =
     let e : r′ ≡ held + length a + length b = w .ends ∙ ap (λ (x : ℕ). x + length b) (v .ends) in
     record {
       ends = e ∙ (omega (arith, length-append a b));
@@ -93,10 +93,10 @@ then page held a r page′ b r′ page″ room v w =
 -- A labelled text behind a text.
 pub then-labelled :
     (page : List ℕ) (held : ℕ) (a : List ℕ) (r : ℕ) (page′ label b : List ℕ) (r′ : ℕ) (page″ : List ℕ)
-    → r′ ≤ length page → Wrote page held a r page′ → Wrote page′ r (label ++ b) r′ page″
+    → Wrote page held a r page′ → Wrote page′ r (label ++ b) r′ page″ → r′ ≤ length page
     → Wrote page held (a ++ label ++ b) r′ page″
-then-labelled page held a r page′ label b r′ page″ room v w =
-    rw (append-assoc a label b) (then page held a r page′ (label ++ b) r′ page″ room v w)
+then-labelled page held a r page′ label b r′ page″ v w room =
+    rw (append-assoc a label b) (then page held a r page′ (label ++ b) r′ page″ v w room)
 
 -- The end of a text, from a place on, is all that stands there.
 pub whole-end :
@@ -116,4 +116,4 @@ labelled-number page held label r page′ digits r′ page″ base value room v 
     let e : r′ ≡ held + length label + length (numeral base 20 value)
     = w .ends ∙ ap (λ (x : List ℕ). r + length x) d ∙ ap (λ (x : ℕ). x + length (numeral base 20 value))
     (v .ends) in
-    (then page held label r page′ (numeral base 20 value) r′ page″ (omega arith) v (rw d at w), omega arith)
+    (then page held label r page′ (numeral base 20 value) r′ page″ v (rw d at w) (omega arith), omega arith)

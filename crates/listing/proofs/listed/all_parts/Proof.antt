@@ -37,9 +37,9 @@ returns c =
     let (attachments, b) = p3 .part-lines2 .ensures in
     let (chapters, d) = p2 .part-lines3 .ensures in
     let (tags, e) = p1 .part-lines4 .ensures in
-    let two = then _ _ _ _ _ _ _ _ (omega arith) tracks attachments in
-    let three = then _ _ _ _ _ _ _ _ (omega arith) two chapters in
-    (then _ _ _ _ _ _ _ _ (omega arith) three tags, omega arith)
+    let two = then _ _ _ _ _ _ _ _ tracks attachments (omega arith) in
+    let three = then _ _ _ _ _ _ _ _ two chapters (omega arith) in
+    (then _ _ _ _ _ _ _ _ three tags (omega arith), omega arith)
 
 pub all-parts-spec : {M : Type 1} → statement M
 all-parts-spec =

@@ -45,8 +45,8 @@ returns-2 c =
     let end = p2 .put2 .ensures in
     let e = end .ends in
     let (parts, b) = c .before .all-parts .ensures in
-    let line = then _ _ _ _ _ _ _ _ (search needs) first end in
-    let whole = then _ _ _ _ _ _ _ _ (search needs) line parts in
+    let line = then _ _ _ _ _ _ _ _ first end (search needs) in
+    let whole = then _ _ _ _ _ _ _ _ line parts (search needs) in
     listing-is _ _ _ _ _ (not-too-long _ (p4 .if1 .left)) (search needs) whole
 
 pub listing-spec : {M : Type 1} → statement M

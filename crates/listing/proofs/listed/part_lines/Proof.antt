@@ -104,7 +104,7 @@ returns-2 c =
     let d = c .before .before .put2 .ensures in
     let e = d .ends in
     let m = a .long in
-    let w = then _ _ _ _ _ _ _ _ (omega arith) b d in
+    let w = then _ _ _ _ _ _ _ _ b d (omega arith) in
     (part-text _ _ _ _ _ _ _ _ _ (refused-text _ _ _ _ l _ f) (omega arith) a w, omega arith)
 
 same-length-5 : tie.Need-same-length-5
@@ -127,7 +127,7 @@ returns-3 c =
     let (b, y) = p2 .part-place .ensures in
     let (d, z) = c .before .before .row-lines .ensures in
     let m = a .long in
-    let w = then _ _ _ _ _ _ _ _ (omega arith) b d in
+    let w = then _ _ _ _ _ _ _ _ b d (omega arith) in
     (part-text _ _ _ _ _ _ _ _ _ (found-text _ _ _ _ l _ _ _ _ f) (omega arith) a w, omega arith)
 
 pub part-lines-spec : {M : Type 1} → statement M

@@ -1,6 +1,7 @@
 -- `part_place` meets its contract: three labelled numbers and the line's end. Assumes nothing.
 use native.Mathlib.Omega.{arith}
 use Rattle.listing.specs.Listing.{partPlace}
+use Rattle.pages.specs.Text.{ascii}
 use Rattle.pages.proofs.Pages.{then, then-labelled}
 use borrow.Author.Needs.{needs}
 use Rattle.listing.proofs.listed.part_place.Statement.{statement}
@@ -46,9 +47,9 @@ returns c =
     let (count, k) = p2 .put-decimal3 .ensures in
     let end = c .before .before .put .ensures in
     let e = end .ends in
-    let two = then-labelled _ _ _ _ _ _ _ _ _ (omega arith) at size in
-    let three = then-labelled _ _ _ _ _ _ _ _ _ (omega arith) two count in
-    (then _ _ _ _ _ _ _ _ (omega arith) three end, omega arith)
+    let two = then-labelled _ _ _ _ _ (ascii " size ") _ _ _ at size (omega arith) in
+    let three = then-labelled _ _ _ _ _ (ascii " rows ") _ _ _ two count (omega arith) in
+    (then _ _ _ _ _ _ _ _ three end (omega arith), omega arith)
 
 pub part-place-spec : {M : Type 1} → statement M
 part-place-spec =

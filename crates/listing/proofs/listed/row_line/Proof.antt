@@ -1,6 +1,7 @@
 -- `row_line` meets its contract: where the row is, its kind, its id. Assumes nothing.
 use native.Mathlib.Omega.{arith}
 use Rattle.listing.specs.Listing.{rowLine}
+use Rattle.pages.specs.Text.{ascii}
 use Rattle.pages.proofs.Pages.{then, then-labelled}
 use borrow.Author.Needs.{needs}
 use Rattle.listing.proofs.listed.row_line.Statement.{statement}
@@ -40,9 +41,9 @@ returns c =
     let (id, i) = p2 .put-hexadecimal .ensures in
     let end = c .before .before .put .ensures in
     let e = end .ends in
-    let two = then-labelled _ _ _ _ _ _ _ _ _ (omega arith) place kind in
-    let three = then-labelled _ _ _ _ _ _ _ _ _ (omega arith) two id in
-    (then _ _ _ _ _ _ _ _ (omega arith) three end, omega arith)
+    let two = then-labelled _ _ _ _ _ (ascii " ") _ _ _ place kind (omega arith) in
+    let three = then-labelled _ _ _ _ _ (ascii " ") _ _ _ two id (omega arith) in
+    (then _ _ _ _ _ _ _ _ three end (omega arith), omega arith)
 
 pub row-line-spec : {M : Type 1} → statement M
 row-line-spec =

@@ -1,6 +1,7 @@
 -- `row_place` meets its contract: four numbers, a space between them. Assumes nothing.
 use native.Mathlib.Omega.{arith}
 use Rattle.listing.specs.Listing.{rowPlace}
+use Rattle.pages.specs.Text.{ascii}
 use Rattle.pages.proofs.Pages.{then-labelled}
 use borrow.Author.Needs.{needs}
 use Rattle.listing.proofs.listed.row_place.Statement.{statement}
@@ -45,9 +46,9 @@ returns c =
     let (header, h) = p3 .put-decimal2 .ensures in
     let (payload, l) = p2 .put-decimal3 .ensures in
     let (depth, d) = c .before .before .put-decimal4 .ensures in
-    let two = then-labelled _ _ _ _ _ _ _ _ _ (omega arith) address header in
-    let three = then-labelled _ _ _ _ _ _ _ _ _ (omega arith) two payload in
-    (then-labelled _ _ _ _ _ _ _ _ _ (omega arith) three depth, omega arith)
+    let two = then-labelled _ _ _ _ _ (ascii " ") _ _ _ address header (omega arith) in
+    let three = then-labelled _ _ _ _ _ (ascii " ") _ _ _ two payload (omega arith) in
+    (then-labelled _ _ _ _ _ (ascii " ") _ _ _ three depth (omega arith), omega arith)
 
 pub row-place-spec : {M : Type 1} → statement M
 row-place-spec =

@@ -1,9 +1,9 @@
--- `put_hexadecimal` meets its contract: the label, and then the digits. Assumes nothing.
+-- `put_number` meets its contract: the label, and then the digits. Assumes nothing.
 use mathlib.Core.Path.{_∙_}
 use Rattle.pages.proofs.Pages.{whole-end, labelled-number}
 use borrow.Author.Needs.{needs}
-use Rattle.pages.proofs.page.put_hexadecimal.Statement.{statement}
-use Rattle.pages.proofs.page.put_hexadecimal.Tie as tie
+use Rattle.pages.proofs.page.put_number.Statement.{statement}
+use Rattle.pages.proofs.page.put_number.Tie as tie
 
 put-requires : tie.Need-put-requires
 put-requires c κs = search needs
@@ -34,11 +34,11 @@ returns c =
     let p2 = c .before .before .before .before .before .before .before in
     let p3 = p2 .before .before .before .before in
     let p4 = p3 .before .before .before .before in
-    labelled-number _ _ _ _ _ _ _ _ 16 _ (p4 .pre) (p3 .put .ensures) (c .before .before .put2 .ensures)
+    labelled-number _ _ _ _ _ _ _ _ _ _ (p4 .pre .0) (p3 .put .ensures) (c .before .before .put2 .ensures)
     (whole-end (p2 .spell .last .1 .1 .0) (p2 .spell .result) (p2 .spell .kept .1 .1 .0) ∙ p2 .spell .ensures .1)
 
-pub put-hexadecimal-spec : {M : Type 1} → statement M
-put-hexadecimal-spec =
+pub put-number-spec : {M : Type 1} → statement M
+put-number-spec =
     tie.close
     (tie.spec
     put-requires
