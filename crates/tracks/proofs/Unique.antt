@@ -1,6 +1,6 @@
 -- Any two replies and tables that a promise permits to one question are equal. Assumes nothing.
 use Prim.Native.Nat.{ℕ}
-use mathlib.Core.Path.{_≡_, ap, _∙_}
+use mathlib.Core.Path.{_≡_, ap, sym, _∙_}
 use native.Mathlib.Omega.{arith}
 use Rattle.fields.specs.declared.field.Number.{Number}
 use Rattle.fields.specs.declared.field.Real.{Real}
@@ -9,10 +9,9 @@ use Rattle.records.specs.Promise.{ofBelow}
 use Rattle.records.proofs.Lists.{first, rest}
 use Rattle.records.proofs.Unique.{same-refused, one-answer}
 use Rattle.tracks.specs.Records.{audioOf}
-use Rattle.tracks.specs.Told.{audioValues}
-use Rattle.tracks.specs.Told.{audioTold}
+use Rattle.tracks.specs.Told.{audioValues, audioTold}
 use Rattle.tracks.specs.Promise.{audioAsked}
-use Rattle.tracks.specs.Theorems.{OneAudio}
+use Rattle.tracks.specs.Theorems.{OneAudio, OneTracktype}
 use Rattle.tracks.specs.declared.audio.Audio.{Audio}
 use Rattle.tracks.specs.declared.audio.AudioReply.{AudioReply}
 use Rattle.tracks.specs.declared.audio.AudioReply.the-variants.{Audio as IsAudio, Refused as NoAudio}
@@ -47,3 +46,6 @@ pub audio-unique : OneAudio
 audio-unique s start size k t u r r′ t′ u′ l p q =
     let (a, b) = one-answer (ofBelow (audioOf s)) (audioAsked s start size k) _ _ _ _ _ _ l p q in
     (audio-told r r′ a, b)
+
+pub tracktype-unique : OneTracktype
+tracktype-unique n r r′ p q = p ∙ sym q

@@ -1,6 +1,5 @@
 // The type of a track by its number.
-ghost use mathlib.Core.Path.{_≡_};
-ghost use Rattle.tracks.specs.Tracktypes.{tracktypeOf};
+ghost use Rattle.tracks.specs.Promise.{TracktypePromise};
 
 pub enum Tracktype {
     Video,
@@ -16,7 +15,7 @@ pub enum Tracktype {
 impl Tracktype {
     // Any other number is Unknown.
     pub fn new(number: u64) -> Tracktype
-        ensures { λ r. ⌜ r ≡ tracktypeOf number ⌝ }
+        ensures { λ r. ⌜ TracktypePromise number r ⌝ }
     {
         match number {
             1 => Tracktype::Video,
