@@ -2,8 +2,8 @@
 use crate::asked::Asked;
 use crate::table;
 use crate::told;
-use records::Attachment;
-use records::AttachmentReply;
+use attachments::Attachment;
+use attachments::AttachmentReply;
 
 pub fn attachment(
     asked: Asked,
@@ -12,7 +12,7 @@ pub fn attachment(
     out: &mut [u8; 65536],
     held: usize,
 ) -> usize {
-    let reply = records::attachment_at(recording, asked.at, asked.size, asked.k, table);
+    let reply = attachments::attachment_at(recording, asked.at, asked.size, asked.k, table);
     match reply {
         AttachmentReply::Refused(refusal) => table::refused_told(refusal, table, out, held),
         AttachmentReply::Attachment { attachment, rows } => {

@@ -5,8 +5,8 @@ use crate::told;
 use fields::Real;
 use lines::numbers;
 use lines::out;
-use records::Audio;
-use records::AudioReply;
+use tracks::Audio;
+use tracks::AudioReply;
 
 pub fn audio(
     asked: Asked,
@@ -15,7 +15,7 @@ pub fn audio(
     out: &mut [u8; 65536],
     held: usize,
 ) -> usize {
-    let reply = records::audio_at(recording, asked.at, asked.size, asked.k, table);
+    let reply = tracks::audio_at(recording, asked.at, asked.size, asked.k, table);
     match reply {
         AudioReply::Refused(refusal) => table::refused_told(refusal, table, out, held),
         AudioReply::Audio { audio, rows } => {

@@ -2,9 +2,9 @@
 use crate::asked::Asked;
 use crate::table;
 use crate::told;
+use chapters::Chapter;
+use chapters::ChapterReply;
 use fields::Number;
-use records::Chapter;
-use records::ChapterReply;
 
 pub fn chapter(
     asked: Asked,
@@ -13,7 +13,7 @@ pub fn chapter(
     out: &mut [u8; 65536],
     held: usize,
 ) -> usize {
-    let reply = records::chapter_at(recording, asked.at, asked.size, asked.k, asked.i, table);
+    let reply = chapters::chapter_at(recording, asked.at, asked.size, asked.k, asked.i, table);
     match reply {
         ChapterReply::Refused(refusal) => table::refused_told(refusal, table, out, held),
         ChapterReply::Chapter { chapter, rows } => {

@@ -2,8 +2,8 @@
 use crate::asked::Asked;
 use crate::table;
 use crate::told;
-use records::ChapterDisplay;
-use records::DisplayReply;
+use chapters::ChapterDisplay;
+use chapters::DisplayReply;
 
 pub fn display(
     asked: Asked,
@@ -12,7 +12,7 @@ pub fn display(
     out: &mut [u8; 65536],
     held: usize,
 ) -> usize {
-    let reply = records::display_at(
+    let reply = chapters::display_at(
         recording,
         asked.at,
         asked.size,

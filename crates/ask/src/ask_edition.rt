@@ -2,9 +2,9 @@
 use crate::asked::Asked;
 use crate::table;
 use crate::told;
+use chapters::ChapterEdition;
+use chapters::EditionReply;
 use fields::Number;
-use records::ChapterEdition;
-use records::EditionReply;
 
 pub fn edition(
     asked: Asked,
@@ -13,7 +13,7 @@ pub fn edition(
     out: &mut [u8; 65536],
     held: usize,
 ) -> usize {
-    let reply = records::edition_at(recording, asked.at, asked.size, asked.k, table);
+    let reply = chapters::edition_at(recording, asked.at, asked.size, asked.k, table);
     match reply {
         EditionReply::Refused(refusal) => table::refused_told(refusal, table, out, held),
         EditionReply::Edition { edition, rows } => {

@@ -4,8 +4,8 @@ use crate::table;
 use crate::told;
 use fields::TagValue;
 use lines::out;
-use records::SimpleReply;
-use records::SimpleTag;
+use tags::SimpleReply;
+use tags::SimpleTag;
 
 pub fn simple(
     asked: Asked,
@@ -14,7 +14,7 @@ pub fn simple(
     out: &mut [u8; 65536],
     held: usize,
 ) -> usize {
-    let reply = records::simple_tag_at(recording, asked.at, asked.size, asked.k, asked.i, table);
+    let reply = tags::simple_tag_at(recording, asked.at, asked.size, asked.k, asked.i, table);
     match reply {
         SimpleReply::Refused(refusal) => table::refused_told(refusal, table, out, held),
         SimpleReply::Simple { tag, rows } => {

@@ -6,10 +6,10 @@ use fields::Flag;
 use fields::Number;
 use lines::numbers;
 use lines::out;
-use records::Tag;
-use records::TagReply;
-use records::Target;
-use records::Targets;
+use tags::Tag;
+use tags::TagReply;
+use tags::Target;
+use tags::Targets;
 
 pub fn tag(
     asked: Asked,
@@ -18,7 +18,7 @@ pub fn tag(
     out: &mut [u8; 65536],
     held: usize,
 ) -> usize {
-    let reply = records::tag_at(recording, asked.at, asked.size, asked.k, table);
+    let reply = tags::tag_at(recording, asked.at, asked.size, asked.k, table);
     match reply {
         TagReply::Refused(refusal) => table::refused_told(refusal, table, out, held),
         TagReply::Tag { tag, rows } => {

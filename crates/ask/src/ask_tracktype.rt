@@ -2,7 +2,7 @@
 use crate::asked::Asked;
 use lines::out;
 use lines::words;
-use records::Tracktype;
+use tracks::Tracktype;
 
 pub fn tracktype(asked: Asked, out: &mut [u8; 65536], held: usize) -> usize {
     let names = b"video audio complex logo subtitle buttons control unknown";

@@ -4,8 +4,8 @@ use crate::table;
 use crate::told::bad;
 use lines::numbers;
 use lines::words;
-use records::UidList;
-use records::UidReply;
+use tags::UidList;
+use tags::UidReply;
 
 // `uid N`. `word` is LIST.
 pub fn uid(
@@ -20,7 +20,7 @@ pub fn uid(
     if place == 4 {
         return bad(out, held);
     }
-    let reply = records::uid_at(
+    let reply = tags::uid_at(
         recording,
         asked.at,
         asked.size,

@@ -24,13 +24,14 @@ use Rattle.fields.specs.declared.child.Child.the-variants.{At as ChildAt, Absen
 use Rattle.fields.specs.declared.field.Part.the-variants.{At}
 use Rattle.fields.proofs.Picked.{last-is, fits-kind}
 use Rattle.records.specs.Asked.{Asked, found, refusing, tableAfter}
-use Rattle.records.specs.Records.{displayOf}
-use Rattle.records.specs.Told.{displayTold}
-use Rattle.records.specs.Promise.{answerOf, ofBelow, displayAsked}
-use Rattle.records.specs.declared.display.ChapterDisplay.{ChapterDisplay}
-use Rattle.records.specs.declared.display.DisplayReply.the-variants.{Display}
+use Rattle.records.specs.Promise.{answerOf, ofBelow}
 use Rattle.records.proofs.Addressed.{Known-in, child-row, asked-in}
 use Rattle.records.proofs.Settled.{record-is-read}
+use Rattle.chapters.specs.Records.{displayOf}
+use Rattle.chapters.specs.Told.{displayTold}
+use Rattle.chapters.specs.Promise.{displayAsked}
+use Rattle.chapters.specs.declared.display.ChapterDisplay.{ChapterDisplay}
+use Rattle.chapters.specs.declared.display.DisplayReply.the-variants.{Display}
 use Rattle.labels.specs.Shown.{isText, textPlace}
 use Rattle.labels.specs.Theorems.{StageIsShown}
 use Rattle.labels.proofs.Stages.{label-is-shown}

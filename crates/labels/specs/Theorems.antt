@@ -7,9 +7,9 @@ use Rattle.places.specs.Payload.{range, partOf}
 use Rattle.places.specs.declared.payload.RangeReply.{RangeReply}
 use Rattle.fields.specs.declared.field.Part.{Part}
 use Rattle.fields.specs.declared.field.Part.the-variants.{At}
-use Rattle.records.specs.Promise.{DisplayPromise}
-use Rattle.records.specs.declared.display.ChapterDisplay.{ChapterDisplay}
-use Rattle.records.specs.declared.display.DisplayReply.the-variants.{Display}
+use Rattle.chapters.specs.Promise.{DisplayPromise}
+use Rattle.chapters.specs.declared.display.ChapterDisplay.{ChapterDisplay}
+use Rattle.chapters.specs.declared.display.DisplayReply.the-variants.{Display}
 use Rattle.labels.specs.Shown.{textPlace, labelOf}
 use Rattle.labels.specs.Promise.{TextPromise, ShownPromise, LabelPromise}
 

@@ -1,13 +1,13 @@
--- Every address in a record is the payload's place of a row of the table (`RecordsAddressed`). Assumes nothing.
+-- Every address in a record is the payload's place of a row of the table (`Addressed`), for any fields. Assumes nothing.
 use Prim.Native.Nat.{ℕ, zero, suc, _+_, _-_, _*_, _≤_, _<_}
 use mathlib.Core.Path.{_≡_, refl, sym, ap, _∙_, subst}
-use mathlib.Core.List.{List, [], _∷_, _++_}
+use mathlib.Core.List.{List, [], _∷_}
 use mathlib.Core.Bool.{Bool, true, false, cond}
 use native.Mathlib.Omega.{arith}
 use lib.ListN.{length, drop}
 use lib.Dec.{ltb}
 use Rattle.kinds.specs.declared.kind.Kind.{Kind}
-use Rattle.kinds.specs.declared.kind.Kind.the-variants.{Master, Uint, String, Utf8, Binary, Float}
+use Rattle.kinds.specs.declared.kind.Kind.the-variants.{Uint, String, Utf8, Binary, Float}
 use Rattle.elements.specs.Reading.{Outcome, done, refused}
 use Rattle.elements.specs.Rows.{rows, width, rowsOf}
 use Rattle.elements.specs.Promise.{readOf, zeros}
@@ -23,17 +23,14 @@ use Rattle.fields.specs.declared.child.Child.the-variants.{At as ChildAt, Absen
 use Rattle.fields.proofs.Picked.{last-is}
 use Rattle.records.specs.Steps.{entered, reached}
 use Rattle.records.specs.Asked.{Asked, found, refusing, settled, sought, asked, hasMember, listed}
-use Rattle.records.specs.Records.{attachmentOf, editionOf, chapterOf, displayOf, simpleOf, audioOf}
-use Rattle.records.specs.Records.{targetOf, targetsIn, targetsOf, tagOf, memberOf, uidOf}
 use Rattle.records.specs.Told.{fields}
 use Rattle.records.specs.Contract.{Known}
 use Rattle.records.specs.Promise.{RecordPromise}
-use Rattle.records.specs.Theorems.{PayloadOf, Placed, AllPlaced, RecordsAddressed}
+use Rattle.records.specs.Theorems.{PayloadOf, Placed, AllPlaced, Addressed}
 use Rattle.records.specs.declared.locate.Step.{Step}
-use Rattle.records.specs.declared.locate.Step.the-variants.{Here, Nth, Last}
 use Rattle.records.specs.declared.locate.Spot.{Spot}
 use Rattle.records.specs.declared.locate.Spot.the-variants.{Absent, At}
-use Rattle.records.proofs.Ways.{subtree-fits, last-known, entered-known}
+use Rattle.records.proofs.Ways.{subtree-fits, entered-known}
 
 -- ---- a row below a master is one of the rows
 
@@ -90,7 +87,7 @@ module _ (s : List ℕ) (rs : List Row) (parent : ℕ) (l : parent ≤ length rs
         long = ap (λ (x : Row). x .payload) q;
       }
 
-  number-placed : (c : Child) → Placed rs (numberIn s c)
+  pub number-placed : (c : Child) → Placed rs (numberIn s c)
   number-placed NoChild = tt
   number-placed (ChildAt n r) = tt
 
@@ -138,83 +135,37 @@ module _ (s : List ℕ) (rs : List Row) (parent : ℕ) (l : parent ≤ length rs
   abbrev below : List Row
   below = subtree rs parent
 
-  numbers : (id : ℕ) → Placed rs (numberOf s parent below id)
+  pub numbers : (id : ℕ) → Placed rs (numberOf s parent below id)
   unfolding numberOf
   numbers id = number-placed (lastOf (children parent id Uint below))
 
-  flags : (id : ℕ) → Placed rs (flagOf s parent below id)
+  pub flags : (id : ℕ) → Placed rs (flagOf s parent below id)
   unfolding flagOf
   flags id = flag-placed (lastOf (children parent id Uint below))
 
-  reals : (id : ℕ) → Placed rs (realOf s parent below id)
+  pub reals : (id : ℕ) → Placed rs (realOf s parent below id)
   unfolding realOf
   reals id = real-placed (lastOf (children parent id Float below))
 
-  parts : (id : ℕ) (kind : Kind) → Placed rs (partOf s parent below id kind)
+  pub parts : (id : ℕ) (kind : Kind) → Placed rs (partOf s parent below id kind)
   unfolding partOf
   parts id kind = part-placed (lastOf (children parent id kind below)) (paid id kind)
 
-  languages : (isos ietfs : ℕ) → Placed rs (languageOf s parent below isos ietfs)
+  pub languages : (isos ietfs : ℕ) → Placed rs (languageOf s parent below isos ietfs)
   unfolding languageOf
   languages isos ietfs =
       language-placed (lastOf (children parent ietfs String below)) (lastOf (children parent isos String below))
       (paid ietfs String) (paid isos String)
 
-  values : (texts binaries : ℕ) → Placed rs (valueOf s parent below texts binaries)
+  pub values : (texts binaries : ℕ) → Placed rs (valueOf s parent below texts binaries)
   unfolding valueOf
   values texts binaries =
       value-placed (lastOf (children parent texts Utf8 below)) (lastOf (children parent binaries Binary below))
       (paid texts Utf8) (paid binaries Binary)
 
-  counts : (id : ℕ) (kind : Kind) → Placed rs (countOf s parent below id kind)
+  pub counts : (id : ℕ) (kind : Kind) → Placed rs (countOf s parent below id kind)
   unfolding countOf
   counts id kind = tt
-
-  -- ---- the records
-
-  attachment-placed : AllPlaced rs (attachmentOf s parent below)
-  unfolding attachmentOf AllPlaced
-  attachment-placed = (parts _ _, (parts _ _, (parts _ _, (parts _ _, tt))))
-
-  edition-placed : AllPlaced rs (editionOf s parent below)
-  unfolding editionOf AllPlaced
-  edition-placed = (numbers _, (flags _, (flags _, (flags _, (counts _ _, tt)))))
-
-  chapter-placed : AllPlaced rs (chapterOf s parent below)
-  unfolding chapterOf AllPlaced
-  chapter-placed =
-      (numbers _, (numbers _, (numbers _, (flags _, (flags _, (parts _ _, (numbers _, (counts _ _, tt))))))))
-
-  display-placed : AllPlaced rs (displayOf s parent below)
-  unfolding displayOf AllPlaced
-  display-placed = (parts _ _, (languages _ _, tt))
-
-  simple-placed : AllPlaced rs (simpleOf s parent below)
-  unfolding simpleOf AllPlaced
-  simple-placed = (parts _ _, (languages _ _, (flags _, (values _ _, tt))))
-
-  audio-placed : AllPlaced rs (audioOf s parent below)
-  unfolding audioOf AllPlaced
-  audio-placed = (reals _, (numbers _, (numbers _, tt)))
-
-  target-placed : (vs : List Value) → AllPlaced rs vs → AllPlaced rs (targetOf s parent below ++ vs)
-  unfolding targetOf AllPlaced
-  target-placed vs p =
-      (numbers _, (parts _ _, (counts _ _, (counts _ _, (counts _ _, (counts _ _, p))))))
-
-module _ (s : List ℕ) (rs : List Row) (parent : ℕ) (l : parent ≤ length rs) where
-  tag-placed : AllPlaced rs (tagOf s rs parent)
-  unfolding tagOf targetsOf AllPlaced
-  tag-placed = go (lastOf (children parent 0x63C0 Master (subtree rs parent))) refl
-    where
-      go : (c : Child) → lastOf (children parent 0x63C0 Master (subtree rs parent)) ≡ c
-          → AllPlaced rs (targetsIn s rs parent c ++ (countOf s parent (subtree rs parent) 0x67C8 Master ∷ []))
-      go NoChild e = (tt, (counts s rs parent l _ _, tt))
-      go (ChildAt n r) e = (
-        tt,
-        target-placed s rs (suc n) (last-known rs parent 0x63C0 Master l n r (sym e)) _
-            (counts s rs parent l _ _, tt),
-      )
 
 -- ---- the question
 
@@ -262,30 +213,19 @@ addressed values (found rs parent) numbers vs n t′ f k p =
     let w : rowsOf t′ n ≡ rs = rw (p .table, m) (rows-back rs (zeros (numbers - length rs * width))) in
     subst (λ (x : List Row). AllPlaced x vs) (sym w) (subst (AllPlaced rs) (sym e) (f rs parent k))
 
-abbrev tagTargets : List ℕ → ℕ → ℕ → ℕ → ℕ → Asked
-tagTargets s start size k numbers = asked s start size 0x7373 numbers (Nth 0x7373 k) (Last 0x63C0) Here
+-- A question whose values are placed among any rows is addressed.
+module _
+    (values : List Row → ℕ → List Value) (s : List ℕ) (start size parent : ℕ) (first second third : Step)
+    (f : (rs : List Row) (master : ℕ) → master ≤ length rs → AllPlaced rs (values rs master)) where
+  abbrev ask : ℕ → Asked
+  ask numbers = asked s start size parent numbers first second third
 
-pub records-addressed : RecordsAddressed
-unfolding AllPlaced uidOf
-records-addressed =
-    record {
-      attachment = λ s start size k numbers vs n t′.
-          addressed _ _ numbers vs n t′ (attachment-placed s) (asked-in s start size _ numbers _ _ _);
-      edition = λ s start size k numbers vs n t′.
-          addressed _ _ numbers vs n t′ (edition-placed s) (asked-in s start size _ numbers _ _ _);
-      chapter = λ s start size k i numbers vs n t′.
-          addressed _ _ numbers vs n t′ (chapter-placed s) (asked-in s start size _ numbers _ _ _);
-      display = λ s start size k i j numbers vs n t′.
-          addressed _ _ numbers vs n t′ (display-placed s) (asked-in s start size _ numbers _ _ _);
-      tag = λ s start size k numbers vs n t′.
-          addressed _ _ numbers vs n t′ (tag-placed s) (asked-in s start size _ numbers _ _ _);
-      uid = λ s start size k list i numbers vs n t′.
-          addressed _ _ numbers vs n t′
-          (λ rs parent l. (number-placed s rs parent l (memberOf list i rs parent), tt))
-          (listed-in (tagTargets s start size k numbers) (memberOf list i)
-          (asked-in s start size 0x7373 numbers _ _ _));
-      simple = λ s start size k i numbers vs n t′.
-          addressed _ _ numbers vs n t′ (simple-placed s) (asked-in s start size _ numbers _ _ _);
-      audio = λ s start size k numbers vs n t′.
-          addressed _ _ numbers vs n t′ (audio-placed s) (asked-in s start size _ numbers _ _ _);
-    }
+  pub asked-addressed : Addressed values ask
+  asked-addressed numbers vs n t′ =
+      addressed values (ask numbers) numbers vs n t′ f (asked-in s start size parent numbers first second third)
+
+  -- The same of a member of one of its lists.
+  pub listed-addressed : (member : List Row → ℕ → Child) → Addressed values (λ numbers. listed (ask numbers) member)
+  listed-addressed member numbers vs n t′ =
+      addressed values (listed (ask numbers) member) numbers vs n t′ f
+      (listed-in (ask numbers) member (asked-in s start size parent numbers first second third))

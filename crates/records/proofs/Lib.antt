@@ -1,8 +1,6 @@
--- The laws that the proofs of `records` share, and its theorems.
+-- The laws that the proofs of `records` and of the crates above share, and its theorems.
 pub mod Ways
 pub mod Lists
 pub mod Settled
-pub mod Tags
 pub mod Unique
 pub mod Addressed
-pub mod Cases

@@ -16,3 +16,14 @@ pub counted : (s : List ℕ) (parent : ℕ) (below : List Row) (id : ℕ) (kind 
     → n ≡ length (children parent id kind below) → count n ≡ countOf s parent below id kind
 unfolding countOf
 counted s parent below id kind n e = ap count e
+
+-- ---- and apart again
+
+pub first : {a b : Value} {l m : List Value} → a ∷ l ≡ b ∷ m → a ≡ b
+first {a} {b} {l} {m} q = cc
+
+pub rest : {a b : Value} {l m : List Value} → a ∷ l ≡ b ∷ m → l ≡ m
+rest {a} {b} {l} {m} q = cc
+
+pub count-once : (n m : ℕ) → count n ≡ count m → n ≡ m
+count-once n m q = cc

@@ -1,9 +1,7 @@
 -- The definitions that the contracts of `records` cite, and the statements of its theorems.
 pub mod Steps
 pub mod Asked
-pub mod Records
 pub mod Told
-pub mod Tracktypes
 pub mod Contract
 pub mod Promise
 pub mod Theorems

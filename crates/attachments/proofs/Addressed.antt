@@ -1,0 +1,23 @@
+-- Every address in a record is the payload's place of a row of the table (`AttachmentsAddressed`). Assumes nothing.
+use Prim.Native.Nat.{ℕ, _≤_}
+use mathlib.Core.List.{List}
+use lib.ListN.{length}
+use Rattle.elements.specs.declared.row.Row.{Row}
+use Rattle.fields.specs.Children.{subtree}
+use Rattle.records.specs.Theorems.{AllPlaced}
+use Rattle.records.proofs.Addressed.{parts, asked-addressed}
+use Rattle.attachments.specs.Records.{attachmentOf}
+use Rattle.attachments.specs.Theorems.{AttachmentsAddressed}
+
+module _ (s : List ℕ) (rs : List Row) (parent : ℕ) (l : parent ≤ length rs) where
+  attachment-placed : AllPlaced rs (attachmentOf s parent (subtree rs parent))
+  unfolding attachmentOf AllPlaced
+  attachment-placed =
+      let part = parts s rs parent l in
+      (part _ _, (part _ _, (part _ _, (part _ _, tt))))
+
+pub attachments-addressed : AttachmentsAddressed
+attachments-addressed =
+    record {
+      attachment = λ s start size k. asked-addressed _ s start size _ _ _ _ (attachment-placed s);
+    }

@@ -1,0 +1,4 @@
+-- The theorems of `attachments`.
+pub mod Unique
+pub mod Addressed
+pub mod Cases

@@ -1,0 +1,27 @@
+-- Worked records of Attachments, as one table: a question about a small payload, and the answer. They show the rules of
+-- document 01, Records.
+use Prim.Native.Nat.{ℕ}
+use mathlib.Core.List.{List, [], _∷_}
+use lib.ListN.{length}
+use Rattle.fields.specs.Values.{unset, part}
+use Rattle.records.specs.Told.{Answer, fields}
+use Rattle.records.specs.Promise.{answerOf, ofBelow}
+use Rattle.records.specs.Cases.{Case, case, numbers}
+use Rattle.attachments.specs.Records.{attachmentOf}
+use Rattle.attachments.specs.Promise.{attachmentAsked}
+
+-- The question, of a whole payload: the index, and the answer.
+abbrev attachment : List ℕ → ℕ → Answer → Case
+attachment s k a = case (answerOf (ofBelow (attachmentOf s)) (attachmentAsked s 0 (length s) k numbers)) a
+
+-- An attached file with a name and one byte of data, behind an empty one.
+abbrev twoFiles : List ℕ
+twoFiles =
+    0x61 ∷ 0xA7 ∷ 0x80 ∷ 0x61 ∷ 0xA7 ∷ 0x88 ∷ 0x46 ∷ 0x6E ∷ 0x81 ∷ 0x61 ∷ 0x46 ∷ 0x5C ∷ 0x81 ∷ 0x00 ∷ []
+
+abbrev pub cases : List Case
+cases =
+    -- Records are counted from 0.
+    attachment twoFiles 0 (fields (unset ∷ unset ∷ unset ∷ unset ∷ []) 4)
+    ∷ attachment twoFiles 1 (fields (unset ∷ part 9 1 ∷ unset ∷ part 13 1 ∷ []) 4)
+    ∷ []

@@ -1,0 +1,25 @@
+-- What the question for an attached file promises of its reply and of the table.
+use Prim.Native.Nat.{ℕ}
+use mathlib.Core.List.{List}
+use lib.ListN.{length}
+use Rattle.records.specs.Asked.{Asked, asked}
+use Rattle.records.specs.Promise.{RecordPromise, ofBelow}
+use Rattle.records.specs.declared.locate.Step.the-variants.{Here, Nth}
+use Rattle.attachments.specs.Records.{attachmentOf}
+use Rattle.attachments.specs.Told.{attachmentTold}
+use Rattle.attachments.specs.declared.attachment.AttachmentReply.{AttachmentReply}
+
+-- ---- the questions, with a table of so many numbers
+
+-- The payload is read under 61A7, the id that document 01, Kinds, gives for Attachments, so that the full set of masters
+-- holds for its direct children.
+module _ (s : List ℕ) (start size k : ℕ) where
+  abbrev pub attachmentAsked : ℕ → Asked
+  attachmentAsked numbers = asked s start size 0x61A7 numbers (Nth 0x61A7 k) Here Here
+
+-- ---- the promises
+
+abbrev pub AttachmentPromise : List ℕ → ℕ → ℕ → ℕ → List ℕ → AttachmentReply → List ℕ → Type 0
+AttachmentPromise s start size k t r t′ =
+    RecordPromise (ofBelow (attachmentOf s)) (attachmentAsked s start size k (length t)) (length t)
+    (attachmentTold r) t′

@@ -1,0 +1,21 @@
+-- Document 01's values for the fields of an attached file.
+use mathlib.Core.List.{List, [], _∷_}
+use Rattle.fields.specs.Values.{Value}
+use Rattle.fields.specs.Told.{partTold}
+use Rattle.records.specs.Told.{Answer, fields, refuses}
+use Rattle.attachments.specs.declared.attachment.Attachment.{Attachment}
+use Rattle.attachments.specs.declared.attachment.AttachmentReply.{AttachmentReply}
+use Rattle.attachments.specs.declared.attachment.AttachmentReply.the-variants.{Attachment as IsAttachment}
+use Rattle.attachments.specs.declared.attachment.AttachmentReply.the-variants.{Refused as NoAttachment}
+
+-- ---- the fields of a record
+
+abbrev pub attachmentValues : Attachment → List Value
+attachmentValues a =
+    partTold (a .description) ∷ partTold (a .name) ∷ partTold (a .«mime_type») ∷ partTold (a .data) ∷ []
+
+-- ---- the replies
+
+abbrev pub attachmentTold : AttachmentReply → Answer
+attachmentTold (IsAttachment a rows) = fields (attachmentValues a) rows
+attachmentTold (NoAttachment e) = refuses e

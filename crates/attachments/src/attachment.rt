@@ -1,0 +1,73 @@
+// An attached file: its fields, and the question for the k-th.
+ghost use mathlib.Core.Path.{_≡_};
+ghost use Rattle.fields.specs.Children.{rowsIn};
+ghost use Rattle.fields.specs.Contract.{Readable};
+ghost use Rattle.attachments.specs.Records.{attachmentOf};
+ghost use Rattle.attachments.specs.Told.{attachmentValues};
+ghost use Rattle.attachments.specs.Promise.{AttachmentPromise};
+use fields::Below;
+use fields::Part;
+use fields::part_field;
+use header::Refusal;
+use kinds::Kind;
+use kinds::ids;
+use records::locate::Located;
+use records::locate::Step;
+use records::locate::locate;
+
+pub struct Attachment {
+    pub description: Part,
+    pub name: Part,
+    pub mime_type: Part,
+    pub data: Part,
+}
+
+// The record with how many rows the table holds, or a refusal.
+pub enum AttachmentReply {
+    Attachment { attachment: Attachment, rows: u64 },
+    Refused(Refusal),
+}
+
+fn attachment_in(recording: &[u8], table: &[u64], master: Below) -> Attachment
+    requires { ⌜ Readable (now recording) (now table) master ⌝ }
+    ensures { λ r. ⌜ attachmentValues r ≡ attachmentOf (now (recording .entry)) (master .parent) (rowsIn (now (table .entry)) master) ⌝ }
+{
+    Attachment {
+        description: part_field(recording, table, master, ids::FILEDESCRIPTION, Kind::Utf8),
+        name: part_field(recording, table, master, ids::FILENAME, Kind::Utf8),
+        mime_type: part_field(recording, table, master, ids::FILEMIMETYPE, Kind::String),
+        data: part_field(recording, table, master, ids::FILEDATA, Kind::Binary),
+    }
+}
+
+// Attachment k of the Attachments payload of `size` bytes from `start` on.
+pub fn attachment_at(
+    recording: &[u8],
+    start: u64,
+    size: u64,
+    k: u64,
+    table: &mut [u64],
+) -> AttachmentReply
+    ensures { λ r. ⌜ AttachmentPromise (now (recording .entry)) start size k (now (table .entry)) r (now (table .exit)) ⌝ }
+{
+    let file = Step::Nth {
+        id: ids::ATTACHEDFILE,
+        k,
+    };
+    match locate(
+        recording,
+        start,
+        size,
+        ids::ATTACHEDFILE,
+        file,
+        Step::Here,
+        Step::Here,
+        table,
+    ) {
+        Located::Refused(refusal) => AttachmentReply::Refused(refusal),
+        Located::At { master, rows } => AttachmentReply::Attachment {
+            attachment: attachment_in(recording, table, master),
+            rows: rows as u64,
+        },
+    }
+}

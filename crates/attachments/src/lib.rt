@@ -1,0 +1,8 @@
+// The records of Attachments (document 01, Records): attached files.
+//
+// A record question takes the place of a part's payload, reads it into a lent table and builds the record asked for.
+mod attachment;
+
+pub use attachment::Attachment;
+pub use attachment::AttachmentReply;
+pub use attachment::attachment_at;

@@ -1,0 +1,4 @@
+-- The theorems of `chapters`.
+pub mod Unique
+pub mod Addressed
+pub mod Cases

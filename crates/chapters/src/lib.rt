@@ -1,0 +1,16 @@
+// The records of Chapters (document 01, Records): editions, their chapters, and what a chapter is shown as.
+//
+// A record question takes the place of a part's payload, reads it into a lent table and builds the record asked for.
+mod chapter;
+mod display;
+mod edition;
+
+pub use chapter::Chapter;
+pub use chapter::ChapterReply;
+pub use chapter::chapter_at;
+pub use display::ChapterDisplay;
+pub use display::DisplayReply;
+pub use display::display_at;
+pub use edition::ChapterEdition;
+pub use edition::EditionReply;
+pub use edition::edition_at;

@@ -1,0 +1,149 @@
+-- A tag: its Targets, and the members of their uid lists. Assumes nothing.
+use Prim.Native.Nat.{ℕ, suc, _+_, _≤_}
+use mathlib.Core.Path.{_≡_, sym, ap, _∙_, subst}
+use mathlib.Core.List.{List, [], _∷_, _++_}
+use mathlib.Core.Bool.{true, false}
+use native.Mathlib.Omega.{arith}
+use lib.ListN.{length}
+use Rattle.header.specs.Refusals.{noRecord}
+use Rattle.header.specs.declared.refusal.Refusal.{Refusal}
+use Rattle.kinds.specs.declared.kind.Kind.the-variants.{Master, Uint}
+use Rattle.elements.specs.Rows.{rowsOf}
+use Rattle.elements.specs.Promise.{zeros}
+use Rattle.elements.specs.declared.row.Row.{Row}
+use Rattle.elements.proofs.Numbered.{length-rows-of}
+use Rattle.elements.proofs.Whole.{zeros-as}
+use Rattle.fields.specs.Children.{subtree, children, lastOf, nthOf, rowsIn}
+use Rattle.fields.specs.Contract.{BelowIs}
+use Rattle.fields.specs.Values.{Value, number, flag, count, uintIn, numberIn}
+use Rattle.fields.specs.Fields.{countOf}
+use Rattle.fields.specs.declared.child.Below.{Below}
+use Rattle.fields.specs.declared.child.Child.{Child}
+use Rattle.fields.specs.declared.child.Child.the-variants.{At as ChildAt, Absent as NoChild}
+use Rattle.records.specs.Asked.{Asked, found, refusing, hasMember, listed, tableAfter}
+use Rattle.records.specs.Told.{fields, refuses}
+use Rattle.records.specs.Contract.{Stands, LocatePromise}
+use Rattle.records.specs.Promise.{answerOf, RecordPromise}
+use Rattle.records.specs.declared.locate.Located.the-variants.{At, Refused}
+use Rattle.records.proofs.Ways.{last-known}
+use Rattle.tags.specs.Records.{targetOf, targetsIn, targetsOf, tagOf, memberId, memberOf, uidOf}
+use Rattle.tags.specs.Told.{targetValues, targetsValues}
+use Rattle.tags.specs.declared.tag.Target.{Target}
+use Rattle.tags.specs.declared.tag.Targets.{Targets}
+use Rattle.tags.specs.declared.uid.UidList.{UidList}
+
+module _ (s t : List ℕ) (rows : ℕ) (b : Below) (h : Stands s t rows b) where
+  -- ---- the last Targets
+
+  abbrev last : Child
+  last = lastOf (children (b .parent) 0x63C0 Master (rowsIn t b))
+
+  pub targets-known : (n : ℕ) (r : Row) → ChildAt n r ≡ last → n + 1 ≤ rows
+  targets-known n r e =
+      let c = length-rows-of t rows in
+      let l : b .parent ≤ length (rowsOf t rows) = omega (arith, h .below .some, h .below .held) in
+      let k = last-known (rowsOf t rows) (b .parent) 0x63C0 Master l n r
+      (e ∙ ap (λ (x : List Row). lastOf (children (b .parent) 0x63C0 Master x)) (h .below .are)) in
+      omega arith
+
+  -- Its own rows stand among those that were read.
+  pub inner-stands : (n : ℕ) (inner : Below) → BelowIs t rows n inner → Stands s t rows inner
+  inner-stands n inner m =
+      record {
+        held = h .held;
+        short = h .short;
+        sound = h .sound;
+        below = subst (λ (x : ℕ). BelowIs t rows x inner) (sym (m .master)) m;
+      }
+
+  targets-by : (c : Child) → c ≡ last
+      → targetsIn s (rowsOf t rows) (b .parent) c ≡ targetsOf s (rowsOf t rows) (b .parent)
+  unfolding targetsOf
+  targets-by c e =
+      ap (targetsIn s (rowsOf t rows) (b .parent))
+      (e ∙ ap (λ (x : List Row). lastOf (children (b .parent) 0x63C0 Master x)) (h .below .are))
+
+  pub no-targets : NoChild ≡ last → flag false ∷ [] ≡ targetsOf s (rowsOf t rows) (b .parent)
+  no-targets e = targets-by NoChild e
+
+  pub are-targets :
+      (n : ℕ) (r : Row) (inner : Below) (x : Target) → ChildAt n r ≡ last → BelowIs t rows (n + 1) inner
+      → targetValues x ≡ targetOf s (inner .parent) (rowsIn t inner)
+      → flag true ∷ targetValues x ≡ targetsOf s (rowsOf t rows) (b .parent)
+  are-targets n r inner x e m q =
+      let k : n + 1 ≡ suc n = omega arith in
+      ap (λ (v : List Value). flag true ∷ v)
+      (q
+      ∙ ap (λ (y : ℕ). targetOf s y (rowsIn t inner)) (m .master)
+      ∙ ap (targetOf s (n + 1)) (m .are)
+      ∙ ap (λ (y : ℕ). targetOf s y (subtree (rowsOf t rows) y)) k)
+      ∙ targets-by (ChildAt n r) e
+
+  pub tag-is :
+      (x : Targets) (n : ℕ) → targetsValues x ≡ targetsOf s (rowsOf t rows) (b .parent)
+      → n ≡ length (children (b .parent) 0x67C8 Master (rowsIn t b))
+      → targetsValues x ++ (count n ∷ []) ≡ tagOf s (rowsOf t rows) (b .parent)
+  unfolding tagOf countOf
+  tag-is x n e q =
+      ap (λ (v : List Value). v ++ (count n ∷ [])) e
+      ∙ ap (λ (m : ℕ). targetsOf s (rowsOf t rows) (b .parent) ++ (count m ∷ []))
+      (q ∙ ap (λ (y : List Row). length (children (b .parent) 0x67C8 Master y)) (h .below .are))
+
+-- ---- the members of a uid list
+
+module _ (s : List ℕ) (a : Asked) (numbers : ℕ) (list : UidList) (i : ℕ) where
+  pub uid-refused :
+      (t′ : List ℕ) (e : Refusal) → LocatePromise s a numbers (Refused e) t′
+      → RecordPromise (uidOf s list i) (listed a (memberOf list i)) numbers (refuses e) t′
+  uid-refused t′ e p =
+      let d : listed a (memberOf list i) ≡ refusing e = ap (λ (x : Asked). listed x (memberOf list i)) (p .reply) in
+      record {
+        reply = sym (ap (answerOf (uidOf s list i)) d);
+        table = p .table ∙ ap (tableAfter numbers) (p .reply) ∙ sym (ap (tableAfter numbers) d);
+      }
+
+  module _
+      (t₁ : List ℕ) (n : ℕ) (b : Below) (p : LocatePromise s a numbers (At b n) t₁) (id : ℕ)
+      (k : id ≡ memberId list)
+    where
+      is-member : (c : Child) → c ≡ nthOf i (children (b .parent) id Uint (rowsIn t₁ b))
+          → c ≡ memberOf list i (rowsOf t₁ n) (b .parent)
+      is-member c e =
+          e ∙ ap (λ (x : ℕ). nthOf i (children (b .parent) x Uint (rowsIn t₁ b))) k
+          ∙ ap (λ (x : List Row). nthOf i (children (b .parent) (memberId list) Uint x)) (p .reply .1 .below .are)
+
+      -- The member that the question comes to.
+      asks : (c : Child) → c ≡ nthOf i (children (b .parent) id Uint (rowsIn t₁ b))
+          → listed a (memberOf list i) ≡ hasMember (found (rowsOf t₁ n) (b .parent)) c
+      asks c e =
+          ap (λ (x : Asked). listed x (memberOf list i)) (p .reply .0)
+          ∙ ap (hasMember (found (rowsOf t₁ n) (b .parent))) (sym (is-member c e))
+
+      pub uid-none :
+          (t′ : List ℕ) (e : Refusal) → length t₁ ≡ numbers
+          → NoChild ≡ nthOf i (children (b .parent) id Uint (rowsIn t₁ b))
+          → e ≡ noRecord → t′ ≡ zeros (length t₁)
+          → RecordPromise (uidOf s list i) (listed a (memberOf list i)) numbers (refuses e) t′
+      uid-none t′ e l q w z =
+          let d : listed a (memberOf list i) ≡ refusing e = asks NoChild q ∙ ap refusing (sym w) in
+          record {
+            reply = sym (ap (answerOf (uidOf s list i)) d);
+            table = z ∙ zeros-as l ∙ sym (ap (tableAfter numbers) d);
+          }
+
+      pub uid-found :
+          (m : ℕ) (r : Row) (v : ℕ) → ChildAt m r ≡ nthOf i (children (b .parent) id Uint (rowsIn t₁ b))
+          → v ≡ uintIn s r
+          → RecordPromise (uidOf s list i) (listed a (memberOf list i)) numbers (fields (number v ∷ []) n) t₁
+      unfolding uidOf
+      uid-found m r v q w =
+          let d : listed a (memberOf list i) ≡ found (rowsOf t₁ n) (b .parent) = asks (ChildAt m r) q in
+          record {
+            reply =
+                ap (λ (x : ℕ). fields (number x ∷ []) n) w
+                ∙ ap (λ (c : Child). fields (numberIn s c ∷ []) n) (is-member (ChildAt m r) q)
+                ∙ ap (fields (numberIn s (memberOf list i (rowsOf t₁ n) (b .parent)) ∷ []))
+                (sym (length-rows-of t₁ n))
+                ∙ sym (ap (answerOf (uidOf s list i)) d);
+            table = p .table ∙ ap (tableAfter numbers) (p .reply .0) ∙ sym (ap (tableAfter numbers) d);
+          }

@@ -1,0 +1,51 @@
+-- `target_in` meets its contract: field by field. Assumes nothing.
+use mathlib.Core.Path.{refl}
+use Rattle.tags.specs.Records.{targetOf}
+use Rattle.records.proofs.Lists.{then, counted}
+use borrow.Author.Needs.{needs}
+use Rattle.tags.proofs.tag.target_in.Statement.{statement}
+use Rattle.tags.proofs.tag.target_in.Tie as tie
+
+number-field-requires : tie.Need-number-field-requires
+number-field-requires c κs = search needs
+
+part-field-requires : tie.Need-part-field-requires
+part-field-requires c κs = search needs
+
+count-children-requires : tie.Need-count-children-requires
+count-children-requires c κs = search needs
+
+count-children-requires-2 : tie.Need-count-children-requires-2
+count-children-requires-2 c κs = search needs
+
+count-children-requires-3 : tie.Need-count-children-requires-3
+count-children-requires-3 c κs = search needs
+
+count-children-requires-4 : tie.Need-count-children-requires-4
+count-children-requires-4 c κs = search needs
+
+returns : tie.Need-returns
+unfolding targetOf
+returns c =
+    let number-field = c .before .before .before .before .before .number-field in
+    let part-field = c .before .before .before .before .part-field in
+    let count-children = c .before .before .before .count-children in
+    let count-children2 = c .before .before .count-children2 in
+    then (number-field .ensures)
+    (then (part-field .ensures)
+    (then (counted _ _ _ _ _ _ (count-children .ensures))
+    (then (counted _ _ _ _ _ _ (count-children2 .ensures))
+    (then (counted _ _ _ _ _ _ (c .before .count-children3 .ensures))
+    (then (counted _ _ _ _ _ _ (c .count-children4 .ensures)) refl)))))
+
+pub target-in-spec : {M : Type 1} → statement M
+target-in-spec =
+    tie.close
+    (tie.spec
+    number-field-requires
+    part-field-requires
+    count-children-requires
+    count-children-requires-2
+    count-children-requires-3
+    count-children-requires-4
+    returns)

@@ -1,0 +1,87 @@
+// A simple tag: its fields, and the question for the i-th of a tag.
+ghost use mathlib.Core.Path.{_≡_};
+ghost use Rattle.fields.specs.Children.{rowsIn};
+ghost use Rattle.fields.specs.Contract.{Readable};
+ghost use Rattle.tags.specs.Records.{simpleOf};
+ghost use Rattle.tags.specs.Told.{simpleValues};
+ghost use Rattle.tags.specs.Promise.{SimplePromise};
+use fields::Below;
+use fields::Flag;
+use fields::Language;
+use fields::Part;
+use fields::TagValue;
+use fields::flag_field;
+use fields::language_field;
+use fields::part_field;
+use fields::value_field;
+use header::Refusal;
+use kinds::Kind;
+use kinds::ids;
+use records::locate::Located;
+use records::locate::Step;
+use records::locate::locate;
+
+pub struct SimpleTag {
+    pub name: Part,
+    pub language: Language,
+    pub default: Flag,
+    pub value: TagValue,
+}
+
+// The record with how many rows the table holds, or a refusal.
+pub enum SimpleReply {
+    Simple { tag: SimpleTag, rows: u64 },
+    Refused(Refusal),
+}
+
+fn simple_in(recording: &[u8], table: &[u64], master: Below) -> SimpleTag
+    requires { ⌜ Readable (now recording) (now table) master ⌝ }
+    ensures { λ r. ⌜ simpleValues r ≡ simpleOf (now (recording .entry)) (master .parent) (rowsIn (now (table .entry)) master) ⌝ }
+{
+    SimpleTag {
+        name: part_field(recording, table, master, ids::TAGNAME, Kind::Utf8),
+        language: language_field(
+            recording,
+            table,
+            master,
+            ids::TAGLANGUAGE,
+            ids::TAGLANGUAGE_IETF,
+        ),
+        default: flag_field(recording, table, master, ids::TAGDEFAULT),
+        value: value_field(recording, table, master, ids::TAGSTRING, ids::TAGBINARY),
+    }
+}
+
+// Simple tag i of tag k of the Tags payload of `size` bytes from `start` on.
+pub fn simple_tag_at(
+    recording: &[u8],
+    start: u64,
+    size: u64,
+    k: u64,
+    i: u64,
+    table: &mut [u64],
+) -> SimpleReply
+    ensures { λ r. ⌜ SimplePromise (now (recording .entry)) start size k i (now (table .entry)) r (now (table .exit)) ⌝ }
+{
+    let tag = Step::Nth { id: ids::TAG, k };
+    let simple = Step::Nth {
+        id: ids::SIMPLETAG,
+        k: i,
+    };
+    match locate(
+        recording,
+        start,
+        size,
+        ids::TAG,
+        tag,
+        simple,
+        Step::Here,
+        table,
+    ) {
+        Located::Refused(refusal) => SimpleReply::Refused(refusal),
+        Located::At { master, rows } => SimpleReply::Simple {
+            tag: simple_in(recording, table, master),
+            rows: rows as u64,
+        },
+    }
+}

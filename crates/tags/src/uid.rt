@@ -1,0 +1,80 @@
+// A member of one of the uid lists that say what a tag applies to.
+ghost use mathlib.Core.Path.{_≡_};
+ghost use Rattle.tags.specs.Records.{memberId};
+ghost use Rattle.tags.specs.Promise.{UidPromise};
+use elements::clear;
+use fields::Child;
+use fields::nth_child;
+use fields::uint_in;
+use header::Refusal;
+use kinds::Kind;
+use kinds::ids;
+use records::locate::Located;
+use records::locate::Step;
+use records::locate::locate;
+
+pub enum UidList {
+    Track,
+    Edition,
+    Chapter,
+    Attachment,
+}
+
+// The uid with how many rows the table holds, or a refusal.
+pub enum UidReply {
+    Uid { uid: u64, rows: u64 },
+    Refused(Refusal),
+}
+
+// The id of a list's members.
+fn member_id(list: UidList) -> u32
+    ensures { λ r. ⌜ r ≡ memberId list ⌝ }
+{
+    match list {
+        UidList::Track => ids::TAG_TRACK_UID,
+        UidList::Edition => ids::TAG_EDITION_UID,
+        UidList::Chapter => ids::TAG_CHAPTER_UID,
+        UidList::Attachment => ids::TAG_ATTACHMENT_UID,
+    }
+}
+
+// Member i of a uid list of tag k of the Tags payload of `size` bytes from `start` on. 15: no such tag, no Targets, or
+// no such member.
+pub fn uid_at(
+    recording: &[u8],
+    start: u64,
+    size: u64,
+    k: u64,
+    list: UidList,
+    i: u64,
+    table: &mut [u64],
+) -> UidReply
+    ensures { λ r. ⌜ UidPromise (now (recording .entry)) start size k list i (now (table .entry)) r (now (table .exit)) ⌝ }
+{
+    let tag = Step::Nth { id: ids::TAG, k };
+    let targets = Step::Last(ids::TARGETS);
+    match locate(
+        recording,
+        start,
+        size,
+        ids::TAG,
+        tag,
+        targets,
+        Step::Here,
+        table,
+    ) {
+        Located::Refused(refusal) => UidReply::Refused(refusal),
+        Located::At { master, rows } => {
+            match nth_child(table, master, member_id(list), Kind::Uint, i) {
+                Child::Absent => {
+                    clear(table);
+                    UidReply::Refused(Refusal::no_record())
+                }
+                Child::At { number: _, row } => UidReply::Uid {
+                    uid: uint_in(recording, row),
+                    rows: rows as u64,
+                },
+            }
+        }
+    }
+}

@@ -1,0 +1,31 @@
+-- The worked records of Tracks hold. Assumes nothing.
+use mathlib.Core.Path.{refl}
+use lib.Ieee.{ofBits}
+use Rattle.header.specs.Vint.{octetBits, bits, oneMore, widthOf, bigEndianFrom, bigEndian, ofWidth, vintOf}
+use Rattle.header.specs.Header.{sized, named, headerOf}
+use Rattle.header.specs.Reads.{headerRead, headerAt}
+use Rattle.kinds.specs.Elements.{elements}
+use Rattle.kinds.specs.Kinds.{kindIn, keeps, demoted, kindUnder, member}
+use Rattle.utf8.specs.Utf8.{utf8Char, behind, anyOf, goesOn, utf8}
+use Rattle.bodies.specs.Bodies.{bodyOf}
+use Rattle.bodies.specs.Numbers.{floatOf}
+use Rattle.elements.specs.Forest.{span, count, join}
+use Rattle.elements.specs.Reading.{refuseIf, full, siblings, element, masterBody}
+use Rattle.elements.specs.Rows.{rows}
+use Rattle.elements.specs.Promise.{isTable, allowed, filled, readOf}
+use Rattle.elements.specs.Theorems.{nth}
+use Rattle.fields.specs.Children.{deeper, subtree, fits, childrenFrom, lastFrom, nthOf}
+use Rattle.fields.specs.Fields.{numberOf, realOf}
+use Rattle.records.specs.Steps.{reached}
+use Rattle.records.specs.Asked.{asked}
+use Rattle.records.specs.Cases.{Hold}
+use Rattle.tracks.specs.Records.{audioOf}
+use Rattle.tracks.specs.Cases.{cases}
+
+pub cases-hold : Hold cases
+unfolding octetBits bits oneMore widthOf bigEndianFrom bigEndian ofWidth vintOf sized named headerOf headerRead
+    headerAt elements kindIn keeps demoted kindUnder member utf8Char behind anyOf goesOn utf8 bodyOf floatOf ofBits
+    span count join refuseIf full siblings element masterBody rows isTable allowed filled readOf nth
+    deeper subtree fits childrenFrom lastFrom nthOf numberOf realOf
+    reached asked audioOf
+cases-hold = (refl, (refl, tt))

@@ -1,0 +1,7 @@
+-- The definitions that the contracts of `tracks` cite, and the statements of its theorems.
+pub mod Records
+pub mod Told
+pub mod Tracktypes
+pub mod Promise
+pub mod Theorems
+pub mod Cases

@@ -1,0 +1,32 @@
+// The type of a track by its number.
+ghost use mathlib.Core.Path.{_≡_};
+ghost use Rattle.tracks.specs.Tracktypes.{tracktypeOf};
+
+pub enum Tracktype {
+    Video,
+    Audio,
+    Complex,
+    Logo,
+    Subtitle,
+    Buttons,
+    Control,
+    Unknown,
+}
+
+impl Tracktype {
+    // Any other number is Unknown.
+    pub fn new(number: u64) -> Tracktype
+        ensures { λ r. ⌜ r ≡ tracktypeOf number ⌝ }
+    {
+        match number {
+            1 => Tracktype::Video,
+            2 => Tracktype::Audio,
+            3 => Tracktype::Complex,
+            16 => Tracktype::Logo,
+            17 => Tracktype::Subtitle,
+            18 => Tracktype::Buttons,
+            32 => Tracktype::Control,
+            _ => Tracktype::Unknown,
+        }
+    }
+}
