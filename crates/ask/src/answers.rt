@@ -14,6 +14,7 @@ use crate::ask_part::part;
 use crate::ask_payload::payload;
 use crate::ask_range::range;
 use crate::ask_read::read;
+use crate::ask_shown::shown;
 use crate::ask_simple::simple;
 use crate::ask_tag::tag;
 use crate::ask_tracktype::tracktype;
@@ -47,9 +48,9 @@ fn line_told(
     held: usize,
 ) -> usize {
     let names =
-        b"header kind utf8 body read whose part payload range attachment edition chapter display tag uid simple audio tracktype label";
+        b"header kind utf8 body read whose part payload range attachment edition chapter display tag uid simple audio tracktype label shown";
     let forms =
-        b"ab np b npasb asptb aspdtb ntb asptrb lrb astkb astkb astkib astkijb astkb astkwib astkib astkb k gwb";
+        b"ab np b npasb asptb aspdtb ntb asptrb lrb astkb astkb astkib astkijb astkb astkwib astkib astkb k gwb asptrb";
     let question = words::place_of(words::word(line, 0), names);
     let asked = asked_of(line, words::word(forms, question), recording, table);
     if !asked.good {
@@ -128,6 +129,7 @@ fn record(
         16 => audio(asked, recording, table, out, held),
         17 => tracktype(asked, out, held),
         18 => label(asked, words::word(line, 2), recording, out, held),
+        19 => shown(asked, recording, table, out, held),
         _ => bad(out, held),
     }
 }

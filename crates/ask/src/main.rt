@@ -13,6 +13,7 @@ mod ask_part;
 mod ask_payload;
 mod ask_range;
 mod ask_read;
+mod ask_shown;
 mod ask_simple;
 mod ask_tag;
 mod ask_tracktype;

@@ -105,6 +105,17 @@ fn ask(question: &Question) -> String {
         TrackType { number } => tracktype(*number).to_string(),
         // Added by the port: the crate has nothing of the kind.
         Label { .. } => "no answer".to_string(),
+        Shown {
+            start,
+            size,
+            parent,
+            numbers,
+            row,
+            bytes,
+        } => match read::read(*start, *size, *parent, bytes) {
+            Ok((elements, rows)) => plain(places::shown(&elements, &rows, *numbers, *row)),
+            Err(failed) => with_table(Err(failed)),
+        },
     }
 }
 

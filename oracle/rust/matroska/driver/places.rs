@@ -1,8 +1,9 @@
-//! What the port adds to the element table: whose byte an address is, and a
-//! row's payload. The rows are the crate's, or stand in the question.
+//! What the port adds to the element table: whose byte an address is, a row's
+//! payload and its text. The rows are the crate's, or stand in the question.
 
 use super::read::{read, table, Row};
 use super::{Failed, Outcome};
+use crate::ebml::{Element, ElementType};
 
 /// The lent table's most numbers, 4,096 rows of seven.
 const MOST_NUMBERS: usize = 28_672;
@@ -59,11 +60,46 @@ pub(crate) fn payload(rows: &[Row], numbers: u64, row: u64, bytes: &[u8]) -> Out
         None => Some(&[][..]),
     };
     let part = part.ok_or(Failed::Fault)?;
-    if part.is_empty() {
-        return Ok("bytes -".to_string());
+    Ok(format!("bytes {}", digits(part)))
+}
+
+/// Bytes as they stand in an answer.
+fn digits(bytes: &[u8]) -> String {
+    if bytes.is_empty() {
+        return "-".to_string();
     }
-    let digits: String = part.iter().map(|byte| format!("{:02X}", byte)).collect();
-    Ok(format!("bytes {}", digits))
+    bytes.iter().map(|byte| format!("{:02X}", byte)).collect()
+}
+
+/// The text of a row that was read, of a lent table with so many numbers: the
+/// text that the crate's own tree holds, and where its row says that it stands.
+/// Behind the crate's rows the table holds zeros, which are no text.
+pub(crate) fn shown(elements: &[Element], rows: &[Row], numbers: u64, row: u64) -> Outcome<String> {
+    if row >= numbers / 7 || row >= rows.len() as u64 {
+        return refused("14");
+    }
+    let place = &rows[row as usize];
+    let element = element_at(elements, row).ok_or(Failed::Fault)?;
+    match &element.val {
+        ElementType::String(text) | ElementType::UTF8(text) => Ok(format!(
+            "text {}+{} {}",
+            place.address + place.header,
+            text.len(),
+            digits(text.as_bytes())
+        )),
+        _ => refused("14"),
+    }
+}
+
+/// The element of a row: the rows are the tree in preorder.
+fn element_at(elements: &[Element], row: u64) -> Option<&Element> {
+    let mut next: Vec<&Element> = elements.iter().rev().collect();
+    for _ in 0..row {
+        if let ElementType::Master(children) = &next.pop()?.val {
+            next.extend(children.iter().rev());
+        }
+    }
+    next.pop()
 }
 
 /// The payload range of a row of the table that the question gives.

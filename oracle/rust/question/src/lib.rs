@@ -123,6 +123,14 @@ pub enum Question {
         label: Vec<u8>,
         bytes: Vec<u8>,
     },
+    Shown {
+        start: u64,
+        size: u64,
+        parent: u32,
+        numbers: u64,
+        row: u64,
+        bytes: Vec<u8>,
+    },
 }
 
 /// Takes a line apart, its line feed already removed. `None`: a bad question.
@@ -226,6 +234,14 @@ pub fn parse(line: &[u8]) -> Option<Question> {
             range: range(w[1])?,
             label: bytes(w[2])?,
             bytes: bytes(w[3])?,
+        },
+        (b"shown", 7) => Question::Shown {
+            start: number(w[1])?,
+            size: number(w[2])?,
+            parent: id(w[3])?,
+            numbers: numbers(w[4])?,
+            row: number(w[5])?,
+            bytes: bytes(w[6])?,
         },
         _ => return None,
     })

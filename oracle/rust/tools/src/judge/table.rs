@@ -4,6 +4,7 @@
 use crate::reading::{part, rows, End, Payload, Row, Terms, CRATE, OURS};
 use question::Question;
 use std::fmt::Write;
+use tools::ids::{STRING_KIND, UTF8_KIND};
 
 /// The most numbers that a lent table may have.
 const MOST_NUMBERS: u64 = 28_672;
@@ -68,6 +69,14 @@ fn payload_of(question: &Question) -> Option<Payload<'_>> {
             numbers,
             bytes,
             ..
+        }
+        | Question::Shown {
+            start,
+            size,
+            parent,
+            numbers,
+            bytes,
+            ..
         } => Some(Payload {
             start: *start,
             size: *size,
@@ -104,6 +113,10 @@ fn answer(question: &Question, payload: &Payload, terms: Terms) -> String {
         Question::Whose { address, .. } => with_table(whose(payload, *address, terms)),
         Question::Payload { row, .. } => match read(payload, terms) {
             Ok(rows) => bytes_of(payload, &rows, *row),
+            Err(end) => with_table(Err(end)),
+        },
+        Question::Shown { row, .. } => match read(payload, terms) {
+            Ok(rows) => text_of(payload, &rows, *row),
             Err(end) => with_table(Err(end)),
         },
         _ => with_table(read(payload, terms).map(|rows| table(&rows))),
@@ -170,13 +183,32 @@ fn bytes_of(payload: &Payload, rows: &[Row], row: u64) -> String {
     if row >= payload.numbers / 7 {
         return "refused 14".to_string();
     }
-    let bytes = match rows.get(row as usize) {
-        Some(row) => part(payload.bytes, row.address + row.header, row.payload),
-        None => Some(&[][..]),
-    };
+    match rows.get(row as usize) {
+        Some(row) => told_bytes("bytes ", payload, row),
+        None => "bytes -".to_string(),
+    }
+}
+
+/// A row's shown text, which is its payload. A row that was not used is all zeros,
+/// and its kind is none of the two kinds of text.
+fn text_of(payload: &Payload, rows: &[Row], row: u64) -> String {
+    let used = rows.get(row as usize);
+    let found = used.filter(|_| row < payload.numbers / 7);
+    match found.filter(|row| [STRING_KIND, UTF8_KIND].contains(&row.kind)) {
+        Some(row) => {
+            let place = format!("text {}+{} ", row.address + row.header, row.payload);
+            told_bytes(&place, payload, row)
+        }
+        None => "refused 14".to_string(),
+    }
+}
+
+/// The bytes of a row's payload behind some words.
+fn told_bytes(words: &str, payload: &Payload, row: &Row) -> String {
+    let bytes = part(payload.bytes, row.address + row.header, row.payload);
     match bytes.expect("an accepted row is in the recording") {
-        [] => "bytes -".to_string(),
-        some => some.iter().fold("bytes ".to_string(), |told, byte| {
+        [] => format!("{words}-"),
+        some => some.iter().fold(words.to_string(), |told, byte| {
             told + &format!("{byte:02X}")
         }),
     }

@@ -52,6 +52,20 @@ row-first: a row that is not in the table comes before the read
 range-wraps: the sum of address and lengths wraps at 2^64
 range-address: a payload begins at its header
 range-end: a payload may not end where the recording ends
+shown-string: a row of kind string is no text row
+shown-utf8: a row of kind utf8 is no text row
+shown-binary: a row of kind binary is a text row
+shown-any: a row of every kind is a text row
+shown-unused: a row that is not used shows an empty text
+shown-empty: a row whose text is empty is no text row
+shown-ascii: a string that is not ASCII is no text
+shown-header: shown text begins at its header
+shown-address: shown text is told by its header's address
+shown-start: shown text begins at the recording's start
+shown-short: shown text has no last byte
+shown-zero: shown text ends before a byte of 0
+shown-padded: zeros at the end of shown text are left out
+shown-table: the table is told where a row has no text
 first-seek: the first Seek of an id in a head is taken
 earlier-head: the entry of an earlier head is taken
 first-seek-id: the first SeekID of a Seek is taken

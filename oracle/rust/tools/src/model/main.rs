@@ -114,6 +114,20 @@ fn answer(question: &Question, fault: Fault) -> String {
                 Err(number) => lent.told(Err(number)),
             }
         }
+        Question::Shown {
+            start,
+            size,
+            parent,
+            numbers,
+            row,
+            bytes,
+        } => {
+            let mut lent = Lent::new(*numbers, fault);
+            match lent.read(&Read::new(*start, *size, *parent, bytes)) {
+                Ok(()) => places::shown(&lent, *row, bytes, fault),
+                Err(number) => lent.told(Err(number)),
+            }
+        }
         Question::Part { id, numbers, bytes } => {
             let mut lent = Lent::new(*numbers, fault);
             let found = search::part(&mut lent, *id, bytes, fault);

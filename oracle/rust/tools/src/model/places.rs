@@ -1,8 +1,9 @@
-//! The address question and a row's payload, from the lent table.
+//! The address question, a row's payload and its shown text, from the lent table.
 
 use crate::lent::{broken, Lent, Read};
 use crate::Fault;
 use std::fmt::Write;
+use tools::ids::{BINARY_KIND, STRING_KIND, UTF8_KIND};
 
 /// Reads, and tells the row that holds an address, up to where the table stands
 /// in the answer.
@@ -52,26 +53,90 @@ fn outside(read: &Read, address: u64, fault: Fault) -> bool {
 
 /// The answer for a row's payload, from a table that was filled.
 pub fn payload(lent: &Lent, row: u64, bytes: &[u8], fault: Fault) -> String {
-    let mut numbers = lent.numbers.clone();
-    numbers[7 * lent.used..].fill(0);
+    let numbers = written(lent);
     let mut range = range(&numbers, row, bytes.len() as u64, fault);
     if fault.is("unused-14") && row >= lent.used as u64 {
         range = Err(14);
     }
     match range {
         Ok((from, length)) => {
-            let mut told = "bytes ".to_string();
-            for byte in &bytes[from as usize..(from + length) as usize] {
-                write!(told, "{byte:02X}").expect("a string takes everything");
-            }
-            if length == 0 {
-                told.push('-');
-            }
-            told
+            let part = &bytes[from as usize..(from + length) as usize];
+            format!("bytes {}", digits(part))
         }
         Err(number) if fault.is("row-table") => format!("refused {number} table 0"),
         Err(number) => format!("refused {number}"),
     }
+}
+
+/// The numbers of a table that was filled, zeros behind the last row.
+fn written(lent: &Lent) -> Vec<u64> {
+    let mut numbers = lent.numbers.clone();
+    numbers[7 * lent.used..].fill(0);
+    numbers
+}
+
+/// Bytes as they stand in an answer.
+fn digits(bytes: &[u8]) -> String {
+    if bytes.is_empty() {
+        return "-".to_string();
+    }
+    bytes.iter().fold(String::new(), |mut told, byte| {
+        write!(told, "{byte:02X}").expect("a string takes everything");
+        told
+    })
+}
+
+/// The answer for a row's shown text, from a table that was filled.
+pub fn shown(lent: &Lent, row: u64, bytes: &[u8], fault: Fault) -> String {
+    let numbers = written(lent);
+    let range = range(&numbers, row, bytes.len() as u64, fault);
+    let shown = range.and_then(|range| {
+        let row = numbers.chunks_exact(7).nth(row as usize).ok_or(14u64)?;
+        text(row, range, bytes, fault)
+    });
+    match shown {
+        Ok((from, text)) => format!("text {from}+{} {}", text.len(), digits(text)),
+        Err(number) if fault.is("shown-table") => format!("refused {number} table 0"),
+        Err(number) => format!("refused {number}"),
+    }
+}
+
+/// The text of a row and its address, given the range of the row's payload.
+fn text<'a>(
+    row: &[u64],
+    (from, length): (u64, u64),
+    bytes: &'a [u8],
+    fault: Fault,
+) -> Result<(u64, &'a [u8]), u64> {
+    let (header, kind) = (row[2], row[5]);
+    let whole = &bytes[from as usize..][..length as usize];
+    let is_text = match kind {
+        STRING_KIND if fault.is("shown-ascii") => whole.is_ascii(),
+        STRING_KIND => !fault.is("shown-string"),
+        UTF8_KIND => !fault.is("shown-utf8"),
+        BINARY_KIND if fault.is("shown-binary") => true,
+        0 => fault.is("shown-unused"),
+        _ => fault.is("shown-any"),
+    };
+    if !is_text || whole.is_empty() && fault.is("shown-empty") {
+        return Err(14);
+    }
+    let ends = |end: Option<usize>| &whole[..end.unwrap_or(0)];
+    Ok(match () {
+        () if fault.is("shown-header") => (header, &bytes[header as usize..][..whole.len()]),
+        () if fault.is("shown-address") => (header, whole),
+        () if fault.is("shown-start") => (from, &bytes[..whole.len()]),
+        () if fault.is("shown-short") => (from, ends(whole.len().checked_sub(1))),
+        () if fault.is("shown-zero") => {
+            let zero = whole.iter().position(|byte| *byte == 0);
+            (from, ends(zero.or(Some(whole.len()))))
+        }
+        () if fault.is("shown-padded") => {
+            let last = whole.iter().rposition(|byte| *byte != 0);
+            (from, ends(last.map(|last| last + 1)))
+        }
+        () => (from, whole),
+    })
 }
 
 /// The payload range of a row: its address and its length.

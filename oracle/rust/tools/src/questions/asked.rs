@@ -73,7 +73,7 @@ fn count(random: &mut Random) -> u64 {
 }
 
 /// Elements in a recording, with something before and behind them.
-fn planted(nodes: &[Node], parent: u32, random: &mut Random) -> Asked {
+pub fn planted(nodes: &[Node], parent: u32, random: &mut Random) -> Asked {
     let before = random.one_of(&[0, 0, 0, 1, 2, 7]);
     let mut bytes = random.bytes(before);
     let (tree, spots) = written(nodes);

@@ -19,6 +19,7 @@ mod range;
 mod read;
 mod record;
 mod segment;
+mod shown;
 mod tree;
 mod utf8;
 mod whose;
@@ -31,7 +32,7 @@ use std::io::{self, BufWriter, Write};
 type Kind = fn(seed: u64, j: u64, random: &mut Random) -> Vec<u8>;
 
 /// The kinds that can be asked for, by their word.
-const KINDS: [(&str, Kind); 19] = [
+const KINDS: [(&str, Kind); 20] = [
     ("header", header::question),
     ("kind", kind::question),
     ("utf8", utf8::question),
@@ -51,6 +52,7 @@ const KINDS: [(&str, Kind); 19] = [
     ("audio", record::audio),
     ("tracktype", label::track_type),
     ("label", label::label),
+    ("shown", shown::question),
 ];
 
 /// The kinds that have a whole list; the records and what goes with them have one.

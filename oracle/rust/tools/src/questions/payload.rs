@@ -32,7 +32,7 @@ pub fn question(_seed: u64, j: u64, random: &mut Random) -> Vec<u8> {
 }
 
 /// A row: mostly a used one, else around the last used one and the table's end.
-fn row(asked: &Asked, random: &mut Random) -> u64 {
+pub fn row(asked: &Asked, random: &mut Random) -> u64 {
     let (used, end) = (asked.spots.len() as u64, asked.numbers / 7);
     let around = random.below(3);
     match random.below(10) {
