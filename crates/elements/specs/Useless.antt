@@ -25,7 +25,7 @@ NotAllRefused =
     → (r ≡ Rows 1) × (t′ ≡ 0xAE ∷ 0 ∷ 0 ∷ 2 ∷ 0 ∷ 1 ∷ 0 ∷ zeros width)
 
 -- Not one that gives the same table for all bytes: these two payloads have no leaf, so that no leaf bytes could tell them
--- apart; no table is permitted for both.
+-- apart. Where two rows are lent, no table at exit is permitted for both.
 abbrev pub NotOneTable : Type 0
 NotOneTable =
     (t u : List ℕ) (r r′ : ReadReply) (t′ : List ℕ) → length t ≡ 2 * width → length u ≡ 2 * width

@@ -4,3 +4,4 @@ pub mod Lists
 pub mod Settled
 pub mod Unique
 pub mod Addressed
+pub mod IsRead

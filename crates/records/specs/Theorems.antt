@@ -9,7 +9,8 @@ use Rattle.elements.specs.Theorems.{nth}
 use Rattle.elements.specs.declared.row.Row.{Row}
 use Rattle.elements.specs.declared.reply.ReadReply.the-variants.{Rows}
 use Rattle.fields.specs.Values.{Value, unset, number, flag, part, iso, ietf, text, binary, real, count}
-use Rattle.records.specs.Asked.{Asked, found, asked, tableAfter}
+use Rattle.fields.specs.declared.child.Child.{Child}
+use Rattle.records.specs.Asked.{Asked, found, asked, listed, tableAfter}
 use Rattle.records.specs.Told.{Answer, fields}
 use Rattle.records.specs.Promise.{RecordPromise}
 use Rattle.records.specs.declared.locate.Step.{Step}
@@ -62,3 +63,21 @@ RecordIsRead =
     (s : List ℕ) (start size parent : ℕ) (t : List ℕ) (first second third : Step) (rs : List Row) (master : ℕ)
     → asked s start size parent (length t) first second third ≡ found rs master
     → ReadPromise s start size parent t (Rows (length rs)) (tableAfter (length t) (found rs master))
+
+-- The same of the promise itself: a record that is told leaves the table that the public read leaves, and counts its
+-- rows.
+abbrev pub AnswerIsRead : Type 0
+AnswerIsRead =
+    (values : List Row → ℕ → List Value) (s : List ℕ) (start size parent : ℕ) (t : List ℕ) (first second third : Step)
+    (vs : List Value) (n : ℕ) (t′ : List ℕ)
+    → RecordPromise values (asked s start size parent (length t) first second third) (length t) (fields vs n) t′
+    → ReadPromise s start size parent t (Rows n) t′
+
+-- And of the question for a list member.
+abbrev pub MemberIsRead : Type 0
+MemberIsRead =
+    (values : List Row → ℕ → List Value) (member : List Row → ℕ → Child) (s : List ℕ) (start size parent : ℕ) (t : List ℕ)
+    (first second third : Step) (vs : List Value) (n : ℕ) (t′ : List ℕ)
+    → RecordPromise values (listed (asked s start size parent (length t) first second third) member) (length t)
+    (fields vs n) t′
+    → ReadPromise s start size parent t (Rows n) t′

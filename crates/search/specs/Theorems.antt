@@ -38,9 +38,9 @@ HeadsCounted =
     → heads ≡ length (headsOf (searchOf s part (length t))))
     × ((heads : ℕ) → PartPromise s part t (Absent heads) t′ → heads ≡ length (headsOf (searchOf s part (length t))))
 
--- How a part was found: it was met in the walk, before any head; or a head was met first, and it is at the position
--- that the last entry of its id names. So what is found has the wanted id, and a stale entry is never followed to
--- another element.
+-- What a found part is: an element of the wanted id, with no head read; or the element at the position that the last
+-- entry of its id names, in the chain of heads from a seek head on. So a stale entry is never followed to another
+-- element. Where the walk met the element or the head is what `searchOf` says.
 pub data Way (s : List ℕ) (part start at size : ℕ) (heads : List ℕ) : Type 0 where
   met : (address : ℕ) → IsAt s part address (record { at = at }) size → heads ≡ [] → Way s part start at size heads
   named :
