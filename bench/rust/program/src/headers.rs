@@ -24,7 +24,7 @@ const ANY: usize = 16_384;
 /// How many bytes of noise there are: a header is read at each.
 const NOISE: usize = 65_536;
 
-/// The smallest id of each count of octets, without its marker's bit.
+/// The marker of an id of one to four octets.
 const MARKERS: [u32; 4] = [0x80, 0x4000, 0x20_0000, 0x1000_0000];
 
 /// Both mixes of headers.

@@ -39,6 +39,8 @@ const CUT: usize = 200;
 pub struct Recording {
     way: &'static str,
     elements: usize,
+    /// How many seek heads lead to Chapters.
+    heads: u64,
     bytes: Vec<u8>,
     /// Where the payload of Chapters starts.
     start: usize,
@@ -87,6 +89,7 @@ fn recording(size: usize, headed: bool, chance: &mut Chance) -> Recording {
             "by a walk"
         },
         elements: size,
+        heads: headed.into(),
         start: bytes.len() - chapters.len(),
         bytes,
     }
@@ -242,10 +245,12 @@ pub fn check(recordings: &[Vec<Recording>]) {
         let chapters: usize = editions.iter().map(|edition| edition.chapters.len()).sum();
         let atoms = rows.iter().filter(|row| row[0] == u64::from(CHAPTERATOM));
         let expected = (recording.elements, recording.elements / 4);
-        if counted != expected || chapters != atoms.count() {
+        let found = ours::part(bytes, CHAPTERS, &mut vec![0; NUMBERS]);
+        if counted != expected || chapters != atoms.count() || found != Ok((true, recording.heads))
+        {
             eprintln!(
                 "bench: search, {}: {counted:?} elements and texts, {expected:?} were expected; \
-                 {chapters} chapters by the crate's records",
+                 {chapters} chapters by the crate's records; ours found {found:?}",
                 recording.way,
             );
             exit(1);

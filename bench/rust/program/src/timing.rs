@@ -184,9 +184,7 @@ impl Report {
         for line in &self.growth {
             println!("  growth {line}");
         }
-        println!(
-            "Ratios: the median over the rounds of our time by the other's in the same round, and the least by the least."
-        );
+        println!("Ratios: our time by the other's in the same round, the median, and our least by its least.");
         for line in &self.ratios {
             println!("  ratio {line}");
         }
