@@ -1,11 +1,15 @@
 //! The numbers of kinds, by the crate's own sets.
 
 use super::{
-    ids, IDS_BINARY, IDS_FLOAT, IDS_INT, IDS_MASTER, IDS_MASTER_DEFAULT, IDS_STRING, IDS_UINT,
-    IDS_UTF8,
+    ElementType, IDS_BINARY, IDS_FLOAT, IDS_INT, IDS_MASTER, IDS_MASTER_DEFAULT, IDS_STRING,
+    IDS_UINT, IDS_UTF8,
 };
+use crate::ids;
 
+/// The number of masters.
 pub const MASTER: u64 = 1;
+
+/// The number of binary elements, and of unlisted ones.
 pub const BINARY: u64 = 6;
 
 /// The number of an id's kind, with the tests and in the order of `Element::parse_body`.
@@ -54,4 +58,18 @@ pub fn special() -> Vec<(u32, Vec<u32>)> {
         .entries()
         .map(|(&parent, set)| (parent, set.iter().copied().collect()))
         .collect()
+}
+
+/// The number of the kind that an element was read as.
+pub fn number_read(value: &ElementType) -> u64 {
+    match value {
+        ElementType::Master(_) => MASTER,
+        ElementType::Int(_) => 2,
+        ElementType::UInt(_) => 3,
+        ElementType::String(_) => 4,
+        ElementType::UTF8(_) => 5,
+        ElementType::Binary(_) => BINARY,
+        ElementType::Float(_) => 7,
+        ElementType::Date(_) => 8,
+    }
 }

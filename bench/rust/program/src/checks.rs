@@ -1,11 +1,11 @@
 //! Plain checks of long, deep and empty payloads and of long searches, each printed on a line of its own.
 
+use crate::clock::worked;
 use crate::ours::{self, Answer, Found};
-use crate::payloads::{element, nested, SIBLING};
+use crate::payloads::{element, entry, nested, SIBLING};
 use crate::reads::NUMBERS;
-use matroska::ids::*;
+use matroska::opened::ids::*;
 use std::process::exit;
-use std::time::Instant;
 
 /// How many siblings of two bytes there are.
 const MANY: u64 = 2_000_000;
@@ -78,13 +78,6 @@ pub fn run() {
 /// A search for Tags with the largest table.
 fn tags(recording: &[u8]) -> Found {
     ours::part(recording, TAGS, &mut vec![0; NUMBERS])
-}
-
-/// An entry of a seek head; it has the same length for every position.
-fn entry(id: u32, position: u64) -> Vec<u8> {
-    let id = element(SEEKID, &id.to_be_bytes());
-    let position = element(SEEKPOSITION, &position.to_be_bytes());
-    element(SEEK, &[id, position].concat())
 }
 
 /// A segment with so many seek heads, each leading to the next and the last to Tags behind it.
@@ -166,9 +159,9 @@ fn grows(name: &str, many: u64, mut work: impl FnMut(u64)) {
     let mut least = [f64::INFINITY; 2];
     for _ in 0..TIMES {
         for (least, count) in least.iter_mut().zip([many / 2, many]) {
-            let start = Instant::now();
+            let start = worked();
             work(count);
-            *least = least.min(start.elapsed().as_secs_f64());
+            *least = least.min(worked() - start);
         }
     }
     let [half, all] = least;

@@ -1,7 +1,7 @@
 //! The inputs, the same in every run.
 
-use matroska::ids::*;
-use matroska::number::{listed, special};
+use matroska::opened::ids::*;
+use matroska::opened::number::{listed, special};
 
 /// A generator of numbers that looks random and is the same for ever (xorshift64*).
 pub struct Chance(u64);
@@ -19,7 +19,7 @@ impl Chance {
         high as usize % bound
     }
 
-    fn one_of<T: Copy>(&mut self, values: &[T]) -> T {
+    pub fn one_of<T: Copy>(&mut self, values: &[T]) -> T {
         values[self.below(values.len())]
     }
 }

@@ -1,20 +1,24 @@
-//! Times our lookups of kinds, tests of UTF-8 and reads of elements beside Rust's: bench ROUNDS.
+//! Times our headers, kinds, tests of UTF-8, bodies, reads of elements and searches beside Rust's: bench ROUNDS.
 //! First all answers have to agree and the checks to pass; status 1 and one line if they don't.
 
+mod bodies;
 mod checks;
+mod clock;
+mod headers;
 mod inputs;
 mod ours;
 mod payloads;
 mod reads;
+mod searches;
 mod sorted;
 mod timing;
 
 use inputs::{Chance, Pairs, Texts};
-use matroska::number::number_of;
+use matroska::opened::number::number_of;
 use sorted::Sorted;
 use std::hint::black_box;
 use std::process::exit;
-use timing::compare;
+use timing::Report;
 
 /// How many damaged copies of each text are tested before the timing.
 const DAMAGED: usize = 200;
@@ -28,27 +32,43 @@ fn main() {
     let sorted = Sorted::new();
     let pairs = inputs::pairs();
     let texts = inputs::texts();
+    let headers = headers::headers(&pairs[0]);
+    let bodies = bodies::bodies();
     let payloads = payloads::payloads();
+    let recordings = searches::recordings();
     for pairs in &pairs {
         check_kinds(pairs, &sorted);
     }
     for texts in &texts {
         check_utf8(texts);
     }
+    headers::check(&headers);
+    bodies::check(&bodies);
     reads::check(&payloads);
+    searches::check(&recordings);
     checks::run();
-    println!(
-        "All answers agree. {rounds} rounds: the median, least to most, and the median's rate."
-    );
+    println!("All answers agree. Both are compiled at -O3 for plain x86-64, each in one piece.");
+    println!("{rounds} rounds: the median, least to most, and the median's rate.");
+    let report = &mut Report::new(rounds);
+    for headers in &headers {
+        headers::time(headers, report);
+    }
     for pairs in &pairs {
-        time_kinds(pairs, &sorted, rounds);
+        time_kinds(pairs, &sorted, report);
     }
     for texts in &texts {
-        time_utf8(texts, rounds);
+        time_utf8(texts, report);
+    }
+    for bodies in &bodies {
+        bodies::time(bodies, report);
     }
     for payload in &payloads {
-        reads::time(payload, rounds);
+        reads::time(payload, report);
     }
+    for recordings in &recordings {
+        searches::time(recordings, report);
+    }
+    report.end();
 }
 
 /// The crate's way; parent 0 is none.
@@ -79,12 +99,12 @@ fn sum(pairs: &Pairs, number: impl Fn(u32, u32) -> u64) -> u64 {
     both.map(|(&id, &parent)| number(id, parent)).sum()
 }
 
-fn time_kinds(pairs: &Pairs, sorted: &Sorted, rounds: usize) {
+fn time_kinds(pairs: &Pairs, sorted: &Sorted, report: &mut Report) {
     let count = pairs.ids.len();
-    compare(
-        &format!("Kinds, {}, a lookup ({count} ids):", pairs.name),
+    report.compare(
+        &format!("kind, {}", pairs.name),
+        &format!("a lookup ({count} ids)"),
         count,
-        rounds,
         sum(pairs, by_sets),
         &[
             (
@@ -143,16 +163,16 @@ fn passing(texts: &Texts, test: impl Fn(&[u8]) -> bool) -> u64 {
     good.count() as u64
 }
 
-fn time_utf8(texts: &Texts, rounds: usize) {
+fn time_utf8(texts: &Texts, report: &mut Report) {
     let (count, bytes) = (texts.texts.len(), texts.bytes());
-    compare(
-        &format!("UTF-8, {}, a byte ({bytes} in {count}):", texts.name),
+    report.compare(
+        &format!("UTF-8, {}", texts.name),
+        &format!("a byte ({bytes} in {count})"),
         bytes,
-        rounds,
         count as u64,
         &[
-            ("ours", Box::new(|| passing(texts, ours::utf8))),
-            ("from_utf8", Box::new(|| passing(texts, by_rust))),
+            ("ours, is_utf8", Box::new(|| passing(texts, ours::utf8))),
+            ("Rust's from_utf8", Box::new(|| passing(texts, by_rust))),
         ],
     );
 }

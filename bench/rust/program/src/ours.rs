@@ -1,6 +1,8 @@
 //! Our functions, as the archive exports them.
 
 mod exported {
+    use super::{Body, SpeedHeader, Sum};
+
     #[link(name = "speed", kind = "static")]
     extern "C" {
         pub fn speed_kinds(
@@ -34,6 +36,32 @@ mod exported {
             table: *mut u64,
             count_of_numbers: usize,
         ) -> u64;
+        pub fn speed_header(recording: *const u8, count_of_bytes: usize, at: u64) -> SpeedHeader;
+        pub fn speed_headers(
+            recording: *const u8,
+            count_of_bytes: usize,
+            places: *const u64,
+            count_of_places: usize,
+        ) -> u64;
+        pub fn speed_body(
+            recording: *const u8,
+            count_of_bytes: usize,
+            id: u32,
+            parent: u32,
+            at: u64,
+            size: u64,
+        ) -> Body;
+        pub fn speed_bodies(
+            recording: *const u8,
+            count_of_bytes: usize,
+            parent: u32,
+            ids: *const u32,
+            count_of_ids: usize,
+            places: *const u64,
+            count_of_places: usize,
+            sizes: *const u64,
+            count_of_sizes: usize,
+        ) -> Sum;
     }
 }
 
@@ -111,4 +139,118 @@ pub fn part(recording: &[u8], part: u32, table: &mut [u64]) -> Found {
         )
     })?;
     Ok((told >= FOUND, told % FOUND))
+}
+
+/// A header as it crosses.
+#[repr(C)]
+struct SpeedHeader {
+    refused: u64,
+    id: u64,
+    size: u64,
+    length: u64,
+}
+
+/// A header: its id, its payload's size, and how many bytes it has.
+#[derive(Debug, PartialEq)]
+pub struct Header {
+    pub id: u64,
+    pub size: u64,
+    pub length: u64,
+}
+
+/// The header at a place, or the number of the refusal.
+pub fn header(recording: &[u8], at: u64) -> Result<Header, u64> {
+    // The slice is only read, and only during the call.
+    let SpeedHeader {
+        refused,
+        id,
+        size,
+        length,
+    } = unsafe { exported::speed_header(recording.as_ptr(), recording.len(), at) };
+    match refused {
+        0 => Ok(Header { id, size, length }),
+        number => Err(number),
+    }
+}
+
+/// The sum of the numbers of all headers at these places.
+pub fn headers(recording: &[u8], places: &[u64]) -> u64 {
+    // Both slices are only read, and only during the call.
+    unsafe {
+        exported::speed_headers(
+            recording.as_ptr(),
+            recording.len(),
+            places.as_ptr(),
+            places.len(),
+        )
+    }
+}
+
+/// A body as it crosses: 0 or the number of the refusal, the number of its kind, and its value in a field of its own.
+#[repr(C)]
+pub struct Body {
+    pub refused: u64,
+    pub kind: u64,
+    pub unsigned: u64,
+    pub signed: i64,
+    pub float: f64,
+    pub at: u64,
+    pub length: u64,
+}
+
+/// The body of an id under a parent, of so many bytes at a place.
+pub fn body(recording: &[u8], id: u32, parent: u32, at: u64, size: u64) -> Body {
+    // The slice is only read, and only during the call.
+    unsafe { exported::speed_body(recording.as_ptr(), recording.len(), id, parent, at, size) }
+}
+
+/// What many bodies come to: the sum of unsigned numbers and lengths, and the greatest of the other numbers.
+#[repr(C)]
+#[derive(Default)]
+pub struct Sum {
+    unsigned: u64,
+    signed: i64,
+    float: f64,
+}
+
+impl Sum {
+    pub fn unsigned(&mut self, value: u64) {
+        self.unsigned = self.unsigned.wrapping_add(value);
+    }
+
+    pub fn signed(&mut self, value: i64) {
+        if self.signed < value {
+            self.signed = value;
+        }
+    }
+
+    pub fn float(&mut self, value: f64) {
+        if self.float < value {
+            self.float = value;
+        }
+    }
+
+    /// All in one number, to be compared.
+    pub fn number(&self) -> u64 {
+        let both = self.unsigned.wrapping_add(self.signed as u64);
+        both.wrapping_add(self.float.to_bits())
+    }
+}
+
+/// The sum of many bodies under one parent.
+pub fn bodies(recording: &[u8], parent: u32, ids: &[u32], places: &[u64], sizes: &[u64]) -> Sum {
+    // All slices are only read, and only during the call.
+    unsafe {
+        exported::speed_bodies(
+            recording.as_ptr(),
+            recording.len(),
+            parent,
+            ids.as_ptr(),
+            ids.len(),
+            places.as_ptr(),
+            places.len(),
+            sizes.as_ptr(),
+            sizes.len(),
+        )
+    }
 }

@@ -1,8 +1,8 @@
 //! The payloads that are read, the same in every run.
 
 use crate::inputs::{name, Chance, HEAD, NAMES, TRACK};
-use matroska::ids::*;
-use matroska::number::{number_of, MASTER};
+use matroska::opened::ids::*;
+use matroska::opened::number::{number_of, MASTER};
 
 /// Elements one after the other, and the id of their parent.
 pub struct Payload {
@@ -70,21 +70,37 @@ fn attachments(chance: &mut Chance) -> Vec<u8> {
 
 /// An element: its id, its size in as few bytes as that takes, and its body.
 pub fn element(id: u32, body: &[u8]) -> Vec<u8> {
+    [&id_bytes(id), &size(body.len()), body].concat()
+}
+
+/// The bytes of an id with its marker.
+pub fn id_bytes(id: u32) -> Vec<u8> {
     let id = id.to_be_bytes();
     let first = id.iter().take_while(|&&byte| byte == 0).count();
-    [&id[first..], &size(body.len()), body].concat()
+    id[first..].to_vec()
 }
 
 /// A size behind its marker. One of all ones would mean an unknown size to others.
 fn size(size: usize) -> Vec<u8> {
     let width = (1..8).find(|width| (size + 1) >> (7 * width) == 0);
-    let width = width.unwrap_or(8);
+    wide(size, width.unwrap_or(8))
+}
+
+/// A size behind its marker, in so many bytes.
+pub fn wide(size: usize, width: usize) -> Vec<u8> {
     let marked = size as u64 | 1 << (7 * width);
     marked.to_be_bytes()[8 - width..].to_vec()
 }
 
+/// An entry of a seek head; it has the same length for every position.
+pub fn entry(id: u32, position: u64) -> Vec<u8> {
+    let id = element(SEEKID, &id.to_be_bytes());
+    let position = element(SEEKPOSITION, &position.to_be_bytes());
+    element(SEEK, &[id, position].concat())
+}
+
 /// Elements of these ids, each with a body of its kind.
-fn elements(chance: &mut Chance, ids: &[u32], parent: u32) -> Vec<u8> {
+pub fn elements(chance: &mut Chance, ids: &[u32], parent: u32) -> Vec<u8> {
     let mut all = Vec::new();
     for (place, &id) in ids.iter().enumerate() {
         let body = match number_of(id, Some(parent)) {
@@ -103,7 +119,7 @@ fn elements(chance: &mut Chance, ids: &[u32], parent: u32) -> Vec<u8> {
     all
 }
 
-fn bytes(chance: &mut Chance, count: usize) -> Vec<u8> {
+pub fn bytes(chance: &mut Chance, count: usize) -> Vec<u8> {
     (0..count).map(|_| chance.below(256) as u8).collect()
 }
 

@@ -3,14 +3,15 @@
 use crate::inputs::Chance;
 use crate::ours;
 use crate::payloads::Payload;
-use crate::timing::compare_reads;
-use matroska::{Element, ElementType, MatroskaError};
+use crate::timing::Report;
+use matroska::opened::{Element, ElementType};
+use matroska::MatroskaError;
 use std::cell::RefCell;
 use std::hint::black_box;
 use std::process::exit;
 
 /// How many numbers a row has, and the largest table.
-const WIDTH: usize = 7;
+pub const WIDTH: usize = 7;
 pub const NUMBERS: usize = 4_096 * WIDTH;
 
 /// How many cut copies of each payload are read before the timing.
@@ -40,7 +41,7 @@ fn by_ours(recording: &[u8], size: u64, parent: u32) -> Ids {
     Ok(rows.map(|row| row[0]).collect())
 }
 
-fn tree(mut recording: &[u8], size: u64, parent: u32) -> matroska::Result<Vec<Element>> {
+fn tree(mut recording: &[u8], size: u64, parent: u32) -> matroska::opened::Result<Vec<Element>> {
     Element::parse_master(&mut recording, size, Some(parent))
 }
 
@@ -61,7 +62,7 @@ fn gather(elements: &[Element], ids: &mut Vec<u64>) {
 }
 
 /// Document 01's number of an error of the crate's.
-fn number(error: &MatroskaError) -> u64 {
+pub fn number(error: &MatroskaError) -> u64 {
     match error {
         MatroskaError::Io(_) => 1,
         MatroskaError::InvalidID => 2,
@@ -113,7 +114,7 @@ fn count(ids: &Ids) -> ours::Answer {
         .map_err(|&number| number)
 }
 
-pub fn time(payload: &Payload, rounds: usize) {
+pub fn time(payload: &Payload, report: &mut Report) {
     let Payload { name, bytes, .. } = payload;
     let size = payload.size();
     let elements = ours::count(bytes, 0, size, payload.parent).expect("it was read before");
@@ -123,10 +124,10 @@ pub fn time(payload: &Payload, rounds: usize) {
         let Payload { bytes, parent, .. } = black_box(payload);
         u64::from(ours::read(bytes, 0, size, *parent, &mut table.borrow_mut()).is_ok())
     };
-    compare_reads(
-        &format!("Reads, {name}, a read ({elements} elements in {size} bytes):"),
+    report.compare_whole(
+        &format!("read, {name}"),
+        &format!("a read ({elements} elements in {size} bytes)"),
         elements,
-        rounds,
         &[
             ("ours, 4,096 rows", Box::new(|| rows(&most))),
             ("ours, rows that fit", Box::new(|| rows(&fitting))),

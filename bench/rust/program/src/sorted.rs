@@ -1,6 +1,6 @@
 //! Rust's binary search over the same list: ids rising, each with one hexadecimal digit for its kind.
 
-use matroska::number::{listed, special, BINARY, MASTER};
+use matroska::opened::number::{listed, special, BINARY, MASTER};
 
 pub struct Sorted {
     entries: Vec<u64>,

@@ -1,25 +1,66 @@
 //! Times several ways to do the same work, in turns, and prints what each took.
 
+use crate::clock::worked;
 use std::hint::black_box;
-use std::time::Instant;
 
-/// A way to do the work: its name, and the work, which returns a value to check.
+/// A way to do the work: its name, and the work, which returns a value to check. A way of ours has a name that says so.
 pub type Way<'a> = (&'static str, Box<dyn Fn() -> u64 + 'a>);
 
-/// How long one way is timed in a round, at least.
+/// How the names of our ways begin.
+const OURS: &str = "ours, ";
+
+/// How long one way is timed in a round, at least, in seconds.
 const LEAST: f64 = 0.01;
 
 /// Seconds of so many runs. Every run has to return the expected value.
 fn seconds(work: &dyn Fn() -> u64, runs: u32, expected: u64) -> f64 {
-    let start = Instant::now();
+    let start = worked();
     for _ in 0..runs {
         assert_eq!(black_box(work()), expected, "an answer changed");
     }
-    start.elapsed().as_secs_f64()
+    worked() - start
 }
 
-/// Times the ways in turns: for each the nanoseconds of a run, from the least to the most.
-fn measure(rounds: usize, expected: u64, ways: &[Way]) -> Vec<Vec<f64>> {
+/// What a way took: its name, and the nanoseconds of a run in each round.
+pub struct Took {
+    name: &'static str,
+    times: Vec<f64>,
+}
+
+/// From the least to the most.
+fn sorted(times: impl Iterator<Item = f64>) -> Vec<f64> {
+    let mut times: Vec<f64> = times.collect();
+    times.sort_by(f64::total_cmp);
+    times
+}
+
+fn median(times: impl Iterator<Item = f64>) -> f64 {
+    let times = sorted(times);
+    times[times.len() / 2]
+}
+
+impl Took {
+    fn least(&self) -> f64 {
+        sorted(self.times.iter().copied())[0]
+    }
+
+    fn most(&self) -> f64 {
+        sorted(self.times.iter().copied())[self.times.len() - 1]
+    }
+
+    fn median(&self) -> f64 {
+        median(self.times.iter().copied())
+    }
+
+    /// The median of what this way took by what another took in the same round: other work on the machine meets both.
+    fn ratio(&self, other: &Took) -> f64 {
+        let pairs = self.times.iter().zip(&other.times);
+        median(pairs.map(|(own, other)| own / other))
+    }
+}
+
+/// Times the ways in turns.
+fn measure(rounds: usize, expected: u64, ways: &[Way]) -> Vec<Took> {
     let runs: Vec<u32> = ways
         .iter()
         .map(|(_, work)| {
@@ -30,48 +71,122 @@ fn measure(rounds: usize, expected: u64, ways: &[Way]) -> Vec<Vec<f64>> {
             runs
         })
         .collect();
-    let mut times = vec![Vec::new(); ways.len()];
+    let mut took: Vec<Took> = ways
+        .iter()
+        .map(|&(name, _)| Took {
+            name,
+            times: Vec::new(),
+        })
+        .collect();
     for round in 0..rounds {
         for turn in 0..ways.len() {
             let way = (round + turn) % ways.len();
             let each = seconds(&ways[way].1, runs[way], expected) / f64::from(runs[way]);
-            times[way].push(each * 1e9);
+            took[way].times.push(each * 1e9);
         }
     }
-    for times in &mut times {
-        times.sort_by(f64::total_cmp);
-    }
-    times
+    took
 }
 
-/// Prints, for each way, nanoseconds per unit and millions of units a second.
-pub fn compare(title: &str, units: usize, rounds: usize, expected: u64, ways: &[Way]) {
-    let times = measure(rounds, expected, ways);
-    println!("{title}");
-    for ((name, _), times) in ways.iter().zip(times) {
-        let each = |place: usize| times[place] / units as f64;
-        println!(
-            "  {name:<24}{:>9.3} ns  {:>9.3} to {:<9.3}{:>10.1} M/s",
-            each(rounds / 2),
-            each(0),
-            each(rounds - 1),
-            1e3 / each(rounds / 2),
-        );
-    }
+/// What the program prints, and the lines that are kept for its end.
+pub struct Report {
+    rounds: usize,
+    ratios: Vec<String>,
+    growth: Vec<String>,
 }
 
-/// Prints, for each way, nanoseconds per read, reads a second and nanoseconds per element. Each read returns 1.
-pub fn compare_reads(title: &str, elements: u64, rounds: usize, ways: &[Way]) {
-    let times = measure(rounds, 1, ways);
-    println!("{title}");
-    for ((name, _), times) in ways.iter().zip(times) {
-        let median = times[rounds / 2];
-        println!(
-            "  {name:<24}{median:>9.0} ns  {:>9.0} to {:<9.0}{:>10.0} /s{:>10.2} ns an element",
-            times[0],
-            times[rounds - 1],
-            1e9 / median,
-            median / elements as f64,
-        );
+impl Report {
+    pub fn new(rounds: usize) -> Report {
+        Report {
+            rounds,
+            ratios: Vec::new(),
+            growth: Vec::new(),
+        }
+    }
+
+    /// Prints, for each way, nanoseconds per unit and millions of units a second.
+    pub fn compare(&mut self, input: &str, unit: &str, units: usize, expected: u64, ways: &[Way]) {
+        let took = measure(self.rounds, expected, ways);
+        println!("{input}, {unit}:");
+        for took in &took {
+            let each = |time: f64| time / units as f64;
+            println!(
+                "  {:<28}{:>9.3} ns  {:>9.3} to {:<9.3}{:>10.1} M/s",
+                took.name,
+                each(took.median()),
+                each(took.least()),
+                each(took.most()),
+                1e3 / each(took.median()),
+            );
+        }
+        self.keep(input, &took);
+    }
+
+    /// Prints, for each way, nanoseconds per run, runs a second and nanoseconds per element. Each run returns 1.
+    pub fn compare_whole(
+        &mut self,
+        input: &str,
+        unit: &str,
+        elements: u64,
+        ways: &[Way],
+    ) -> Vec<Took> {
+        let took = measure(self.rounds, 1, ways);
+        println!("{input}, {unit}:");
+        for took in &took {
+            println!(
+                "  {:<28}{:>9.0} ns  {:>9.0} to {:<9.0}{:>10.0} /s{:>10.2} ns an element",
+                took.name,
+                took.median(),
+                took.least(),
+                took.most(),
+                1e9 / took.median(),
+                took.median() / elements as f64,
+            );
+        }
+        self.keep(input, &took);
+        took
+    }
+
+    /// Keeps the ratios: each way of ours by each other.
+    fn keep(&mut self, input: &str, took: &[Took]) {
+        let (ours, others): (Vec<&Took>, Vec<&Took>) =
+            took.iter().partition(|took| took.name.starts_with(OURS));
+        for other in others {
+            for ours in &ours {
+                self.ratios.push(format!(
+                    "{input:<40}{:<24}{:>5.2} of {:<26}{:>5.2}",
+                    ours.name,
+                    ours.ratio(other),
+                    other.name,
+                    ours.least() / other.least(),
+                ));
+            }
+        }
+    }
+
+    /// Keeps what each way takes for an element, from size to size.
+    pub fn grow(&mut self, input: &str, sizes: &[usize], took: &[Vec<Took>]) {
+        for (way, first) in took[0].iter().enumerate() {
+            let mut line = format!("{input:<24}{:<26}", first.name);
+            for (took, &size) in took.iter().zip(sizes) {
+                let each = |time: f64| time / size as f64;
+                let took = &took[way];
+                let (median, least) = (each(took.median()), each(took.least()));
+                line += &format!("{size:>8}: {median:>5.1} ({least:.1})");
+            }
+            self.growth.push(line);
+        }
+    }
+
+    /// Prints the lines that were kept.
+    pub fn end(&self) {
+        println!("Growth: nanoseconds for an element by the median, and by the least.");
+        for line in &self.growth {
+            println!("  growth {line}");
+        }
+        println!("Ratios: our time by the other's in the same round, the median, and our least by its least.");
+        for line in &self.ratios {
+            println!("  ratio {line}");
+        }
     }
 }
