@@ -18,8 +18,8 @@ use Rattle.seektable.specs.Lookup.{byHeads}
 use Rattle.search.specs.Walk.{toSegment, segmentOf, visit, walk, children, placeOf}
 use Rattle.search.specs.Part.{parentOf, searchOf}
 use Rattle.pages.specs.Text.{glyph, numeral}
-use Rattle.listing.specs.Listing.{kindWord, rowPlace, rowLine, rowLines, partPlace, searchText, partLines}
-use Rattle.listing.specs.Listing.{allParts, listingOf}
+use Rattle.rowtext.specs.Lines.{kindWord, rowPlace, rowLine, rowLines}
+use Rattle.listing.specs.Listing.{partPlace, searchText, partLines, allParts, listingOf}
 use Rattle.listing.specs.Cases.{cases, Hold}
 
 pub cases-hold : Hold cases

@@ -1,4 +1,4 @@
--- The lines of rows one after another, and the text of a search by its reply. Assumes nothing.
+-- The lines of rows one after another. Assumes nothing.
 use Prim.Native.Nat.{ℕ, zero, suc, _+_, _-_, _*_, _≤_, _<_}
 use mathlib.Core.Path.{_≡_, sym, ap, _∙_}
 use mathlib.Core.List.{List, _++_, append-assoc, append-nil}
@@ -9,9 +9,9 @@ use lib.Seq.{drop-drop}
 use Rattle.elements.specs.Rows.{width, firstRow, rowAt, rowsOf}
 use Rattle.elements.specs.declared.row.Row.{Row}
 use Rattle.pages.specs.Page.{Wrote}
-use Rattle.listing.specs.Listing.{rowLine, rowLines}
-use Rattle.listing.specs.Room.{lineRoom}
 use Rattle.pages.proofs.Pages.{then, wrote-none}
+use Rattle.rowtext.specs.Lines.{rowLine, rowLines}
+use Rattle.rowtext.specs.Room.{lineRoom}
 
 -- One row more.
 pub lines-more : (t : List ℕ) (n : ℕ) → rowLines (rowsOf t (suc n)) ≡ rowLines (rowsOf t n) ++ rowLine (rowAt t n)

@@ -1,11 +1,11 @@
 -- `row_place` meets its contract: four numbers, a space between them. Assumes nothing.
 use native.Mathlib.Omega.{arith}
-use Rattle.listing.specs.Listing.{rowPlace}
+use Rattle.rowtext.specs.Lines.{rowPlace}
 use Rattle.pages.specs.Text.{ascii}
 use Rattle.pages.proofs.Pages.{then-labelled}
 use borrow.Author.Needs.{needs}
-use Rattle.listing.proofs.listed.row_place.Statement.{statement}
-use Rattle.listing.proofs.listed.row_place.Tie as tie
+use Rattle.rowtext.proofs.row.row_place.Statement.{statement}
+use Rattle.rowtext.proofs.row.row_place.Tie as tie
 
 slice-aggregate-put-decimal : tie.Need-slice-aggregate-put-decimal
 slice-aggregate-put-decimal c = search needs

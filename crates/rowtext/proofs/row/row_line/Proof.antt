@@ -1,11 +1,11 @@
 -- `row_line` meets its contract: where the row is, its kind, its id. Assumes nothing.
 use native.Mathlib.Omega.{arith}
-use Rattle.listing.specs.Listing.{rowLine}
+use Rattle.rowtext.specs.Lines.{rowLine}
 use Rattle.pages.specs.Text.{ascii}
 use Rattle.pages.proofs.Pages.{then, then-labelled}
 use borrow.Author.Needs.{needs}
-use Rattle.listing.proofs.listed.row_line.Statement.{statement}
-use Rattle.listing.proofs.listed.row_line.Tie as tie
+use Rattle.rowtext.proofs.row.row_line.Statement.{statement}
+use Rattle.rowtext.proofs.row.row_line.Tie as tie
 
 row-place-requires : tie.Need-row-place-requires
 row-place-requires c κs = search needs

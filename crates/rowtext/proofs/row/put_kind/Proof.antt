@@ -3,11 +3,11 @@ use mathlib.Core.Path.{_≡_, refl}
 use mathlib.Core.List.{[]}
 use borrow.Author.Tests.{ne-eqb}
 use native.Mathlib.Omega.{arith}
-use Rattle.listing.specs.Listing.{kindWord}
-use Rattle.listing.proofs.Words.{named, unnamed}
+use Rattle.rowtext.specs.Lines.{kindWord}
+use Rattle.rowtext.proofs.Words.{named, unnamed}
 use borrow.Author.Needs.{needs}
-use Rattle.listing.proofs.listed.put_kind.Statement.{statement}
-use Rattle.listing.proofs.listed.put_kind.Tie as tie
+use Rattle.rowtext.proofs.row.put_kind.Statement.{statement}
+use Rattle.rowtext.proofs.row.put_kind.Tie as tie
 
 slice-aggregate-put : tie.Need-slice-aggregate-put
 slice-aggregate-put c = search needs

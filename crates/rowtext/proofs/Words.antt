@@ -6,7 +6,7 @@ use native.Mathlib.Omega.{arith}
 use lib.ListN.{length}
 use Rattle.pages.specs.Text.{ascii}
 use Rattle.pages.specs.Page.{Wrote}
-use Rattle.listing.specs.Listing.{kindWord}
+use Rattle.rowtext.specs.Lines.{kindWord}
 
 -- A kind that has a word: what was put is the word of that number.
 pub named :

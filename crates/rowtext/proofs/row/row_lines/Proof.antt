@@ -1,10 +1,10 @@
 -- `row_lines` meets its contract: the rows' lines, one after another. Assumes nothing.
 use Prim.Native.Nat.{_-_}
 use native.Mathlib.Omega.{arith}
-use Rattle.listing.proofs.RowTexts.{Listed, listed-starts, listed-goes-on, listed-ends}
+use Rattle.rowtext.proofs.RowTexts.{Listed, listed-starts, listed-goes-on, listed-ends}
 use borrow.Author.Needs.{needs}
-use Rattle.listing.proofs.listed.row_lines.Statement.{statement}
-use Rattle.listing.proofs.listed.row_lines.Tie as tie
+use Rattle.rowtext.proofs.row.row_lines.Statement.{statement}
+use Rattle.rowtext.proofs.row.row_lines.Tie as tie
 
 abbrev Inv-loop : tie.InvT-loop
 Inv-loop page₀ held table rows end₀ n₀ page end n = Listed page₀ held table rows page end n
