@@ -19,7 +19,7 @@ use Rattle.header.specs.declared.cursor.HeaderRead.the-variants.{Read, Refused}
 use Rattle.header.specs.declared.refusal.Refusal.{Refusal}
 use Rattle.header.proofs.Widths.{width-end}
 use Rattle.header.proofs.Inside.{header-there}
-use Rattle.seektable.specs.Seeks.{segmentId}
+use Rattle.seeks.specs.Seeks.{segmentId}
 use Rattle.seektable.specs.Answers.{onHeader}
 use Rattle.search.specs.Walk.{toSegment, segmentOf}
 

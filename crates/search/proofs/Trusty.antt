@@ -14,8 +14,8 @@ use Rattle.header.specs.declared.cursor.Header.{Header}
 use Rattle.header.specs.declared.cursor.HeaderRead.{HeaderRead}
 use Rattle.header.specs.declared.cursor.HeaderRead.the-variants.{Read, Refused}
 use Rattle.header.proofs.Inside.{header-there}
+use Rattle.seeks.specs.Seeks.{seekHeadId}
 use Rattle.seektable.specs.Answers.{onHeader}
-use Rattle.seektable.specs.Seeks.{seekHeadId}
 use Rattle.seektable.specs.Lookup.{Place, found, absent, stopped, byHeads}
 use Rattle.seektable.specs.Theorems.{IsAt, AreHeads, Distinct, GoodHeads, ByHeads}
 use Rattle.seektable.specs.declared.heads.Head.{Head}

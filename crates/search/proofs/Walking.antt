@@ -11,7 +11,7 @@ use Rattle.header.specs.declared.cursor.Header.{Header}
 use Rattle.header.specs.declared.cursor.HeaderRead.the-variants.{Read, Refused as HeaderRefused}
 use Rattle.header.specs.declared.refusal.Refusal.{Refusal}
 use Rattle.header.proofs.Inside.{header-there}
-use Rattle.seektable.specs.Seeks.{seekHeadId}
+use Rattle.seeks.specs.Seeks.{seekHeadId}
 use Rattle.seektable.specs.Lookup.{Place, absent, stopped, byHeads}
 use Rattle.seektable.specs.Contract.{placeTold}
 use Rattle.seektable.specs.declared.lookup.PartPlace.{PartPlace}

@@ -9,7 +9,7 @@ use Rattle.header.specs.declared.cursor.HeaderRead.the-variants.{Read}
 use Rattle.header.specs.declared.refusal.Refusal.{Refusal}
 use Rattle.elements.specs.Promise.{zeros, ReadPromise}
 use Rattle.elements.specs.declared.reply.ReadReply.the-variants.{Rows}
-use Rattle.seektable.specs.Seeks.{seekHeadId}
+use Rattle.seeks.specs.Seeks.{seekHeadId}
 use Rattle.seektable.specs.Theorems.{IsAt, GoodHeads, Named}
 use Rattle.seektable.specs.declared.heads.Head.{Head}
 use Rattle.search.specs.Walk.{segmentOf}

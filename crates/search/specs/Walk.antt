@@ -11,7 +11,7 @@ use Rattle.header.specs.declared.cursor.Cursor.{Cursor}
 use Rattle.header.specs.declared.cursor.Header.{Header}
 use Rattle.header.specs.declared.cursor.HeaderRead.{HeaderRead}
 use Rattle.header.specs.declared.cursor.HeaderRead.the-variants.{Read, Refused}
-use Rattle.seektable.specs.Seeks.{segmentId, seekHeadId}
+use Rattle.seeks.specs.Seeks.{segmentId, seekHeadId}
 use Rattle.seektable.specs.Answers.{onHeader}
 use Rattle.seektable.specs.Lookup.{Place, found, absent, stopped, byHeads}
 
