@@ -16,7 +16,7 @@ use Rattle.seeks.specs.Seeks.{headOf, lastFour, withMembers, entryOf, entries}
 use Rattle.seeks.specs.Table.{later, latestFrom}
 use Rattle.seektable.specs.Heads.{member, sought, chain}
 use Rattle.seektable.specs.Lookup.{byHeads}
-use Rattle.search.specs.Walk.{toSegment, segmentOf, visit, walk, children, placeOf}
+use Rattle.segments.specs.Walk.{toSegment, segmentOf, visit, walk, children, placeOf}
 use Rattle.search.specs.Part.{parentOf, searchOf}
 use Rattle.pages.specs.Text.{glyph, numeral}
 use Rattle.rowtext.specs.Lines.{kindWord, rowPlace, rowLine, rowLines}

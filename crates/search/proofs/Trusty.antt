@@ -20,7 +20,7 @@ use Rattle.seektable.specs.Lookup.{Place, found, absent, stopped, byHeads}
 use Rattle.seektable.specs.Theorems.{IsAt, AreHeads, Distinct, GoodHeads, ByHeads}
 use Rattle.seektable.specs.declared.heads.Head.{Head}
 use Rattle.seektable.proofs.Leads.{heads-lead}
-use Rattle.search.specs.Walk.{ends, over, visit, onVisit, walk, segmentOf, children, placeOf}
+use Rattle.segments.specs.Walk.{ends, over, visit, onVisit, walk, segmentOf, children, placeOf}
 use Rattle.search.specs.Theorems.{Way, met, named, FoundBy}
 
 -- No head at all.

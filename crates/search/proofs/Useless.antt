@@ -17,7 +17,7 @@ use Rattle.seeks.specs.Seeks.{headOf, entries}
 use Rattle.seeks.specs.Table.{latestFrom}
 use Rattle.seektable.specs.Heads.{chain}
 use Rattle.seektable.specs.Lookup.{byHeads}
-use Rattle.search.specs.Walk.{toSegment, segmentOf, visit, walk, children, placeOf}
+use Rattle.segments.specs.Walk.{toSegment, segmentOf, visit, walk, children, placeOf}
 use Rattle.search.specs.Part.{parentOf, Search, found, absent, refused, searchOf, replyOf, tableOf, told}
 use Rattle.search.specs.Theorems.{tagsAlone, tagsBehindAHead, NotMadeUp, NotUntouched}
 use Rattle.search.specs.declared.part.PartReply.{PartReply}

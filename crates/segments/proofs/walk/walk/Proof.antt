@@ -4,12 +4,12 @@ use mathlib.Core.Path.{sym, ap, _∙_}
 use native.Mathlib.Omega.{arith}
 use Rattle.header.proofs.Inside.{header-there}
 use Rattle.seektable.specs.declared.lookup.PartPlace.the-variants.{Refused}
-use Rattle.search.proofs.Before.{next-fits}
-use Rattle.search.proofs.Walking.{Passing, pass-holds, pass-ends, pass-refused, pass-ended}
-use Rattle.search.proofs.Walking.{pass-overrun, pass-less, pass-again}
+use Rattle.segments.proofs.Before.{next-fits}
+use Rattle.segments.proofs.Walking.{Passing, pass-holds, pass-ends, pass-refused, pass-ended}
+use Rattle.segments.proofs.Walking.{pass-overrun, pass-less, pass-again}
 use borrow.Author.Needs.{needs}
-use Rattle.search.proofs.walk.walk.Statement.{statement}
-use Rattle.search.proofs.walk.walk.Tie as tie
+use Rattle.segments.proofs.walk.walk.Statement.{statement}
+use Rattle.segments.proofs.walk.walk.Tie as tie
 
 abbrev Inv-loop : tie.InvT-loop
 Inv-loop recording kinds wanted size first end place₀ place = Passing recording wanted first size end (place .at)

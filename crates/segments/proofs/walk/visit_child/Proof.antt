@@ -1,8 +1,8 @@
 -- `visit_child` meets its contract: the two tests of a child's id. Assumes nothing.
-use Rattle.search.proofs.Walking.{visit-head, visit-found, visit-over}
+use Rattle.segments.proofs.Walking.{visit-head, visit-found, visit-over}
 use borrow.Author.Needs.{needs}
-use Rattle.search.proofs.walk.visit_child.Statement.{statement}
-use Rattle.search.proofs.walk.visit_child.Tie as tie
+use Rattle.segments.proofs.walk.visit_child.Statement.{statement}
+use Rattle.segments.proofs.walk.visit_child.Tie as tie
 
 by-heads-requires : tie.Need-by-heads-requires
 by-heads-requires c κs = search needs

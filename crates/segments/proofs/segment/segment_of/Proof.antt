@@ -3,10 +3,10 @@ use Prim.Native.Nat.{_-_}
 use mathlib.Core.Path.{sym, _∙_}
 use native.Mathlib.Omega.{arith}
 use lib.ListN.{length}
-use Rattle.search.proofs.Before.{next-fits, Opening, open-holds, open-refused, open-is, open-less, open-again}
+use Rattle.segments.proofs.Before.{next-fits, Opening, open-holds, open-refused, open-is, open-less, open-again}
 use borrow.Author.Needs.{needs}
-use Rattle.search.proofs.segment.segment_of.Statement.{statement}
-use Rattle.search.proofs.segment.segment_of.Tie as tie
+use Rattle.segments.proofs.segment.segment_of.Statement.{statement}
+use Rattle.segments.proofs.segment.segment_of.Tie as tie
 
 abbrev Inv-loop : tie.InvT-loop
 Inv-loop recording place₀ place = Opening recording (place .at)

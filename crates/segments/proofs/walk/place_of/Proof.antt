@@ -1,10 +1,10 @@
 -- `place_of` meets its contract: the segment, then the walk over its children. Assumes nothing.
 use mathlib.Core.Path.{sym, _∙_}
-use Rattle.search.proofs.Before.{segment-there}
-use Rattle.search.proofs.Walking.{place-refused, place-walked}
+use Rattle.segments.proofs.Before.{segment-there}
+use Rattle.segments.proofs.Walking.{place-refused, place-walked}
 use borrow.Author.Needs.{needs}
-use Rattle.search.proofs.walk.place_of.Statement.{statement}
-use Rattle.search.proofs.walk.place_of.Tie as tie
+use Rattle.segments.proofs.walk.place_of.Statement.{statement}
+use Rattle.segments.proofs.walk.place_of.Tie as tie
 
 segment-of-requires : tie.Need-segment-of-requires
 segment-of-requires c κs = c .before .before .pre .small

@@ -1,9 +1,9 @@
 // The walk over the segment's children.
 ghost use mathlib.Core.Path.{_≡_};
-ghost use Rattle.search.specs.Walk.{visit as visitOf, children, placeOf};
 ghost use Rattle.seeks.specs.Contract.{Readable};
 ghost use Rattle.seektable.specs.Contract.{placeTold};
-ghost use Rattle.search.specs.Contract.{visitTold, Listed, Sized};
+ghost use Rattle.segments.specs.Walk.{visit as visitOf, children, placeOf};
+ghost use Rattle.segments.specs.Contract.{visitTold, Listed, Sized};
 use crate::segment::segment_of;
 use header::Cursor;
 use header::Header;

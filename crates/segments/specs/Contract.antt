@@ -1,4 +1,4 @@
--- What the functions of `search` promise each other.
+-- What the functions of `segments` promise each other.
 use Prim.Native.Nat.{ℕ, _^_, _≤_, _<_}
 use mathlib.Core.Path.{_≡_}
 use mathlib.Core.List.{List}
@@ -7,9 +7,9 @@ use Rattle.header.specs.Promise.{mostBytes}
 use Rattle.kinds.specs.Elements.{elements}
 use Rattle.kinds.specs.Entries.{entries}
 use Rattle.seektable.specs.Contract.{placeTold}
-use Rattle.search.specs.Walk.{Visit, ends, over}
-use Rattle.search.specs.declared.walk.Visit.{Visit as VisitTold}
-use Rattle.search.specs.declared.walk.Visit.the-variants.{Ends, Over}
+use Rattle.segments.specs.Walk.{Visit, ends, over}
+use Rattle.segments.specs.declared.walk.Visit.{Visit as VisitTold}
+use Rattle.segments.specs.declared.walk.Visit.the-variants.{Ends, Over}
 
 -- The list of kinds, and a recording within its limit.
 pub record Listed (s kinds : List ℕ) : Type 0 where

@@ -21,7 +21,7 @@ use Rattle.header.proofs.Widths.{width-end}
 use Rattle.header.proofs.Inside.{header-there}
 use Rattle.seeks.specs.Seeks.{segmentId}
 use Rattle.seektable.specs.Answers.{onHeader}
-use Rattle.search.specs.Walk.{toSegment, segmentOf}
+use Rattle.segments.specs.Walk.{toSegment, segmentOf}
 
 -- No header is read past the end.
 header-past : (s : List ℕ) (at : ℕ) → length s ≤ at → headerAt s at ≡ Refused pastEnd

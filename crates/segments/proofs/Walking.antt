@@ -16,9 +16,9 @@ use Rattle.seektable.specs.Lookup.{Place, absent, stopped, byHeads}
 use Rattle.seektable.specs.Contract.{placeTold}
 use Rattle.seektable.specs.declared.lookup.PartPlace.{PartPlace}
 use Rattle.seektable.specs.declared.lookup.PartPlace.the-variants.{Found, Absent, Refused}
-use Rattle.search.specs.Walk.{Visit, ends, over, visit, walk, children, segmentOf, placeOf}
-use Rattle.search.specs.Contract.{visitTold}
-use Rattle.search.specs.declared.walk.Visit.the-variants.{Ends, Over}
+use Rattle.segments.specs.Walk.{Visit, ends, over, visit, walk, children, segmentOf, placeOf}
+use Rattle.segments.specs.Contract.{visitTold}
+use Rattle.segments.specs.declared.walk.Visit.the-variants.{Ends, Over}
 
 -- ---- what a child does
 
