@@ -1,31 +1,31 @@
 // The questions by their first word, and the form of each.
 ghost use Prim.Native.Nat.{_≤_};
 ghost use lib.ListN.{length};
-use crate::ask_attachment::attachment;
-use crate::ask_audio::audio;
 use crate::ask_body::body;
-use crate::ask_chapter::chapter;
-use crate::ask_display::display;
-use crate::ask_edition::edition;
 use crate::ask_header::header;
 use crate::ask_kind::kind;
-use crate::ask_label::label;
 use crate::ask_part::part;
 use crate::ask_payload::payload;
 use crate::ask_range::range;
 use crate::ask_read::read;
-use crate::ask_shown::shown;
-use crate::ask_simple::simple;
-use crate::ask_tag::tag;
-use crate::ask_tracktype::tracktype;
-use crate::ask_uid::uid;
 use crate::ask_utf8::utf8;
 use crate::ask_whose::whose;
-use crate::asked::Asked;
-use crate::asked::asked_of;
-use crate::told::bad;
 use lines::out;
 use lines::words;
+use questions::asked::Asked;
+use questions::asked::asked_of;
+use questions::told::bad;
+use replies::ask_attachment::attachment;
+use replies::ask_audio::audio;
+use replies::ask_chapter::chapter;
+use replies::ask_display::display;
+use replies::ask_edition::edition;
+use replies::ask_label::label;
+use replies::ask_shown::shown;
+use replies::ask_simple::simple;
+use replies::ask_tag::tag;
+use replies::ask_tracktype::tracktype;
+use replies::ask_uid::uid;
 
 // The answer to a line, and its line feed.
 pub fn answer(
@@ -39,7 +39,7 @@ pub fn answer(
     out::put(out, n, b"\n")
 }
 
-// The forms stand in the order of the names; crates/ask/src/asked.rt has their letters.
+// The forms stand in the order of the names; crates/questions/src/asked.rt has their letters.
 fn line_told(
     line: &[u8],
     recording: &mut [u8; 65536],

@@ -1,10 +1,10 @@
 // `body ID PARENT AT SIZE BYTES`: the body of an id under a parent id, at a place of a recording.
-use crate::asked::Asked;
-use crate::told;
 use bodies::Body;
 use bodies::BodyReply;
 use lines::numbers;
 use lines::out;
+use questions::asked::Asked;
+use questions::told;
 
 pub fn body(asked: Asked, recording: &[u8], out: &mut [u8; 65536], held: usize) -> usize {
     let reply = bodies::body_at(recording, asked.id, asked.parent, asked.at, asked.size);

@@ -1,8 +1,8 @@
 // `header AT BYTES`: the header at a place of a recording.
-use crate::asked::Asked;
-use crate::told::refused;
 use header::HeaderReply;
 use lines::numbers;
+use questions::asked::Asked;
+use questions::told::refused;
 
 pub fn header(asked: Asked, recording: &[u8], out: &mut [u8; 65536], held: usize) -> usize {
     header_told(header::header_at(recording, asked.at), out, held)

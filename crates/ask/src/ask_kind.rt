@@ -1,8 +1,8 @@
 // `kind ID PARENT`: the kind of an id under a parent id.
-use crate::asked::Asked;
 use kinds::Kind;
 use lines::out;
 use lines::words;
+use questions::asked::Asked;
 
 // `kind K`
 pub fn kind(asked: Asked, out: &mut [u8; 65536], held: usize) -> usize {

@@ -1,8 +1,8 @@
 // `part ID NUMBERS BYTES`: a part of a recording, found by the search and read into a table.
-use crate::asked::Asked;
-use crate::table;
 use lines::numbers;
 use lines::out;
+use questions::asked::Asked;
+use questions::table;
 use search::PartReply;
 
 pub fn part(

@@ -1,10 +1,10 @@
 // `payload START SIZE PARENT NUMBERS ROW BYTES`: the payload of a row, after the read of its table.
-use crate::asked::Asked;
-use crate::table;
-use crate::told::refused;
 use elements::ReadReply;
 use lines::numbers;
 use places::RangeReply;
+use questions::asked::Asked;
+use questions::table;
+use questions::told::refused;
 
 pub fn payload(
     asked: Asked,

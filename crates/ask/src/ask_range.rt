@@ -1,7 +1,7 @@
 // `range N,N,.. ROW BYTES`: where the payload of a row of the table given lies.
-use crate::asked::Asked;
-use crate::told;
 use places::RangeReply;
+use questions::asked::Asked;
+use questions::told;
 
 // `at RANGE`
 pub fn range(

@@ -1,7 +1,7 @@
 // `read START SIZE PARENT NUMBERS BYTES`: a payload's elements, read into a table.
-use crate::asked::Asked;
-use crate::table;
 use elements::ReadReply;
+use questions::asked::Asked;
+use questions::table;
 
 pub fn read(
     asked: Asked,

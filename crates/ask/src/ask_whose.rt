@@ -1,9 +1,9 @@
 // `whose START SIZE PARENT ADDRESS NUMBERS BYTES`: the row whose header or leaf payload holds an address.
-use crate::asked::Asked;
-use crate::table;
 use lines::numbers;
 use lines::out;
 use places::WhoseReply;
+use questions::asked::Asked;
+use questions::table;
 
 pub fn whose(
     asked: Asked,

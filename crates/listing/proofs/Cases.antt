@@ -12,14 +12,15 @@ use Rattle.elements.specs.Forest.{span, count, join}
 use Rattle.elements.specs.Reading.{refuseIf, full, siblings, element, masterBody}
 use Rattle.elements.specs.Rows.{rows}
 use Rattle.elements.specs.Promise.{isTable, allowed, filled}
-use Rattle.seektable.specs.Seeks.{headOf, lastFour, withMembers, entryOf, entries}
-use Rattle.seektable.specs.Heads.{later, latestFrom, member, sought, chain}
+use Rattle.seeks.specs.Seeks.{headOf, lastFour, withMembers, entryOf, entries}
+use Rattle.seeks.specs.Table.{later, latestFrom}
+use Rattle.seektable.specs.Heads.{member, sought, chain}
 use Rattle.seektable.specs.Lookup.{byHeads}
-use Rattle.search.specs.Walk.{toSegment, segmentOf, visit, walk, children, placeOf}
+use Rattle.segments.specs.Walk.{toSegment, segmentOf, visit, walk, children, placeOf}
 use Rattle.search.specs.Part.{parentOf, searchOf}
 use Rattle.pages.specs.Text.{glyph, numeral}
-use Rattle.listing.specs.Listing.{kindWord, rowPlace, rowLine, rowLines, partPlace, searchText, partLines}
-use Rattle.listing.specs.Listing.{allParts, listingOf}
+use Rattle.rowtext.specs.Lines.{kindWord, rowPlace, rowLine, rowLines}
+use Rattle.listing.specs.Listing.{partPlace, searchText, partLines, allParts, listingOf}
 use Rattle.listing.specs.Cases.{cases, Hold}
 
 pub cases-hold : Hold cases

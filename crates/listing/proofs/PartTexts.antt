@@ -15,7 +15,8 @@ use Rattle.search.specs.declared.part.PartReply.the-variants.{Found, Absent, Re
 use Rattle.search.proofs.Found.{found-holds}
 use Rattle.pages.specs.Text.{ascii, decimal, hexadecimal}
 use Rattle.pages.specs.Page.{written, Wrote}
-use Rattle.listing.specs.Listing.{mostListed, tableNumbers, rowLines, partPlace, searchText, partLines}
+use Rattle.rowtext.specs.Lines.{rowLines}
+use Rattle.listing.specs.Listing.{mostListed, tableNumbers, partPlace, searchText, partLines}
 use Rattle.listing.specs.Listing.{allParts, listingOf}
 use Rattle.listing.specs.Promise.{ListingPromise}
 use Rattle.pages.proofs.Pages.{then}

@@ -1,14 +1,14 @@
 -- The listing of a recording (document 01, 'Program `rows`').
-use Prim.Native.Nat.{ℕ, _+_, _*_}
+use Prim.Native.Nat.{ℕ, _*_}
 use mathlib.Core.Bool.{cond}
-use mathlib.Core.List.{List, [], _∷_, _++_}
+use mathlib.Core.List.{List, _++_}
 use lib.ListN.{length}
-use lib.Dec.{eqb, ltb}
+use lib.Dec.{ltb}
 use Rattle.elements.specs.Forest.{count}
 use Rattle.elements.specs.Rows.{rows, width}
-use Rattle.elements.specs.declared.row.Row.{Row}
 use Rattle.search.specs.Part.{Search, found, absent, refused, searchOf}
 use Rattle.pages.specs.Text.{ascii, decimal, hexadecimal}
+use Rattle.rowtext.specs.Lines.{rowLines}
 
 -- The most bytes of a recording that is listed, and the table that its parts are read into: 1,024 rows.
 abbrev pub mostListed : ℕ
@@ -16,34 +16,6 @@ mostListed = 65536
 
 abbrev pub tableNumbers : ℕ
 tableNumbers = 1024 * width
-
--- The words for the kinds 1 to 8. A row has no other kind.
-unfoldable pub kindWord : ℕ → List ℕ
-kindWord kind =
-    cond (eqb kind 1) (ascii "master")
-    (cond (eqb kind 2) (ascii "int")
-    (cond (eqb kind 3) (ascii "uint")
-    (cond (eqb kind 4) (ascii "string")
-    (cond (eqb kind 5) (ascii "utf8")
-    (cond (eqb kind 6) (ascii "binary")
-    (cond (eqb kind 7) (ascii "float")
-    (cond (eqb kind 8) (ascii "date") [])))))))
-
--- Header address, header length, payload length, depth.
-unfoldable pub rowPlace : Row → List ℕ
-rowPlace r =
-    decimal (r .address)
-    ++ ascii " " ++ decimal (r .header)
-    ++ ascii " " ++ decimal (r .payload)
-    ++ ascii " " ++ decimal (r .depth)
-
--- Then the kind and the id.
-unfoldable pub rowLine : Row → List ℕ
-rowLine r = rowPlace r ++ ascii " " ++ kindWord (r .kind) ++ ascii " " ++ hexadecimal (r .id) ++ ascii "\n"
-
-unfoldable pub rowLines : List Row → List ℕ
-rowLines [] = []
-rowLines (r ∷ rs) = rowLine r ++ rowLines rs
 
 -- The payload's address and size, and how many rows it has.
 unfoldable pub partPlace : ℕ → ℕ → ℕ → List ℕ

@@ -1,21 +1,17 @@
 // The lines of the listing.
 ghost use mathlib.Core.Path.{_≡_};
-ghost use mathlib.Core.List.{_++_};
-ghost use Prim.Native.Nat.{_+_, _*_, _/_, _≤_};
+ghost use Prim.Native.Nat.{_+_, _*_, _≤_};
 ghost use lib.ListN.{length};
-ghost use Rattle.elements.specs.Rows.{width, rowsOf};
 ghost use Rattle.pages.specs.Page.{Wrote};
-ghost use Rattle.pages.specs.Text.{ascii};
-ghost use Rattle.listing.specs.Listing.{kindWord, rowPlace, rowLine, rowLines, partPlace, partLines, allParts};
-ghost use Rattle.listing.specs.Listing.{tableNumbers};
-ghost use Rattle.listing.specs.Room.{lineRoom, partRoom};
+ghost use Rattle.rowtext.specs.Room.{lineRoom};
+ghost use Rattle.listing.specs.Listing.{partPlace, partLines, allParts, tableNumbers};
+ghost use Rattle.listing.specs.Room.{partRoom};
 ghost use Rattle.listing.specs.Promise.{ListingPromise};
-use elements::Row;
-use elements::row_at;
 use kinds::ids;
 use pages::put;
 use pages::put_decimal;
 use pages::put_hexadecimal;
+use rowtext::row_lines;
 use search::PartReply;
 use search::find_part;
 
@@ -24,65 +20,6 @@ const MOST_LISTED: usize = 65536;
 
 // How many bytes the page has: room for the longest listing.
 pub const PAGE: usize = 524928;
-
-// A space, and the word for a kind's number.
-fn put_kind(page: &mut [u8], held: usize, kind: u64) -> usize
-    requires { ⌜ held + 7 ≤ length (now page) ⌝ }
-    ensures { λ r. ⌜ Wrote (now (page .entry)) held (ascii " " ++ kindWord kind) r (now (page .exit)) ⌝ }
-    ensures { λ r. ⌜ r ≤ held + 7 ⌝ }
-{
-    match kind {
-        1 => put(page, held, b" master"),
-        2 => put(page, held, b" int"),
-        3 => put(page, held, b" uint"),
-        4 => put(page, held, b" string"),
-        5 => put(page, held, b" utf8"),
-        6 => put(page, held, b" binary"),
-        7 => put(page, held, b" float"),
-        8 => put(page, held, b" date"),
-        _ => put(page, held, b" "),
-    }
-}
-
-// Where a row is: header address, header length, payload length, depth.
-fn row_place(page: &mut [u8], held: usize, row: Row) -> usize
-    requires { ⌜ held + 83 ≤ length (now page) ⌝ }
-    ensures { λ r. ⌜ Wrote (now (page .entry)) held (rowPlace row) r (now (page .exit)) ⌝ }
-    ensures { λ r. ⌜ r ≤ held + 83 ⌝ }
-{
-    let address = put_decimal(page, held, b"", row.address);
-    let header = put_decimal(page, address, b" ", row.header);
-    let payload = put_decimal(page, header, b" ", row.payload);
-    put_decimal(page, payload, b" ", row.depth)
-}
-
-// A row: where it is, its kind and its id.
-fn row_line(page: &mut [u8], held: usize, row: Row) -> usize
-    requires { ⌜ held + lineRoom ≤ length (now page) ⌝ }
-    ensures { λ r. ⌜ Wrote (now (page .entry)) held (rowLine row) r (now (page .exit)) ⌝ }
-    ensures { λ r. ⌜ r ≤ held + lineRoom ⌝ }
-{
-    let place = row_place(page, held, row);
-    let kind = put_kind(page, place, row.kind);
-    let id = put_hexadecimal(page, kind, b" ", row.id);
-    put(page, id, b"\n")
-}
-
-// The lines of the table's first rows.
-fn row_lines(page: &mut [u8], held: usize, table: &[u64], rows: usize) -> usize
-    requires { ⌜ rows ≤ length (now table) / width ⌝ }
-    requires { ⌜ held + rows * lineRoom ≤ length (now page) ⌝ }
-    ensures { λ r. ⌜ Wrote (now (page .entry)) held (rowLines (rowsOf (now (table .entry)) rows)) r (now (page .exit)) ⌝ }
-    ensures { λ r. ⌜ r ≤ held + rows * lineRoom ⌝ }
-{
-    let mut end = held;
-    let mut n: usize = 0;
-    while n < rows {
-        end = row_line(page, end, row_at(table, n));
-        n += 1;
-    }
-    end
-}
 
 // Where a part is: its payload's address and size, and how many rows it has.
 fn part_place(page: &mut [u8], held: usize, at: u64, size: u64, rows: u64) -> usize

@@ -12,10 +12,11 @@ use Rattle.bodies.specs.Bodies.{bodyOf}
 use Rattle.elements.specs.Forest.{span, count, join}
 use Rattle.elements.specs.Reading.{refuseIf, full, siblings, element, masterBody}
 use Rattle.elements.specs.Promise.{isTable, allowed, filled}
-use Rattle.seektable.specs.Seeks.{headOf, lastFour, withMembers, entryOf, entries}
-use Rattle.seektable.specs.Heads.{later, latestFrom, member, sought, chain}
+use Rattle.seeks.specs.Seeks.{headOf, lastFour, withMembers, entryOf, entries}
+use Rattle.seeks.specs.Table.{later, latestFrom}
+use Rattle.seektable.specs.Heads.{member, sought, chain}
 use Rattle.seektable.specs.Lookup.{byHeads}
-use Rattle.search.specs.Walk.{toSegment, segmentOf, visit, walk, children, placeOf}
+use Rattle.segments.specs.Walk.{toSegment, segmentOf, visit, walk, children, placeOf}
 use Rattle.search.specs.Part.{parentOf, searchOf}
 use Rattle.search.specs.Cases.{cases, Hold}
 

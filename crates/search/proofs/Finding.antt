@@ -21,7 +21,7 @@ use Rattle.seektable.specs.Lookup.{found as foundAt, absent as absentAt, stoppe
 use Rattle.seektable.specs.Contract.{placeTold}
 use Rattle.seektable.specs.declared.lookup.PartPlace.the-variants.{Found as PlaceFound}
 use Rattle.seektable.specs.declared.lookup.PartPlace.the-variants.{Absent as PlaceAbsent, Refused as PlaceRefused}
-use Rattle.search.specs.Walk.{placeOf}
+use Rattle.segments.specs.Walk.{placeOf}
 use Rattle.search.specs.Part.{parentOf, Search, found, absent, refused, onPlace, searchOf}
 use Rattle.search.specs.Part.{replyOf, tableOf, told, PartPromise}
 use Rattle.search.specs.declared.part.Parent.the-variants.{Id, NoPart}

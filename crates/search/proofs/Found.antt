@@ -18,7 +18,7 @@ use Rattle.elements.proofs.Readback.{accepted-read}
 use Rattle.seektable.specs.Lookup.{Place}
 use Rattle.seektable.specs.Lookup.{found as foundAt, absent as absentAt, stopped as stoppedAt}
 use Rattle.seektable.specs.Theorems.{GoodHeads}
-use Rattle.search.specs.Walk.{placeOf}
+use Rattle.segments.specs.Walk.{placeOf}
 use Rattle.search.specs.Part.{parentOf, Search, found, absent, refused, onParent, onPlace, searchOf}
 use Rattle.search.specs.Part.{headsOf, replyOf, tableOf, told, PartPromise}
 use Rattle.search.specs.Theorems.{HeadsAllowed, HeadsCounted, FoundBy, FoundIsPart, FoundIsRead}

@@ -1,6 +1,4 @@
 -- The laws that the proofs of `search` share, and its theorems.
-pub mod Before
-pub mod Walking
 pub mod Trusty
 pub mod Finding
 pub mod Unique

@@ -13,10 +13,11 @@ use Rattle.header.specs.declared.refusal.Refusal.{Refusal}
 use Rattle.elements.specs.Forest.{count}
 use Rattle.elements.specs.Reading.{siblings, masterBody}
 use Rattle.elements.specs.Promise.{isTable, allowed, filled, zeros}
-use Rattle.seektable.specs.Seeks.{headOf, entries}
-use Rattle.seektable.specs.Heads.{latestFrom, chain}
+use Rattle.seeks.specs.Seeks.{headOf, entries}
+use Rattle.seeks.specs.Table.{latestFrom}
+use Rattle.seektable.specs.Heads.{chain}
 use Rattle.seektable.specs.Lookup.{byHeads}
-use Rattle.search.specs.Walk.{toSegment, segmentOf, visit, walk, children, placeOf}
+use Rattle.segments.specs.Walk.{toSegment, segmentOf, visit, walk, children, placeOf}
 use Rattle.search.specs.Part.{parentOf, Search, found, absent, refused, searchOf, replyOf, tableOf, told}
 use Rattle.search.specs.Theorems.{tagsAlone, tagsBehindAHead, NotMadeUp, NotUntouched}
 use Rattle.search.specs.declared.part.PartReply.{PartReply}

@@ -15,7 +15,7 @@ use Rattle.elements.specs.Promise.{tableOf as readTable}
 use Rattle.seektable.specs.Answers.{onOutcome}
 use Rattle.seektable.specs.Lookup.{Place}
 use Rattle.seektable.specs.Lookup.{found as foundAt, absent as absentAt, stopped as stoppedAt}
-use Rattle.search.specs.Walk.{placeOf}
+use Rattle.segments.specs.Walk.{placeOf}
 use Rattle.search.specs.declared.part.Parent.{Parent}
 use Rattle.search.specs.declared.part.Parent.the-variants.{Id, NoPart}
 use Rattle.search.specs.declared.part.PartReply.{PartReply}

@@ -9,10 +9,10 @@ use Rattle.header.specs.declared.cursor.HeaderRead.the-variants.{Read}
 use Rattle.header.specs.declared.refusal.Refusal.{Refusal}
 use Rattle.elements.specs.Promise.{zeros, ReadPromise}
 use Rattle.elements.specs.declared.reply.ReadReply.the-variants.{Rows}
-use Rattle.seektable.specs.Seeks.{seekHeadId}
+use Rattle.seeks.specs.Seeks.{seekHeadId}
 use Rattle.seektable.specs.Theorems.{IsAt, GoodHeads, Named}
 use Rattle.seektable.specs.declared.heads.Head.{Head}
-use Rattle.search.specs.Walk.{segmentOf}
+use Rattle.segments.specs.Walk.{segmentOf}
 use Rattle.search.specs.Part.{parentOf, searchOf, headsOf, PartPromise}
 use Rattle.search.specs.declared.part.Parent.the-variants.{Id}
 use Rattle.search.specs.declared.part.PartReply.{PartReply}

@@ -1,7 +1,6 @@
 // The public call: a part of a recording, found and read into rows of a lent table.
 ghost use mathlib.Core.Path.{_≡_};
 ghost use Rattle.search.specs.Part.{parentOf, PartPromise};
-use crate::walk::place_of;
 use elements::ReadReply;
 use elements::clear;
 use elements::fill;
@@ -10,6 +9,7 @@ use header::Refusal;
 use kinds::TABLE;
 use kinds::ids;
 use seektable::PartPlace;
+use segments::place_of;
 
 // The payload's address and size, how many rows it has, and how many seek heads were read; or that the part is absent;
 // or a refusal.

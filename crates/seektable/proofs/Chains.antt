@@ -18,20 +18,22 @@ use Rattle.header.specs.declared.refusal.Refusal.{Refusal}
 use Rattle.header.proofs.Inside.{header-there}
 use Rattle.elements.specs.Forest.{Forest}
 use Rattle.elements.specs.Reading.{Outcome, done, refused}
-use Rattle.seektable.specs.Seeks.{seekHeadId, headOf, entries}
+use Rattle.seeks.specs.Seeks.{seekHeadId, headOf, entries}
+use Rattle.seeks.specs.Table.{latestFrom, latest}
+use Rattle.seeks.specs.Contract.{inserted, headTold}
+use Rattle.seeks.specs.declared.seek.Seek.{Seek}
+use Rattle.seeks.specs.declared.head.Latest.{Latest}
+use Rattle.seeks.specs.declared.head.Latest.the-variants.{Nowhere, At}
+use Rattle.seeks.specs.declared.head.Seektable.{Seektable}
+use Rattle.seeks.specs.declared.head.HeadRead.the-variants.{Read as HeadIs, Refused as HeadRefused}
+use Rattle.seeks.proofs.Entries.{latest-append}
 use Rattle.seektable.specs.Answers.{onHeader}
-use Rattle.seektable.specs.Heads.{latestFrom, latest, tooFar, member, sought}
+use Rattle.seektable.specs.Heads.{tooFar, member, sought}
 use Rattle.seektable.specs.Heads.{Chain, chained, broken, follow, chain, linkedHeads}
-use Rattle.seektable.specs.Contract.{inserted, headTold, headsTold}
-use Rattle.seektable.specs.declared.seek.Seek.{Seek}
-use Rattle.seektable.specs.declared.head.Latest.{Latest}
-use Rattle.seektable.specs.declared.head.Latest.the-variants.{Nowhere, At}
-use Rattle.seektable.specs.declared.head.Seektable.{Seektable}
-use Rattle.seektable.specs.declared.head.HeadRead.the-variants.{Read as HeadIs, Refused as HeadRefused}
+use Rattle.seektable.specs.Contract.{headsTold}
 use Rattle.seektable.specs.declared.heads.Head.{Head}
 use Rattle.seektable.specs.declared.heads.HeadsRead.the-variants.{Read as HeadsAre, Refused as HeadsRefused}
 use Rattle.seektable.proofs.Seen.{noted-address}
-use Rattle.seektable.proofs.Entries.{latest-append}
 
 -- ---- a sought address
 

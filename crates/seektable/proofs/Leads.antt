@@ -15,15 +15,16 @@ use Rattle.header.specs.declared.cursor.HeaderRead.{HeaderRead}
 use Rattle.header.specs.declared.cursor.HeaderRead.the-variants.{Read, Refused}
 use Rattle.elements.specs.Forest.{Forest}
 use Rattle.elements.specs.Reading.{Outcome, done, refused}
-use Rattle.seektable.specs.Seeks.{seekHeadId, headOf, entries}
+use Rattle.seeks.specs.Seeks.{seekHeadId, headOf, entries}
+use Rattle.seeks.specs.Table.{onLatest, latest}
+use Rattle.seeks.specs.declared.seek.Seek.{Seek}
+use Rattle.seeks.specs.declared.head.Latest.{Latest}
+use Rattle.seeks.specs.declared.head.Latest.the-variants.{Nowhere, At}
 use Rattle.seektable.specs.Answers.{onHeader, onOutcome}
-use Rattle.seektable.specs.Heads.{onLatest, latest, tooFar, member, sought, mostHeads, linkedHeads}
+use Rattle.seektable.specs.Heads.{tooFar, member, sought, mostHeads, linkedHeads}
 use Rattle.seektable.specs.Heads.{Chain, chained, broken, follow, chain}
 use Rattle.seektable.specs.Lookup.{found, absent, stopped, onChain, byHeads}
 use Rattle.seektable.specs.Theorems.{IsAt, IsHead, AreHeads, NotAmong, Distinct, GoodHeads, ByHeads, HeadsLead}
-use Rattle.seektable.specs.declared.seek.Seek.{Seek}
-use Rattle.seektable.specs.declared.head.Latest.{Latest}
-use Rattle.seektable.specs.declared.head.Latest.the-variants.{Nowhere, At}
 use Rattle.seektable.specs.declared.heads.Head.{Head}
 use Rattle.seektable.proofs.Chains.{sought-read}
 

@@ -10,13 +10,14 @@ use Rattle.header.specs.declared.cursor.Cursor.{Cursor}
 use Rattle.header.specs.declared.cursor.Header.{Header}
 use Rattle.header.specs.declared.cursor.HeaderRead.the-variants.{Read, Refused}
 use Rattle.header.specs.declared.refusal.Refusal.{Refusal}
+use Rattle.seeks.specs.Table.{latest}
+use Rattle.seeks.specs.declared.seek.Seek.{Seek}
+use Rattle.seeks.specs.declared.head.Latest.{Latest}
+use Rattle.seeks.specs.declared.head.Latest.the-variants.{Nowhere, At}
 use Rattle.seektable.specs.Answers.{onHeader}
-use Rattle.seektable.specs.Heads.{latest, tooFar, sought, Chain, chained, broken, linkedHeads}
+use Rattle.seektable.specs.Heads.{tooFar, sought, Chain, chained, broken, linkedHeads}
 use Rattle.seektable.specs.Lookup.{found, absent, stopped, byHeads}
 use Rattle.seektable.specs.Contract.{headsTold, placeTold}
-use Rattle.seektable.specs.declared.seek.Seek.{Seek}
-use Rattle.seektable.specs.declared.head.Latest.{Latest}
-use Rattle.seektable.specs.declared.head.Latest.the-variants.{Nowhere, At}
 use Rattle.seektable.specs.declared.heads.Head.{Head}
 use Rattle.seektable.specs.declared.heads.HeadsRead.the-variants.{Read as HeadsAre, Refused as HeadsRefused}
 use Rattle.seektable.specs.declared.lookup.PartPlace.the-variants.{Found, Absent, Refused as PlaceRefused}

@@ -9,30 +9,11 @@ use Rattle.header.specs.Reads.{headerAt}
 use Rattle.header.specs.declared.cursor.HeaderRead.{HeaderRead}
 use Rattle.header.specs.declared.cursor.HeaderRead.the-variants.{Read, Refused}
 use Rattle.header.specs.declared.refusal.Refusal.{Refusal}
+use Rattle.seeks.specs.Seeks.{seekHeadId, headOf, entries}
+use Rattle.seeks.specs.Table.{onLatest, latest}
+use Rattle.seeks.specs.declared.seek.Seek.{Seek}
 use Rattle.seektable.specs.Answers.{onHeader, onOutcome}
-use Rattle.seektable.specs.Seeks.{seekHeadId, headOf, entries}
-use Rattle.seektable.specs.declared.seek.Seek.{Seek}
-use Rattle.seektable.specs.declared.head.Latest.{Latest}
-use Rattle.seektable.specs.declared.head.Latest.the-variants.{Nowhere, At}
 use Rattle.seektable.specs.declared.heads.Head.{Head}
-
--- ---- the latest position of an id
-
-abbrev pub onLatest : {A : Type 0} → Latest → A → (ℕ → A) → A
-onLatest Nowhere none some = none
-onLatest (At position) none some = some position
-
--- After one more entry: the last Seek of an id wins.
-unfoldable pub later : ℕ → Latest → Seek → Latest
-later id old seek = cond (eqb (seek .id) id) (At (seek .position)) old
-
--- After more entries.
-unfoldable pub latestFrom : ℕ → Latest → List Seek → Latest
-latestFrom id old [] = old
-latestFrom id old (seek ∷ seeks) = latestFrom id (later id old seek) seeks
-
-abbrev pub latest : ℕ → List Seek → Latest
-latest id seeks = latestFrom id Nowhere seeks
 
 -- ---- addresses
 

@@ -1,6 +1,5 @@
 -- The definitions that the contracts of `seektable` cite, and the statements of its theorems.
 pub mod Answers
-pub mod Seeks
 pub mod Heads
 pub mod Lookup
 pub mod Contract

@@ -4,9 +4,10 @@ use mathlib.Core.List.{List}
 use mathlib.Core.Bool.{cond}
 use Rattle.header.specs.Refusals.{invalidSeekHead}
 use Rattle.header.specs.declared.refusal.Refusal.{Refusal}
+use Rattle.seeks.specs.Table.{onLatest, latest}
+use Rattle.seeks.specs.declared.seek.Seek.{Seek}
 use Rattle.seektable.specs.Answers.{onHeader}
-use Rattle.seektable.specs.Heads.{Chain, chained, broken, onLatest, latest, tooFar, sought, linkedHeads}
-use Rattle.seektable.specs.declared.seek.Seek.{Seek}
+use Rattle.seektable.specs.Heads.{Chain, chained, broken, tooFar, sought, linkedHeads}
 use Rattle.seektable.specs.declared.heads.Head.{Head}
 
 -- Where a part is: its payload's address and size, or that it is absent, with the addresses of the heads that were

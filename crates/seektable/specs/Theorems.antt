@@ -10,11 +10,12 @@ use Rattle.header.specs.declared.cursor.Header.{Header}
 use Rattle.header.specs.declared.cursor.HeaderRead.the-variants.{Read}
 use Rattle.elements.specs.Forest.{Forest}
 use Rattle.elements.specs.Reading.{done}
-use Rattle.seektable.specs.Seeks.{seekHeadId, headOf}
-use Rattle.seektable.specs.Heads.{latest, chained, mostHeads, linkedHeads}
+use Rattle.seeks.specs.Seeks.{seekHeadId, headOf}
+use Rattle.seeks.specs.Table.{latest}
+use Rattle.seeks.specs.declared.seek.Seek.{Seek}
+use Rattle.seeks.specs.declared.head.Latest.the-variants.{Nowhere, At}
+use Rattle.seektable.specs.Heads.{chained, mostHeads, linkedHeads}
 use Rattle.seektable.specs.Lookup.{Place, found, absent, stopped, byHeads}
-use Rattle.seektable.specs.declared.seek.Seek.{Seek}
-use Rattle.seektable.specs.declared.head.Latest.the-variants.{Nowhere, At}
 use Rattle.seektable.specs.declared.heads.Head.{Head}
 
 -- An element with that id is at an address: its header was read there, and its payload has that place and size.

@@ -3,16 +3,17 @@ ghost use mathlib.Core.Path.{_≡_};
 ghost use Prim.Native.Nat.{_+_, _≤_};
 ghost use lib.ListN.{length, take};
 ghost use lib.Dec.{ltb};
+ghost use Rattle.seeks.specs.Contract.{Readable};
 ghost use Rattle.seektable.specs.Heads.{lastAddress, member, mostHeads, sought as soughtAt, linkedHeads};
-ghost use Rattle.seektable.specs.Contract.{Readable, headsTold};
-use crate::head::HeadRead;
-use crate::head::Latest;
-use crate::head::Seektable;
-use crate::head::head_body;
+ghost use Rattle.seektable.specs.Contract.{headsTold};
 use header::Cursor;
 use header::HeaderRead;
 use header::Refusal;
 use kinds::ids;
+use seeks::HeadRead;
+use seeks::Latest;
+use seeks::Seektable;
+use seeks::head_body;
 
 // The most seek heads that one search reads, the first included.
 pub const MOST_HEADS: usize = 64;

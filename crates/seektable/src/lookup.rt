@@ -1,8 +1,8 @@
 // The part that the seek heads lead to.
 ghost use mathlib.Core.Path.{_≡_};
+ghost use Rattle.seeks.specs.Contract.{Readable};
 ghost use Rattle.seektable.specs.Lookup.{byHeads};
-ghost use Rattle.seektable.specs.Contract.{Readable, placeTold};
-use crate::head::Latest;
+ghost use Rattle.seektable.specs.Contract.{placeTold};
 use crate::heads::Head;
 use crate::heads::HeadsRead;
 use crate::heads::MOST_HEADS;
@@ -11,6 +11,7 @@ use crate::heads::linked_heads;
 use crate::heads::sought;
 use header::HeaderRead;
 use header::Refusal;
+use seeks::Latest;
 
 // Where a part's payload is and its size, or that the part is absent, with how many heads were read; or a refusal.
 pub enum PartPlace {

@@ -1,0 +1,26 @@
+-- `with_numbers` meets its contract: what the word gave lies in the room. Assumes nothing.
+use borrow.Author.Needs.{needs}
+use native.Mathlib.Omega.{arith}
+use Rattle.questions.proofs.asked.with_numbers.Statement.{statement}
+use Rattle.questions.proofs.asked.with_numbers.Tie as tie
+
+enum-told : tie.Need-enum-told
+enum-told c = search needs
+
+nothing-requires : tie.Need-nothing-requires
+nothing-requires c κs = search needs
+
+enum-known-given : tie.Need-enum-known-given
+enum-known-given c = search needs
+
+returns : tie.Need-returns
+returns c = search needs
+
+returns-2 : tie.Need-returns-2
+returns-2 c =
+    let fits = rw (c .before .given .given .1) at (c .before .before .before .pre .0) in
+    (omega arith, omega arith)
+
+pub with-numbers-spec : {M : Type 1} → statement M
+with-numbers-spec =
+    tie.close (tie.spec enum-told nothing-requires enum-known-given returns returns-2)

@@ -1,0 +1,2 @@
+-- What the contracts inside `questions` cite.
+pub mod Bounds

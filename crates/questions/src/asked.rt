@@ -1,0 +1,201 @@
+// What a line asks: the words behind its first one, read by the form of its question.
+//
+// A form has a letter for each word: `n` ID, `p` PARENT, `a` AT or START, `s` SIZE, `d` ADDRESS, `r` ROW,
+// `k` K or a track type's N, `i` I, `j` J, `b` BYTES, `t` NUMBERS, `l` the table's numbers themselves, `g` RANGE,
+// `w` a word that the question itself reads.
+ghost use Rattle.lines.specs.Bounds.{Few};
+ghost use Rattle.questions.specs.Bounds.{InTable, Lent};
+use crate::table;
+use crate::table::Given;
+use lines::words;
+use lines::words::Count;
+use lines::words::Named;
+use lines::words::Spelt;
+
+// What the words spell, and how many bytes of the recording and numbers of the table the call is lent.
+// A line that spells something else is not good.
+pub struct Asked {
+    pub good: bool,
+    pub id: u32,
+    pub parent: u32,
+    pub at: u64,
+    pub size: u64,
+    pub address: u64,
+    pub row: u64,
+    pub k: u64,
+    pub i: u64,
+    pub j: u64,
+    // Whether RANGE is set; then `at` is its address, and `size` its length.
+    pub set: bool,
+    pub bytes: usize,
+    pub numbers: usize,
+}
+
+pub fn asked_of(
+    line: &[u8],
+    form: &[u8],
+    recording: &mut [u8; 65536],
+    table: &mut [u64; 30000],
+) -> Asked
+    ensures { λ r. ⌜ Lent r ⌝ }
+{
+    if words::word_count(line) != form.len() + 1 {
+        return nothing(false);
+    }
+    let mut asked = nothing(true);
+    let mut k: usize = 0;
+    while k < form.len() {
+        let word = words::word(line, k + 1);
+        asked = with_word(asked, form[k], word, recording, table);
+        if !asked.good {
+            return asked;
+        }
+        k += 1;
+    }
+    asked
+}
+
+// No word yet, or none that counts.
+fn nothing(good: bool) -> Asked
+    ensures { λ r. ⌜ Lent r ⌝ }
+{
+    Asked {
+        good,
+        id: 0,
+        parent: 0,
+        at: 0,
+        size: 0,
+        address: 0,
+        row: 0,
+        k: 0,
+        i: 0,
+        j: 0,
+        set: false,
+        bytes: 0,
+        numbers: 0,
+    }
+}
+
+fn with_word(
+    asked: Asked,
+    letter: u8,
+    word: &[u8],
+    recording: &mut [u8; 65536],
+    table: &mut [u64; 30000],
+) -> Asked
+    requires { ⌜ Lent asked ⌝ }
+    ensures { λ r. ⌜ Lent r ⌝ }
+{
+    match letter {
+        b'b' => with_bytes(asked, words::spell(word, recording)),
+        b't' => with_numbers(asked, table::filled(word, table)),
+        b'l' => with_numbers(asked, table::listed(word, table)),
+        b'g' => with_range(asked, word),
+        b'w' => asked,
+        b'n' | b'p' => with_id(asked, letter, words::id(word)),
+        _ => with_value(asked, letter, words::decimal(word)),
+    }
+}
+
+fn with_bytes(asked: Asked, spelt: Spelt) -> Asked
+    requires { ⌜ Few spelt × Lent asked ⌝ }
+    ensures { λ r. ⌜ Lent r ⌝ }
+{
+    match spelt {
+        Spelt::Bad => nothing(false),
+        Spelt::Bytes(length) => {
+            let mut next = asked;
+            next.bytes = length;
+            next
+        }
+    }
+}
+
+fn with_numbers(asked: Asked, given: Given) -> Asked
+    requires { ⌜ InTable given × Lent asked ⌝ }
+    ensures { λ r. ⌜ Lent r ⌝ }
+{
+    match given {
+        Given::Bad => nothing(false),
+        Given::Numbers(count) => {
+            let mut next = asked;
+            next.numbers = count;
+            next
+        }
+    }
+}
+
+fn with_id(asked: Asked, letter: u8, spelt: Named) -> Asked
+    requires { ⌜ Lent asked ⌝ }
+    ensures { λ r. ⌜ Lent r ⌝ }
+{
+    let Named::Is(id) = spelt else {
+        return nothing(false);
+    };
+    let mut next = asked;
+    if letter == b'p' {
+        next.parent = id;
+        return next;
+    }
+    next.id = id;
+    next
+}
+
+fn with_value(asked: Asked, letter: u8, spelt: Count) -> Asked
+    requires { ⌜ Lent asked ⌝ }
+    ensures { λ r. ⌜ Lent r ⌝ }
+{
+    let Count::Is(value) = spelt else {
+        return nothing(false);
+    };
+    let mut next = asked;
+    match letter {
+        b'a' => {
+            next.at = value;
+            next
+        }
+        b's' => {
+            next.size = value;
+            next
+        }
+        b'd' => {
+            next.address = value;
+            next
+        }
+        b'r' => {
+            next.row = value;
+            next
+        }
+        b'k' => {
+            next.k = value;
+            next
+        }
+        b'i' => {
+            next.i = value;
+            next
+        }
+        b'j' => {
+            next.j = value;
+            next
+        }
+        _ => nothing(false),
+    }
+}
+
+// RANGE: `unset`, or `ADDRESS+LENGTH`.
+fn with_range(asked: Asked, word: &[u8]) -> Asked
+    requires { ⌜ Lent asked ⌝ }
+    ensures { λ r. ⌜ Lent r ⌝ }
+{
+    if words::same(word, b"unset") {
+        return asked;
+    }
+    let plus = words::find(word, 0, b'+');
+    if plus == word.len() {
+        return nothing(false);
+    }
+    let mut next = asked;
+    next.set = true;
+    next = with_value(next, b'a', words::decimal(&word[0..plus]));
+    with_value(next, b's', words::decimal(&word[plus + 1..]))
+}

@@ -1,0 +1,138 @@
+// The table of a question: its numbers as the line gives them, and as the answer tells them.
+ghost use Prim.Native.Nat.{_+_, _*_, _≤_};
+ghost use lib.ListN.{length};
+ghost use Rattle.questions.specs.Bounds.{InTable};
+use crate::told::refused;
+use elements::WIDTH;
+use header::Refusal;
+use lines::numbers;
+use lines::out;
+use lines::words;
+use lines::words::Count;
+
+// A question's table has at most so many numbers.
+const MOST: usize = 30_000;
+
+// How many numbers the table has, where the word tells it.
+pub enum Given {
+    Numbers(usize),
+    Bad,
+}
+
+// NUMBERS: so many numbers, each 2^64-1.
+pub fn filled(word: &[u8], table: &mut [u64; 30000]) -> Given
+    ensures { λ r. ⌜ InTable r ⌝ }
+{
+    let Count::Is(count) = words::decimal(word) else {
+        return Given::Bad;
+    };
+    if (MOST as u64) < count {
+        return Given::Bad;
+    }
+    let n = count as usize;
+    let mut i: usize = 0;
+    while i < n {
+        table[i] = u64::MAX;
+        i += 1;
+    }
+    Given::Numbers(n)
+}
+
+// `N,N,..`: the numbers themselves, or `-` for none.
+pub fn listed(word: &[u8], table: &mut [u64; 30000]) -> Given
+    ensures { λ r. ⌜ InTable r ⌝ }
+{
+    if words::same(word, b"-") {
+        return Given::Numbers(0);
+    }
+    let mut n: usize = 0;
+    let mut at: usize = 0;
+    while n < MOST {
+        let end = words::find(word, at, b',');
+        let Count::Is(value) = words::decimal(&word[at..end]) else {
+            return Given::Bad;
+        };
+        table[n] = value;
+        n += 1;
+        if end == word.len() {
+            return Given::Numbers(n);
+        }
+        at = end + 1;
+    }
+    Given::Bad
+}
+
+// `rows N`, each row that lies in the table, and whether a number beyond them is not 0.
+pub fn rows_told(rows: u64, table: &[u64], out: &mut [u8; 65536], held: usize) -> usize {
+    let shown = rows_within(rows, table);
+    let mut now = numbers::put_decimal(out, held, b"rows ", rows);
+    let mut k: usize = 0;
+    while k < shown {
+        now = row_told(table, WIDTH * k, out, now);
+        k += 1;
+    }
+    zeros_told(b" rest ", table, WIDTH * shown, out, now)
+}
+
+// ` rows N` without the rows, and whether a number beyond them is not 0.
+pub fn rest_told(rows: u64, table: &[u64], out: &mut [u8; 65536], held: usize) -> usize {
+    let within = rows_within(rows, table);
+    let n = numbers::put_decimal(out, held, b" rows ", rows);
+    zeros_told(b" rest ", table, WIDTH * within, out, n)
+}
+
+// How many of the rows lie in the table.
+fn rows_within(rows: u64, table: &[u64]) -> usize
+    ensures { λ r. ⌜ 7 * r ≤ length (now (table .entry)) ⌝ }
+{
+    let room = table.len() / WIDTH;
+    if rows < room as u64 {
+        return rows as usize;
+    }
+    room
+}
+
+// ` / id parent address header payload kind depth`, the id in hexadecimal digits.
+fn row_told(table: &[u64], at: usize, out: &mut [u8; 65536], held: usize) -> usize
+    requires { ⌜ at + 7 ≤ length (now table) ⌝ }
+{
+    let mut now = numbers::put_hex(out, held, b" / ", table[at], 1);
+    let mut k: usize = 1;
+    while k < WIDTH {
+        now = numbers::put_decimal(out, now, b" ", table[at + k]);
+        k += 1;
+    }
+    now
+}
+
+// The refusal, and whether a number of the table is not 0.
+pub fn refused_told(refusal: Refusal, table: &[u64], out: &mut [u8; 65536], held: usize) -> usize {
+    let n = refused(refusal, out, held);
+    zeros_told(b" table ", table, 0, out, n)
+}
+
+// `0` where every number from `from` on is 0, else `dirty`.
+fn zeros_told(
+    label: &[u8],
+    table: &[u64],
+    from: usize,
+    out: &mut [u8; 65536],
+    held: usize,
+) -> usize {
+    let n = out::put(out, held, label);
+    if are_zero(table, from) {
+        return out::put(out, n, b"0");
+    }
+    out::put(out, n, b"dirty")
+}
+
+fn are_zero(table: &[u64], from: usize) -> bool {
+    let mut i = from;
+    while i < table.len() {
+        if table[i] != 0 {
+            return false;
+        }
+        i += 1;
+    }
+    true
+}

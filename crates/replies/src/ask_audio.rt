@@ -1,0 +1,40 @@
+// `audio START SIZE NUMBERS K BYTES`: the settings of an audio track.
+use fields::Real;
+use lines::numbers;
+use lines::out;
+use questions::asked::Asked;
+use questions::table;
+use questions::told;
+use tracks::Audio;
+use tracks::AudioReply;
+
+pub fn audio(
+    asked: Asked,
+    recording: &[u8],
+    table: &mut [u64],
+    out: &mut [u8; 65536],
+    held: usize,
+) -> usize {
+    let reply = tracks::audio_at(recording, asked.at, asked.size, asked.k, table);
+    match reply {
+        AudioReply::Refused(refusal) => table::refused_told(refusal, table, out, held),
+        AudioReply::Audio { audio, rows } => {
+            let n = fields_told(audio, out, held);
+            table::rest_told(rows, table, out, n)
+        }
+    }
+}
+
+// `rate F channels N depth N`
+fn fields_told(audio: Audio, out: &mut [u8; 65536], held: usize) -> usize {
+    let names = b"rate channels depth";
+    let rate = audio.sample_rate;
+    let channels = audio.channels;
+    let depth = audio.bit_depth;
+    let n = match rate {
+        Real::Unset => out::put(out, held, b"rate unset"),
+        Real::Is(value) => numbers::put_float(out, held, b"rate ", value),
+    };
+    let n = told::number(names, 1, channels, out, n);
+    told::number(names, 2, depth, out, n)
+}

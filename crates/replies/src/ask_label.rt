@@ -1,0 +1,53 @@
+// `label RANGE LABEL BYTES`: the label of a boot stage.
+use bodies::Range;
+use fields::Part;
+use labels::stage_label;
+use lines::numbers;
+use lines::words;
+use lines::words::Spelt;
+use questions::asked::Asked;
+use questions::told::bad;
+
+// `word` is LABEL, which is spelt into room of its own.
+pub fn label(
+    asked: Asked,
+    word: &[u8],
+    recording: &[u8],
+    out: &mut [u8; 65536],
+    held: usize,
+) -> usize {
+    let mut room = [0u8; 65536];
+    let spelt = words::spell(word, &mut room);
+    match spelt {
+        Spelt::Bad => bad(out, held),
+        Spelt::Bytes(length) => label_told(asked, recording, &room, length, out, held),
+    }
+}
+
+// `label HEX`. No label is longer than its room.
+fn label_told<'a>(
+    asked: Asked,
+    recording: &'a [u8],
+    room: &'a [u8; 65536],
+    length: usize,
+    out: &mut [u8; 65536],
+    held: usize,
+) -> usize {
+    let whole: &[u8] = room;
+    if whole.len() < length {
+        return bad(out, held);
+    }
+    let shown = stage_label(recording, part_of(asked), &whole[0..length]);
+    numbers::put_bytes(out, held, b"label ", shown)
+}
+
+// RANGE
+fn part_of(asked: Asked) -> Part {
+    if asked.set {
+        return Part::At(Range {
+            at: asked.at,
+            length: asked.size,
+        });
+    }
+    Part::Unset
+}

@@ -1,0 +1,28 @@
+// `tracktype N`: the type of a track by its number.
+use lines::out;
+use lines::words;
+use questions::asked::Asked;
+use tracks::Tracktype;
+
+pub fn tracktype(asked: Asked, out: &mut [u8; 65536], held: usize) -> usize {
+    let names = b"video audio complex logo subtitle buttons control unknown";
+    out::put(
+        out,
+        held,
+        words::word(names, place_of(Tracktype::new(asked.k))),
+    )
+}
+
+// The place of the type's name in the list.
+fn place_of(tracktype: Tracktype) -> usize {
+    match tracktype {
+        Tracktype::Video => 0,
+        Tracktype::Audio => 1,
+        Tracktype::Complex => 2,
+        Tracktype::Logo => 3,
+        Tracktype::Subtitle => 4,
+        Tracktype::Buttons => 5,
+        Tracktype::Control => 6,
+        Tracktype::Unknown => 7,
+    }
+}

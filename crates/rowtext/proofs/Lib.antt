@@ -1,0 +1,3 @@
+-- The laws that the proofs of `rowtext` share.
+pub mod RowTexts
+pub mod Words

@@ -1,0 +1,3 @@
+-- The definitions that the contracts of `rowtext` cite.
+pub mod Lines
+pub mod Room

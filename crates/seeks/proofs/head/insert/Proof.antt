@@ -1,0 +1,22 @@
+-- `insert`: the table with one more entry. Assumes nothing.
+use borrow.Author.Needs.{needs}
+use Rattle.seeks.proofs.head.insert.Statement.{statement}
+use Rattle.seeks.proofs.head.insert.Tie as tie
+use Rattle.seeks.specs.Table.{latestFrom}
+use mathlib.Core.Path.{refl}
+
+later-requires : tie.Need-later-requires
+later-requires c κs = search needs
+
+later-requires-2 : tie.Need-later-requires-2
+later-requires-2 c κs = search needs
+
+returns : tie.Need-returns
+unfolding latestFrom
+returns c =
+    let later = c .before .later in
+    let later2 = c .later2 in
+    rw (later .ensures, later2 .ensures) refl
+
+pub insert-spec : {M : Type 1} → statement M
+insert-spec = tie.close (tie.spec later-requires later-requires-2 returns)
