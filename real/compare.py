@@ -2,6 +2,8 @@
 # Compares our reader with mkvinfo, mkvextract, mkvmerge and ffprobe: real/compare.py FOLDER ASK.. -- ROWS.. -- PARTS..
 # FOLDER has the recordings of real/make.py; the words behind it are the commands that run `ask`, `rows` and `parts`.
 # --selftest as the first word changes our answers and the tools' facts one at a time, and sees that it is noticed.
+# --questions FILE as the first words writes some of the questions down: of each recording, the first three of each
+# word, and all those for parts.
 #
 # It prints a line for each recording, the findings by reason, and a summary; FOLDER/findings.txt has each finding in a
 # line. A finding is a difference with a named reason whose condition was tested on the tools' own facts. Whatever has
@@ -66,10 +68,20 @@ class Asker:
     def __init__(self, command, keep=False):
         self.process = subprocess.Popen(command, stdin=subprocess.PIPE, stdout=subprocess.PIPE)
         self.keep, self.known, self.count = keep, {}, 0
+        self.written, self.words = None, collections.Counter()
+
+    def write(self, question):
+        """Writes the question down, if it is one of the first of its word since the last clearing of `words`."""
+        word = question.split(' ')[0]
+        self.words[word] += 1
+        if word == 'part' or self.words[word] <= 3:
+            self.written.write(question + '\n')
 
     def __call__(self, question):
         if question in self.known:
             return self.known[question]
+        if self.written:
+            self.write(question)
         self.process.stdin.write(question.encode() + b'\n')
         self.process.stdin.flush()
         answer = self.process.stdout.readline().decode()
@@ -861,12 +873,14 @@ def split_words(words):
 
 def main():
     words = sys.argv[1:]
-    selftest = words[:1] == ['--selftest']
+    selftest, questions = words[:1] == ['--selftest'], None
     if selftest:
         words = words[1:]
+    elif words[:1] == ['--questions']:
+        questions, words = words[1], words[2:]
     groups = split_words(words[1:])
     if not words or len(groups) != 3 or not all(groups):
-        sys.exit('usage: real/compare.py [--selftest] FOLDER ASK.. -- ROWS.. -- PARTS..')
+        sys.exit('usage: real/compare.py [--selftest | --questions FILE] FOLDER ASK.. -- ROWS.. -- PARTS..')
     folder, asker = words[0], Asker(groups[0])
     run_rows, run_parts = runner(groups[1]), runner(groups[2])
     with open(os.path.join(folder, 'list'), encoding='utf-8') as file:
@@ -875,8 +889,10 @@ def main():
         import selftest as tests
         sys.exit(tests.run(folder, names, asker, run_rows, run_parts, Comparison, tools))
     totals, reasons, files, unexplained = collections.Counter(), collections.Counter(), collections.Counter(), 0
+    asker.written = open(questions, 'w', encoding='ascii') if questions else None
     with open(os.path.join(folder, 'findings.txt'), 'w', encoding='utf-8') as log:
         for name in names:
+            asker.words.clear()
             one = Comparison(name, folder, asker, run_rows, run_parts).all()
             print(one.line(), flush=True)
             totals.update(one.counts)
@@ -896,6 +912,8 @@ def main():
     print('compared: ' + ', '.join('%s %d' % (name, totals[name]) for name in sorted(totals)))
     print('real: %d recordings, %d questions, %d findings, %d unexplained' %
           (len(names), asker.count, sum(reasons.values()), unexplained))
+    if asker.written:
+        asker.written.close()
     sys.exit(1 if unexplained else 0)
 
 

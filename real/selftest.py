@@ -1,6 +1,6 @@
-# Sees that the comparison can fail: real/run --selftest. One of our answers is changed, or one fact of the tools, and the
-# comparison has to call something unexplained. Answers are changed number by number: an address off by one, a row left
-# out, a name moved by a byte. Facts are changed so that the condition of a finding's reason no longer holds.
+# Sees that the comparison can fail: real/run --selftest. One of our answers is changed, or one fact of the tools, and
+# the comparison has to call something unexplained. Answers are changed number by number: an address off by one, a row
+# left out, a name moved by a byte. Facts are changed so that the condition of a finding's reason no longer holds.
 import copy
 import re
 
@@ -213,10 +213,11 @@ def fact_changes(tools):
         ('rows', 'large-over.mkv', small_part), ('stale', 'hand-stale.mkv', position('Chapters', 0x1043A770)),
         ('cut off', 'hand-cut-end.mkv', inside), ('default', 'mm-all.mkv', child('Sampling frequency', 'Audio track')),
         ('default', 'mm-all.mkv', child('Channels', 'Audio track')), ('zero bytes', 'ff-all.mkv', zero),
-        ('languages', 'mm-all.mkv', language), ('nested', 'mm-all.mkv', nested), ('nested', 'mm-all.mkv', nested_simple),
-        ('description', 'mm-all.mkv', child('File description', 'Attached')), ('description', 'mm-all.mkv', description),
-        ('ffprobe: editions', 'mm-all.mkv', fewer), ('ffprobe: editions', 'mm-all.mkv', more),
-        ('ffprobe: name', 'mm-all.mkv', title), ('ffprobe: end', 'mm-all.mkv', end), ('ffprobe: uid', 'mm-all.mkv', uid),
+        ('languages', 'mm-all.mkv', language), ('nested', 'mm-all.mkv', nested),
+        ('nested', 'mm-all.mkv', nested_simple), ('description', 'mm-all.mkv', child('File description', 'Attached')),
+        ('description', 'mm-all.mkv', description), ('ffprobe: editions', 'mm-all.mkv', fewer),
+        ('ffprobe: editions', 'mm-all.mkv', more), ('ffprobe: name', 'mm-all.mkv', title),
+        ('ffprobe: end', 'mm-all.mkv', end), ('ffprobe: uid', 'mm-all.mkv', uid),
         ('ffprobe: opus', 'webm-vp9.webm', opus), ('plain master', 'mm-picture.mkv', outside),
         ('a row of ours', 'mm-all.mkv', drop('Chapter UID', 'Chapter atom')),
     ]
@@ -231,7 +232,7 @@ def run(folder, names, asker, run_rows, run_parts, Comparison, tools):
 
     for name in RECORDINGS:
         said = fresh(name, None).tools
-        count = before = 0
+        count = 0
         plain = fresh(name, said)
         if plain.all().wrong:
             print('selftest: %s is not explained as it is' % name)
