@@ -46,6 +46,8 @@ REASONS = collections.OrderedDict([
     ('unknown size', 'no seek head, and a Cluster of unknown size before the part, or no such part: the size is a '
                      'plain number, which leads out of the segment (refused 3) or out of the recording (refused 1)'),
     ('unknown size, short', 'the same, and the plain number leads to a place inside the Cluster, where we read on'),
+    ('open end', 'no seek head, and no end of the segment in the recording: its size is unknown, or the recording is '
+                 'cut off. A part that is not met is refused 1, and the tools show none'),
     ('rows', 'the part has more elements than the largest table has rows: refused 13'),
     ('stale', 'the seek entry leads to no such element: refused 9, or 1, 2 or 3 where no header can be read there'),
     ('cut off', 'the seek entry leads past the end of the recording: refused 1'),
@@ -146,7 +148,7 @@ class Comparison:
         with open(self.path, 'rb') as file:
             self.bytes = file.read()
         self.small = len(self.bytes) <= SMALL
-        self.digits = self.bytes.hex().upper()
+        self.digits = self.bytes.hex().upper() if self.small else None
         self.counts, self.findings, self.wrong = collections.Counter(), [], []
         # For --selftest: changes one of our answers.
         self.change = lambda question, answer: answer
@@ -280,6 +282,11 @@ class Comparison:
                 label, named, [e.at for e in shown], self.who_finds(label))
         if part.refused == 1 and named is not None and named >= length:
             return 'cut off', '%s: the entry leads to %d of %d bytes' % (label, named, length)
+        info = self.tools.info
+        endless = info.segment.data is None or info.start() + info.segment.data > length
+        if part.refused == 1 and not heads and not shown and endless and all(e.size for e in info.level1()):
+            return 'open end', '%s: the segment has %s bytes, the recording ends at %d' % (
+                label, info.segment.data or 'unknown', length)
         return self.open_cluster(label, part, shown, heads)
 
     def header_fault(self, at):
@@ -887,7 +894,7 @@ def main():
         names = [line.split('\t')[0] for line in file]
     if selftest:
         import selftest as tests
-        sys.exit(tests.run(folder, names, asker, run_rows, run_parts, Comparison, tools))
+        sys.exit(tests.run(folder, asker, run_rows, run_parts, Comparison, tools))
     totals, reasons, files, unexplained = collections.Counter(), collections.Counter(), collections.Counter(), 0
     asker.written = open(questions, 'w', encoding='ascii') if questions else None
     with open(os.path.join(folder, 'findings.txt'), 'w', encoding='utf-8') as log:

@@ -6,6 +6,7 @@
 import os
 import subprocess
 import sys
+import time
 from xml.sax.saxutils import escape
 
 STAGES = ['ROM', 'SPL', 'U-Boot', 'Kernel', 'init', 'Login']
@@ -42,6 +43,21 @@ def piped(out, *words, form='matroska'):
     if done.returncode != 0:
         sys.exit('make.py: %s: %s' % (out, done.stderr.decode('utf-8', 'replace')))
     write(out, done.stdout)
+
+
+def killed(out, size, *words):
+    """A recorder that writes at the pace of the picture, and is killed when the file has so many bytes."""
+    command = ['ffmpeg', '-hide_banner', '-loglevel', 'error', '-nostdin', '-y', '-re', '-stream_loop', '99', *words,
+               '-cluster_time_limit', '200', '-flush_packets', '1', '-f', 'matroska', out]
+    if os.path.exists(out):
+        os.remove(out)
+    recorder = subprocess.Popen(command, stdin=subprocess.DEVNULL)
+    while recorder.poll() is None and not (os.path.exists(out) and os.path.getsize(out) >= size):
+        time.sleep(0.02)
+    if recorder.poll() is not None:
+        sys.exit('make.py: %s: the recorder ended before it was killed' % out)
+    recorder.kill()
+    recorder.wait()
 
 
 def mkvmerge(out, *words):
@@ -282,6 +298,10 @@ class Maker:
               '-metadata:s:t:0', 'mimetype=text/plain')
         piped(add('live-webm.webm', 'live WebM through a pipe'), *PICTURE, '-c:v', 'libvpx', '-b:v', '20k', '-live',
               '1', form='webm')
+        killed(add('killed-all.mkv', 'the recorder was killed: no seek head was written'), 12000, '-i', 'source2.mkv',
+               '-i', 'rich.ffmeta', *COPY, '-map_metadata', '1', '-map_chapters', '1', '-attach', 'console.txt',
+               '-metadata:s:t:0', 'mimetype=text/plain')
+        killed(add('killed-plain.mkv', 'the same without chapters and attachments'), 8000, *src, *COPY)
         # WebM.
         ffmpeg(add('webm-vp8.webm', 'WebM: VP8 and Vorbis'), *PICTURE, *TONE, '-c:v', 'libvpx', '-b:v', '20k', *VORBIS,
                form='webm')
@@ -394,7 +414,7 @@ class Maker:
         """Recordings of the tools with a few bytes changed, as other programs or a power failure leave them."""
         add = self.add
         for source, name in (('ff-all.mkv', 'hand-cut.mkv'), ('live-pipe-all.mkv', 'hand-cut-live.mkv'),
-                             ('pe-grown.mkv', 'hand-cut-end.mkv')):
+                             ('pe-grown.mkv', 'hand-cut-end.mkv'), ('mm-no-seek.mkv', 'hand-cut-no-seek.mkv')):
             whole = read(source)
             write(add(name, source + ' cut short, as when the power fails'), whole[:len(whole) * 2 // 3])
         # Clusters of unknown size, as browsers and cameras write them: all bits of the size are ones. Nothing leads
