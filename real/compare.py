@@ -9,7 +9,6 @@
 # line. A finding is a difference with a named reason whose condition was tested on the tools' own facts. Whatever has
 # no such reason is unexplained, and the status is then 1.
 import collections
-import copy
 import os
 import re
 import struct
@@ -45,7 +44,8 @@ REASONS = collections.OrderedDict([
     ('written twice', 'mkvinfo shows the part more than once; ours is the one that the seek head names'),
     ('unknown size', 'no seek head, and a Cluster of unknown size before the part, or no such part: the size is a '
                      'plain number, which leads out of the segment (refused 3) or out of the recording (refused 1)'),
-    ('unknown size, short', 'the same, and the plain number leads to a place inside the Cluster, where we read on'),
+    ('unknown size, short', 'the same, and the plain number leads to a place inside the Cluster, where we read on: '
+                            'refused by what is met there, or found where there is no such part'),
     ('open end', 'no seek head, and no end of the segment in the recording: its size is unknown, or the recording is '
                  'cut off. A part that is not met is refused 1, and the tools show none'),
     ('rows', 'the part has more elements than the largest table has rows: refused 13'),
@@ -245,6 +245,10 @@ class Comparison:
                 self.same('%s: count of seek heads' % label, part.heads, 0)
         if part.found():
             matching = [e for e in shown if (e.at + e.header(), e.data) == (part.at, part.size)]
+            if not matching and self.open_cluster(label, part, shown, heads):
+                self.counts['parts with a reason'] += 1
+                self.find(*self.open_cluster(label, part, shown, heads))
+                return None
             if not matching:
                 self.fail('%s: ours at %d size %d, mkvinfo has %r' % (label, part.at, part.size,
                                                                      [(e.at + e.header(), e.data) for e in shown]))
@@ -262,6 +266,7 @@ class Comparison:
             return None
         cause = self.cause(label, part, shown, heads, entries, named)
         if cause:
+            self.counts['parts with a reason'] += 1
             self.find(*cause)
         else:
             self.fail('%s: ours %s; mkvinfo shows it at %r, seek entries lead to %r, and there is no cause' %
@@ -321,7 +326,9 @@ class Comparison:
             return ('unknown size', what) if part.refused == 3 else None
         if after >= len(self.bytes):
             return ('unknown size', what) if part.refused == 1 else None
-        return 'unknown size, short', '%s: %s' % (what, part.answer.split(' rest')[0])
+        if part.found() and part.at < after:
+            return None
+        return 'unknown size, short', '%s: %s' % (what, part.answer.split(' rest')[0].split(' table')[0])
 
     def who_finds(self, label):
         """Which of the tools show the part: for the reader of the findings."""

@@ -435,6 +435,12 @@ class Maker:
                 head += b'\x1f\x43\xb6\x75' + ones + cluster[9 - cluster[0].bit_length():]
             write(add(name, '%s, each Cluster\'s size unknown, in %d bytes%s' %
                       (source, size, '' if seek else ', and no seek head')), head)
+        # The same, and in the first frame, where a size of 127 leads to, stand bytes that look like Chapters.
+        data = read('hand-live-1.mkv')
+        at = data.find(b'\x1f\x43\xb6\x75') + 5 + 127
+        false = bytes.fromhex('1043A7708F' '45B98C' 'B68A' '8088' '8586') + b'Login?'
+        write(add('hand-live-false.mkv', 'hand-live-1.mkv, with bytes in a frame that look like Chapters'),
+              data[:at] + false + data[at + len(false):])
         # A Void put in behind the seek head by a program that leaves the entries as they were. The segment's size, of 8
         # bytes, is set right.
         data = read('ff-all.mkv')

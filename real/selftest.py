@@ -218,6 +218,7 @@ def fact_changes(tools):
         ('hidden', 'pe-no-seek.mkv', position('Tags', 0x1254C367)),
         ('written twice', 'mm-twice.mkv', swap_entries), ('unknown size', 'hand-live.mkv', known),
         ('unknown size', 'hand-live-4.mkv', known), ('unknown size, short', 'hand-live-1.mkv', known),
+        ('unknown size, short', 'hand-live-false.mkv', known),
         ('open end', 'killed-plain.mkv', ending), ('open end', 'killed-plain.mkv', met),
         ('open end', 'hand-cut-no-seek.mkv', ending), ('rows', 'large-over.mkv', small_part),
         ('stale', 'hand-stale.mkv', position('Chapters', 0x1043A770)),
