@@ -296,18 +296,17 @@ class Comparison:
 
     def header_fault(self, at):
         """What is wrong with the bytes as a header: 1, 2, 3, or None where they are one."""
-        number = int.from_bytes(self.bytes[at:at + 16].ljust(16, b'\0'), 'big')
-        zeros = 128 - number.bit_length()
-        if at + 16 > len(self.bytes) and zeros >= 8 * (len(self.bytes) - at):
-            return 1
-        if zeros > 3:
-            return 2
-        at += zeros + 1
-        number = int.from_bytes(self.bytes[at:at + 16].ljust(16, b'\0'), 'big')
-        zeros = 128 - number.bit_length()
-        if at + 16 > len(self.bytes) and zeros >= 8 * (len(self.bytes) - at):
-            return 1
-        return 3 if zeros > 7 else 1 if at + zeros + 1 > len(self.bytes) else None
+        for most, fault in ((3, 2), (7, 3)):
+            rest = self.bytes[at:at + 16]
+            zeros = 8 * len(rest) - int.from_bytes(rest, 'big').bit_length()
+            if zeros == 8 * len(rest) and at + len(rest) == len(self.bytes):
+                return 1
+            if zeros > most:
+                return fault
+            at += zeros + 1
+            if at > len(self.bytes):
+                return 1
+        return None
 
     def open_cluster(self, label, part, shown, heads):
         """The first element of unknown size, where neither a seek head nor the part comes before it, ends the search:
