@@ -1,0 +1,934 @@
+#!/usr/bin/env python3
+# Compares our reader with mkvinfo, mkvextract, mkvmerge and ffprobe: real/compare.py FOLDER ASK.. -- ROWS.. -- PARTS..
+# FOLDER has the recordings of real/make.py; the words behind it are the commands that run `ask`, `rows` and `parts`.
+# --selftest as the first word changes our answers and the tools' facts one at a time, and sees that it is noticed.
+# --questions FILE as the first words writes some of the questions down: of each recording, the first three of each
+# word, and all those for parts.
+#
+# It prints a line for each recording, the findings by reason, and a summary; FOLDER/findings.txt has each finding in a
+# line. A finding is a difference with a named reason whose condition was tested on the tools' own facts. Whatever has
+# no such reason is unexplained, and the status is then 1.
+import collections
+import os
+import re
+import struct
+import subprocess
+import sys
+import zlib
+
+import tools
+from tools import Tools, time_of
+
+SMALL = 65536
+ROWS = 4096
+NUMBERS = 7 * ROWS
+CRC = 0xBF
+PARTS = collections.OrderedDict([
+    ('Tracks', (0x1654AE6B, 0xAE)), ('Attachments', (0x1941A469, 0x61A7)), ('Chapters', (0x1043A770, 0x45B9)),
+    ('Tags', (0x1254C367, 0x7373))])
+KIND = [None, 'master', 'int', 'uint', 'string', 'utf8', 'binary', 'float', 'date']
+# The ids that are binary for the crate and for us, though Matroska gives them another type (docs/DIFFERENCES.md).
+PLAIN = {0x55AB, 0x55AC, 0x55AD, 0x55AE, 0x55AF, 0x41F0, 0x41E7, 0x44B4, 0x4588, 0x47E8, 0x52F1, 0x7671, 0x41E4, 0x7670,
+         0x47E7, 0x4520, 0x41A4, 0x45E4, 0x4521, 0x7673, 0x7674, 0x7675}
+# Matroska's default values (RFC 9559), which a tool may show for an element that is not there.
+DEFAULTS = {'TargetTypeValue': 50, 'EditionFlagHidden': 0, 'EditionFlagDefault': 0, 'EditionFlagOrdered': 0,
+            'ChapterFlagHidden': 0, 'ChapterFlagEnabled': 1, 'DefaultLanguage': 1, 'SamplingFrequency': 8000.0,
+            'Channels': 1}
+
+REASONS = collections.OrderedDict([
+    ('crc-32', 'mkvinfo does not show CRC-32 elements; ours are rows. Each is the first in its master, and its value '
+               'is the checksum of what follows it there'),
+    ('plain bytes', 'an id that Matroska gives a type and the crate none: binary for us'),
+    ('plain master', 'a master that is plain bytes for us: mkvinfo shows its children, we have no rows for them'),
+    ('hidden', 'the part stands in the segment, and no seek head that is reached names it: absent for us'),
+    ('written twice', 'mkvinfo shows the part more than once; ours is the one that the seek head names'),
+    ('unknown size', 'no seek head, and a Cluster of unknown size before the part, or no such part: the size is a '
+                     'plain number, which leads out of the segment (refused 3) or out of the recording (refused 1)'),
+    ('unknown size, short', 'the same, and the plain number leads to a place inside the Cluster, where we read on: '
+                            'refused by what is met there, or found where there is no such part'),
+    ('open end', 'no seek head, and no end of the segment in the recording: its size is unknown, or the recording is '
+                 'cut off. A part that is not met is refused 1, and the tools show none'),
+    ('rows', 'the part has more elements than the largest table has rows: refused 13'),
+    ('stale', 'the seek entry leads to no such element: refused 9, or 1, 2 or 3 where no header can be read there'),
+    ('cut off', 'the seek entry leads past the end of the recording: refused 1'),
+    ('default', 'the tool shows Matroska\'s default for an element that mkvinfo does not show; ours is unset'),
+    ('zero bytes', 'the text has zero bytes at its end, which the tools leave out and ours keeps'),
+    ('languages', 'a display or a simple tag has several languages; ours is the last IETF one, or the last ISO one'),
+    ('nested', 'atoms in an atom or simple tags in a simple tag, which the records pass over; the rows have them'),
+    ('description', 'mkvmerge shows an empty description where there is none; ours is unset'),
+    ('ffprobe: editions', 'ffprobe leaves out a chapter that does not start after all before it'),
+    ('ffprobe: name', 'ffprobe shows the name of the last display of several'),
+    ('ffprobe: end', 'ffprobe fills in the end of a chapter that has none'),
+    ('ffprobe: uid', 'ffprobe shows a uid of 2^63 or more as a negative number'),
+    ('ffprobe: opus', 'ffprobe shows 48,000 Hz for Opus, whatever rate the track tells'),
+])
+
+
+class Asker:
+    """Puts questions to one running `ask`, which answers line by line. `keep` keeps answers for the next time."""
+
+    def __init__(self, command, keep=False):
+        self.process = subprocess.Popen(command, stdin=subprocess.PIPE, stdout=subprocess.PIPE)
+        self.keep, self.known, self.count = keep, {}, 0
+        self.written, self.words = None, collections.Counter()
+
+    def write(self, question):
+        """Writes the question down, if it is one of the first of its word since the last clearing of `words`."""
+        word = question.split(' ')[0]
+        self.words[word] += 1
+        if word == 'part' or self.words[word] <= 3:
+            self.written.write(question + '\n')
+
+    def __call__(self, question):
+        if question in self.known:
+            return self.known[question]
+        if self.written:
+            self.write(question)
+        self.process.stdin.write(question.encode() + b'\n')
+        self.process.stdin.flush()
+        answer = self.process.stdout.readline().decode()
+        if not answer.endswith('\n'):
+            sys.exit('compare.py: ask ended at the question %s' % question[:80])
+        self.count += 1
+        if self.keep:
+            self.known[question] = answer[:-1]
+        return answer[:-1]
+
+
+class Row:
+    def __init__(self, words):
+        self.id = int(words[0], 16)
+        self.parent, self.at, self.header, self.payload, self.kind, self.depth = map(int, words[1:7])
+
+    def start(self):
+        return self.at + self.header
+
+    def end(self):
+        return self.at + self.header + self.payload
+
+
+class Part:
+    """Our answer for one part: found, absent or refused."""
+
+    def __init__(self, answer):
+        self.answer, self.rows, self.refused, self.at, self.size, self.heads = answer, [], None, None, None, None
+        head, *rows = answer.split(' / ')
+        words = head.split()
+        if words[0] == 'refused':
+            self.refused = int(words[1])
+            return
+        self.heads = int(words[words.index('heads') + 1])
+        if words[0] == 'at':
+            self.at, self.size = int(words[1]), int(words[3])
+        count = int(words[words.index('rows') + 1])
+        # The last row is followed by ' rest 0'.
+        self.rows = [Row(row.split()) for row in rows]
+        self.told = count
+
+    def found(self):
+        return self.at is not None
+
+
+def ranged(word):
+    """ADDRESS+LENGTH, or None for unset."""
+    return None if word == 'unset' else tuple(map(int, word.split('+')))
+
+
+def number(word):
+    return None if word == 'unset' else {'yes': 1, 'no': 0}.get(word, int(word) if word.isdigit() else None)
+
+
+class Comparison:
+    """One recording against the tools."""
+
+    def __init__(self, name, folder, asker, run_rows, run_parts, said=None):
+        self.name, self.path, self.asker = name, os.path.join(folder, name), asker
+        self.run_rows, self.run_parts = run_rows, run_parts
+        self.tools = said or Tools(self.path, os.path.join(folder, 'extracted'))
+        with open(self.path, 'rb') as file:
+            self.bytes = file.read()
+        self.small = len(self.bytes) <= SMALL
+        self.digits = self.bytes.hex().upper() if self.small else None
+        self.counts, self.findings, self.wrong = collections.Counter(), [], []
+        # For --selftest: changes one of our answers.
+        self.change = lambda question, answer: answer
+
+    # ---- Asking ----
+
+    def ask(self, question, shown=None):
+        return self.change(shown or question.split(' ')[0], self.asker(question))
+
+    def find(self, reason, what):
+        assert reason in REASONS
+        self.findings.append((reason, what))
+
+    def fail(self, what):
+        self.wrong.append(what)
+
+    def same(self, what, ours, theirs, count=None):
+        if count:
+            self.counts[count] += 1
+        if ours != theirs:
+            self.fail('%s: ours %r, the tools %r' % (what, ours, theirs))
+        return ours == theirs
+
+    def text(self, spot):
+        return self.bytes[spot[0]:spot[0] + spot[1]]
+
+    def same_text(self, what, ours, theirs):
+        """A range of ours against a tool's text. Zero bytes at the end are a finding."""
+        if ours is None or theirs is None:
+            return self.same(what, ours, theirs)
+        data, expected = self.text(ours), theirs.encode('utf-8')
+        if data != expected and data.rstrip(b'\0') == expected:
+            self.find('zero bytes', '%s: %d zero bytes behind %r' % (what, len(data) - len(expected), theirs))
+            return True
+        return self.same(what, data.decode('utf-8', 'replace'), theirs)
+
+    # ---- The parts ----
+
+    def parts(self):
+        out = {}
+        if self.small:
+            questions = ['part %X %d %s' % (number, NUMBERS, self.digits) for number, _ in PARTS.values()]
+            for (label, _), question in zip(PARTS.items(), questions):
+                out[label] = Part(self.ask(question, 'part ' + label))
+                if 'dirty' in out[label].answer:
+                    self.fail('%s: a number of the table beyond the last row is not 0' % label)
+        else:
+            lines = self.run_parts(self.path).splitlines()
+            for (label, (ident, _)), line in zip(PARTS.items(), lines):
+                prefix = 'part %X ' % ident
+                self.same('the line of ' + label, line[:len(prefix)], prefix)
+                part = out[label] = Part(self.change('part ' + label, line[len(prefix):]))
+                # Behind each row stands where uz_row_payload says that its payload is.
+                for row, words in zip(part.rows, line.split(' / ')[1:]):
+                    self.same('%s: the payload by the C face' % label, words.split()[7],
+                              '%d+%d' % (row.start(), row.payload), 'payloads')
+        for label, part in out.items():
+            self.same('%s: count of rows' % label, len(part.rows), getattr(part, 'told', 0))
+        if self.small:
+            self.listing(out)
+        return out
+
+    def listing(self, parts):
+        """The listing tells the same rows as the part questions; it has 1,024 rows."""
+        lines = ['recording %d' % len(self.bytes)]
+        for label, (ident, _) in PARTS.items():
+            part = parts[label]
+            if part.found() and len(part.rows) > 1024:
+                lines.append('part %X refused 13' % ident)
+            elif part.found():
+                lines.append('part %X at %d size %d rows %d' % (ident, part.at, part.size, len(part.rows)))
+                lines += ['%d %d %d %d %s %X' % (r.at, r.header, r.payload, r.depth, KIND[r.kind], r.id)
+                          for r in part.rows]
+            else:
+                lines.append('part %X %s' % (ident, 'absent' if part.refused is None else 'refused %d' % part.refused))
+        got = self.change('listing', self.run_rows(self.path))
+        self.same('the listing', got, '\n'.join(lines) + '\n', 'listings')
+
+    def place(self, label, part):
+        """Found or not, and where, against mkvinfo's elements and seek entries. Answers mkvinfo's element."""
+        info, ident = self.tools.info, PARTS[label][0]
+        shown = info.level1(label)
+        heads = info.heads()
+        entries = [where for head in heads for number, where in info.entries(head) if number == ident]
+        # An entry of the last head reached wins, and the last in it.
+        named = entries[-1] if entries else None
+        self.counts['parts'] += 1
+        if part.refused is None:
+            first = shown[0] if shown else None
+            before = heads and (first is None or heads[0].at < first.at)
+            if before:
+                self.same('%s: count of seek heads' % label, part.heads, len(heads))
+            elif first is not None:
+                self.same('%s: count of seek heads' % label, part.heads, 0)
+        if part.found():
+            matching = [e for e in shown if (e.at + e.header(), e.data) == (part.at, part.size)]
+            if not matching and self.open_cluster(label, part, shown, heads):
+                self.counts['parts with a reason'] += 1
+                self.find(*self.open_cluster(label, part, shown, heads))
+                return None
+            if not matching:
+                self.fail('%s: ours at %d size %d, mkvinfo has %r' % (label, part.at, part.size,
+                                                                     [(e.at + e.header(), e.data) for e in shown]))
+                return None
+            element = matching[0]
+            if len(shown) > 1:
+                if element.at == named or (not heads and element is shown[0]):
+                    self.find('written twice', '%s at %r, ours %d' % (label, [e.at for e in shown], element.at))
+                else:
+                    self.fail('%s is there more than once, and ours is not the one named' % label)
+            self.counts['parts found'] += 1
+            return element
+        if part.refused is None and not shown and not self.open_cluster(label, part, shown, heads):
+            self.counts['parts absent'] += 1
+            return None
+        cause = self.cause(label, part, shown, heads, entries, named)
+        if cause:
+            self.counts['parts with a reason'] += 1
+            self.find(*cause)
+        else:
+            self.fail('%s: ours %s; mkvinfo shows it at %r, seek entries lead to %r, and there is no cause' %
+                      (label, part.answer[:20], [e.at for e in shown], entries))
+        return None
+
+    def cause(self, label, part, shown, heads, entries, named):
+        """Why a part is not found that mkvinfo shows, or is refused: the reason and its facts, or None."""
+        length = len(self.bytes)
+        if part.refused is None and shown and heads and heads[0].at < shown[0].at and not entries:
+            return 'hidden', '%s at %d; the seek heads at %r name it nowhere; %s' % (
+                label, shown[0].at, [h.at for h in heads], self.who_finds(label))
+        if part.refused == 13 and shown and len(list(shown[0].below())) > ROWS:
+            return 'rows', '%s: %d elements' % (label, len(list(shown[0].below())))
+        if named is not None and named < length and named not in [e.at for e in shown] and \
+                part.refused == (self.header_fault(named) or 9):
+            return 'stale', '%s: the entry leads to %d, it is at %r; %s' % (
+                label, named, [e.at for e in shown], self.who_finds(label))
+        if part.refused == 1 and named is not None and named >= length:
+            return 'cut off', '%s: the entry leads to %d of %d bytes' % (label, named, length)
+        info = self.tools.info
+        endless = info.segment.data is None or info.start() + info.segment.data > length
+        if part.refused == 1 and not heads and not shown and endless and all(e.size for e in info.level1()):
+            return 'open end', '%s: the segment has %s bytes, the recording ends at %d' % (
+                label, info.segment.data or 'unknown', length)
+        return self.open_cluster(label, part, shown, heads)
+
+    def header_fault(self, at):
+        """What is wrong with the bytes as a header: 1, 2, 3, or None where they are one."""
+        for most, fault in ((3, 2), (7, 3)):
+            rest = self.bytes[at:at + 16]
+            zeros = 8 * len(rest) - int.from_bytes(rest, 'big').bit_length()
+            if zeros == 8 * len(rest) and at + len(rest) == len(self.bytes):
+                return 1
+            if zeros > most:
+                return fault
+            at += zeros + 1
+            if at > len(self.bytes):
+                return 1
+        return None
+
+    def open_cluster(self, label, part, shown, heads):
+        """The first element of unknown size, where neither a seek head nor the part comes before it, ends the search:
+        its size of n bytes is a plain number to us, 2^7n - 1."""
+        info = self.tools.info
+        unknown = [e for e in info.level1() if e.size is None]
+        if not unknown or (heads and heads[0].at < unknown[0].at) or (shown and shown[0].at < unknown[0].at):
+            return None
+        cluster = unknown[0]
+        size = 9 - self.bytes[cluster.at + 4].bit_length()
+        after = cluster.at + 4 + size + 2 ** (7 * size) - 1
+        what = '%s: %s at %d, a size of %d bytes' % (label, cluster.label, cluster.at, size)
+        # A segment of unknown size has 2^56 - 1 bytes to us.
+        end = info.start() + (2 ** 56 - 1 if info.segment.data is None else info.segment.data)
+        if after > end:
+            return ('unknown size', what) if part.refused == 3 else None
+        if after >= len(self.bytes):
+            return ('unknown size', what) if part.refused == 1 else None
+        if part.found() and part.at < after:
+            return None
+        return 'unknown size, short', '%s: %s' % (what, part.answer.split(' rest')[0].split(' table')[0])
+
+    def who_finds(self, label):
+        """Which of the tools show the part: for the reader of the findings."""
+        said, probed = self.tools, self.tools.probed
+        streams = [s for s in probed.get('streams', []) if (s.get('codec_type') == 'attachment') == (label != 'Tracks')]
+        shown = {'Tracks': [('mkvmerge', said.identified.get('tracks')), ('ffprobe', streams)],
+                 'Attachments': [('mkvmerge', said.identified.get('attachments')), ('ffprobe', streams)],
+                 'Chapters': [('mkvextract', said.chapters is not None), ('ffprobe', probed.get('chapters'))],
+                 'Tags': [('mkvextract', said.tags is not None)]}[label]
+        out = ', '.join('%s %s it' % (tool, 'shows' if found else 'does not show') for tool, found in shown)
+        return out if said.extracts else out + ', mkvextract gives up'
+
+    # ---- Rows ----
+
+    def is_crc(self, rows, index):
+        row = rows[index]
+        master = rows[row.parent - 1] if row.parent else None
+        start, end = (master.start(), master.end()) if master else self.whole
+        if row.id != CRC or row.at != start or row.payload != 4:
+            return False
+        told = int.from_bytes(self.bytes[row.start():row.end()], 'little')
+        return told == zlib.crc32(self.bytes[row.end():end])
+
+    def rows(self, label, part, element):
+        self.whole = (part.at, part.at + part.size)
+        shown = list(element.below())
+        k = 0
+        pairs = []
+        for index, row in enumerate(part.rows):
+            self.counts['rows'] += 1
+            where = '%s row %d at %d' % (label, index, row.at)
+            if k < len(shown) and shown[k].at == row.at:
+                self.row(where, part, row, shown[k])
+                pairs.append((row, shown[k]))
+                k += 1
+                # What mkvinfo shows inside of a master that is plain bytes for us.
+                inside = 0
+                while k < len(shown) and shown[k].depth > pairs[-1][1].depth and row.id in PLAIN and row.kind == 6 and \
+                        tools.KINDS.get(row.id) == 'master' and row.start() <= shown[k].at < row.end():
+                    inside += 1
+                    k += 1
+                if inside:
+                    self.find('plain master', '%s: id %X with %d elements' % (where, row.id, inside))
+            elif self.is_crc(part.rows, index):
+                self.find('crc-32', where)
+            else:
+                self.fail('%s: mkvinfo has no element there' % where)
+                break
+        if k < len(shown):
+            self.fail('%s: mkvinfo shows %s at %d, ours has no row' % (label, shown[k].label, shown[k].at))
+        return pairs
+
+    def row(self, where, part, row, shown):
+        self.same(where + ': id', row.id, shown.id())
+        self.same(where + ': header', row.header, shown.header())
+        self.same(where + ': payload', row.payload, shown.data)
+        self.same(where + ': depth', row.depth, shown.depth - 2)
+        above = part.rows[row.parent - 1].at if row.parent else None
+        self.same(where + ': parent', above, shown.parent.at if shown.depth > 2 else None)
+        kind, known = KIND[row.kind], tools.KINDS.get(shown.id(), 'binary' if row.id == 0xEC else None)
+        if kind != known and row.id in PLAIN and kind == 'binary':
+            self.find('plain bytes', '%s: id %X, %s by Matroska' % (where, row.id, known))
+        else:
+            self.same(where + ': kind', kind, known)
+
+    def values(self, pairs):
+        """The value that `body` tells of each leaf, against mkvinfo's."""
+        asked = []
+        for row, shown in pairs:
+            if row.kind in (2, 3, 4, 5, 7) and shown.value is not None and row.payload <= SMALL:
+                question = 'body %X 0 0 %d %s' % (row.id, row.payload, self.bytes[row.start():row.end()].hex() or '-')
+                asked.append((row, shown, question))
+        for row, shown, question in asked:
+            word, value = self.ask(question).split(' ')[:2]
+            where = 'the value of %s at %d' % (shown.label, row.at)
+            if word == 'text':
+                self.same(where + ': range', value, '0+%d' % row.payload)
+                self.same_text(where, (row.start(), row.payload), shown.value)
+            elif word == 'float':
+                ours = struct.unpack('>d', bytes.fromhex(value))[0]
+                self.same(where, abs(ours - float(shown.value)) <= 1e-6 * max(1.0, abs(ours)), True)
+            else:
+                clock = re.match(r'^(\d\d:\d\d:\d\d\.\d{9})( |$)', shown.value)
+                plain = re.match(r'^(-?\d+)( |$)', shown.value)
+                if clock:
+                    self.same(where, int(value), time_of(clock.group(1)))
+                elif plain:
+                    self.same(where, int(value), int(plain.group(1)))
+                elif shown.label == 'Track type':
+                    self.same(where, self.ask('tracktype ' + value).rstrip('s'), shown.value.rstrip('s'))
+                else:
+                    self.fail('%s: %r is not understood' % (where, shown.value))
+            self.counts['values'] += 1
+
+    def whose(self, label, part, element):
+        """Some addresses of the part: who holds each, by mkvinfo's ranges."""
+        if not part.size:
+            return
+        wanted = {part.at, part.at + part.size - 1}
+        step = max(1, len(part.rows) // 5)
+        for row in part.rows[::step]:
+            wanted |= {row.at, row.start() - 1, min(row.start() + row.payload // 2, part.at + part.size - 1)}
+        wanted = sorted(wanted)
+        if self.small:
+            questions = {a: 'whose %d %d %X %d %d %s' % (part.at, part.size, PARTS[label][1], a, NUMBERS, self.digits)
+                         for a in wanted}
+            said = {a: self.ask(q) for a, q in questions.items()}
+            for a, answer in said.items():
+                # The table is the one that the part question told.
+                self.same('%s whose %d: the table' % (label, a), answer.split(' rows ', 1)[-1],
+                          part.answer.split(' rows ', 1)[-1])
+        else:
+            said = {}
+            for line in self.run_parts(self.path, '%X' % PARTS[label][0], *map(str, wanted)).splitlines():
+                words = line.split(' ', 2)
+                said[int(words[1])] = self.change('whose', words[2])
+        for a in wanted:
+            self.counts['addresses'] += 1
+            words = said[a].split(' ')
+            if words[0] != 'row':
+                self.fail('%s whose %d: %s' % (label, a, said[a][:40]))
+                continue
+            row, place = part.rows[int(words[1])], words[2]
+            holders = [e for e in element.below() if e.at <= a < e.end()]
+            if row.id in PLAIN:
+                holders = [e for e in holders if e.at == row.at or not row.start() <= e.at < row.end()]
+            # The innermost of mkvinfo's elements; a CRC-32, which it does not show, is told apart by its range.
+            inner = holders[-1] if holders else None
+            if row.id == CRC and self.is_crc(part.rows, int(words[1])):
+                self.same('%s whose %d' % (label, a), row.at <= a < row.end(), True)
+                self.same('%s whose %d: place' % (label, a), place, 'header' if a < row.start() else 'payload')
+            elif inner is None:
+                self.fail('%s whose %d: row %s, mkvinfo has nothing there' % (label, a, words[1]))
+            else:
+                self.same('%s whose %d: row' % (label, a), row.at, inner.at)
+                self.same('%s whose %d: place' % (label, a), place,
+                          'header' if a < inner.at + inner.header() else 'payload')
+
+    # ---- Records ----
+
+    def record(self, part, word, *index):
+        """A record question. The part of a large recording, or one of many rows, is cut out; its addresses then count
+        from the cut. None: the part is too long for `ask`."""
+        if self.small and len(part.rows) <= 1000:
+            question = '%s %d %d %d %s %s' % (word, part.at, part.size, NUMBERS, ' '.join(map(str, index)), self.digits)
+            return self.ask(question, word), 0
+        if part.size > SMALL:
+            return None, 0
+        cut = self.bytes[part.at:part.at + part.size].hex().upper() or '-'
+        question = '%s 0 %d %d %s %s' % (word, part.size, NUMBERS, ' '.join(map(str, index)), cut)
+        return self.ask(question, word), part.at
+
+    def fields(self, part, word, *index):
+        """The answer's words by name, ranges with the cut added; None if refused."""
+        answer, add = self.record(part, word, *index)
+        if answer is None or answer.startswith('refused'):
+            return answer and answer.split(' table')[0]
+        if 'dirty' in answer or not answer.endswith(' rest 0'):
+            self.fail('%s %r: the table is not clean' % (word, index))
+        told, _, count = answer.rpartition(' rows ')
+        self.same('%s %r: rows' % (word, index), count, '%d rest 0' % len(part.rows))
+        words = told.split(' ')
+        out, i = {}, 0
+        while i < len(words):
+            name, value = words[i], words[i + 1]
+            i += 2
+            if name in ('language', 'value') and value in ('iso', 'ietf', 'text', 'binary'):
+                spot = ranged(words[i])
+                value = (value, (spot[0] + add, spot[1]))
+                i += 1
+            elif '+' in value:
+                spot = ranged(value)
+                value = (spot[0] + add, spot[1])
+            out[name] = value
+        return out
+
+    def ends(self, part, what, word, *index):
+        """Behind the last record there is none: 15."""
+        got = self.fields(part, word, *index)
+        if got is not None:
+            self.same('%s: one more' % what, got, 'refused 15')
+
+    def same_number(self, what, ours, xml, name, parent, label):
+        """A number or flag. The tool may show a default where mkvinfo shows no element."""
+        theirs = xml.findtext(name)
+        theirs = None if theirs is None else int(theirs)
+        ours = number(ours)
+        there = bool(self.children(parent, label))
+        self.same('%s %s is set' % (what, name), ours is not None, there)
+        if not there and theirs is not None and theirs == DEFAULTS.get(name):
+            self.find('default', '%s %s: %d' % (what, name, theirs))
+        else:
+            self.same('%s %s' % (what, name), ours, theirs)
+
+    def same_place(self, what, ours, parent, *labels):
+        """A range of ours is the payload of the last child of mkvinfo's element that has one of the labels."""
+        last = [e for e in parent.children if e.label in labels][-1:]
+        self.same(what + ' place', None if ours == 'unset' else ours,
+                  (last[0].at + last[0].header(), last[0].data) if last else None, 'places')
+
+    def same_language(self, what, ours, xml, iso, ietf, seen, iso_label):
+        isos = [e.text or '' for e in xml.findall(iso)]
+        ietfs = [e.text or '' for e in xml.findall(ietf)]
+        expected = ('ietf', ietfs[-1]) if ietfs else ('iso', isos[-1]) if isos else None
+        if ours == 'unset':
+            self.same(what + ' language', None, expected)
+            return
+        self.same_place(what + ' language', ours[1], seen, iso_label + (' (IETF BCP 47)' if ours[0] == 'ietf' else ''))
+        if len(isos) + len(ietfs) > 1:
+            self.find('languages', '%s: %s' % (what, ' '.join(isos + ietfs)))
+        self.same(what + ' language kind', ours[0], expected and expected[0])
+        self.same_text(what + ' language', ours[1], expected and expected[1])
+
+    def children(self, element, label):
+        return [e for e in element.children if e.label == label]
+
+    def chapters(self, part, element):
+        xml = self.tools.chapters
+        shown = self.children(element, 'Edition entry')
+        editions = xml.findall('EditionEntry') if xml is not None else []
+        self.same('editions by mkvinfo', len(editions), len(shown))
+        flat = []
+        for k, edition in enumerate(editions):
+            what = 'edition %d' % k
+            got = self.fields(part, 'edition', k)
+            if not isinstance(got, dict):
+                self.fail('%s: %s' % (what, got))
+                continue
+            self.counts['editions'] += 1
+            for field, name, label in (('uid', 'EditionUID', 'Edition UID'),
+                                       ('hidden', 'EditionFlagHidden', 'Edition flag hidden'),
+                                       ('default', 'EditionFlagDefault', 'Edition flag default'),
+                                       ('ordered', 'EditionFlagOrdered', 'Edition flag ordered')):
+                self.same_number(what, got[field], edition, name, shown[k], label)
+            atoms = edition.findall('ChapterAtom')
+            self.same(what + ' chapters', int(got['chapters']), len(atoms))
+            seen = self.children(shown[k], 'Chapter atom')
+            for i, atom in enumerate(atoms):
+                flat.append(self.chapter(part, k, i, atom, seen[i]))
+            self.ends(part, what, 'chapter', k, len(atoms))
+        self.ends(part, 'Chapters', 'edition', len(editions))
+        self.probe_chapters([c for c in flat if c])
+
+    def chapter(self, part, k, i, atom, seen):
+        what = 'chapter %d of edition %d' % (i, k)
+        got = self.fields(part, 'chapter', k, i)
+        if not isinstance(got, dict):
+            self.fail('%s: %s' % (what, got))
+            return None
+        self.counts['chapters'] += 1
+        self.same_number(what, got['uid'], atom, 'ChapterUID', seen, 'Chapter UID')
+        for field, name in (('start', 'ChapterTimeStart'), ('end', 'ChapterTimeEnd')):
+            text = atom.findtext(name)
+            self.same('%s %s' % (what, name), number(got[field]), None if text is None else time_of(text))
+        self.same_number(what, got['hidden'], atom, 'ChapterFlagHidden', seen, 'Chapter flag hidden')
+        self.same_number(what, got['enabled'], atom, 'ChapterFlagEnabled', seen, 'Chapter flag enabled')
+        self.same_number(what, got['edition'], atom, 'ChapterSegmentEditionUID', seen, 'Chapter segment edition UID')
+        segment = atom.findtext('ChapterSegmentUID')
+        ours = got['segment']
+        self.same_place(what + ' ChapterSegmentUID', ours, seen, 'Chapter segment UID')
+        self.same(what + ' ChapterSegmentUID', None if ours == 'unset' else self.text(ours).hex(),
+                  None if segment is None else segment.replace(' ', '').lower())
+        nested = list(atom.iter('ChapterAtom'))[1:]
+        inside = [r for r in part.rows if r.id == 0xB6 and seen.at < r.at < seen.end()]
+        self.same(what + ' nested atoms in the rows', len(inside), len(nested))
+        if nested:
+            self.find('nested', '%s: %d atoms inside' % (what, len(nested)))
+        displays, shown = atom.findall('ChapterDisplay'), self.children(seen, 'Chapter display')
+        self.same(what + ' displays', int(got['displays']), len(displays))
+        names = []
+        for j, display in enumerate(displays):
+            told = self.fields(part, 'display', k, i, j)
+            where = 'display %d of %s' % (j, what)
+            if not isinstance(told, dict):
+                self.fail('%s: %s' % (where, told))
+                continue
+            self.counts['displays'] += 1
+            spot = None if told['string'] == 'unset' else told['string']
+            self.same_text(where, spot, display.findtext('ChapterString'))
+            self.same_place(where, told['string'], shown[j], 'Chapter string')
+            self.same_language(where, told['language'], display, 'ChapterLanguage', 'ChapLanguageIETF', shown[j],
+                               'Chapter language')
+            if spot is not None:
+                names.append(self.text(spot).decode('utf-8', 'replace').rstrip('\0'))
+                if j == 0:
+                    self.label(where, spot)
+        self.ends(part, what, 'display', k, i, len(displays))
+        return number(got['uid']), number(got['start']), number(got['end']), names
+
+    def label(self, where, spot):
+        """The stage label is the first display's name."""
+        piece = self.text(spot)
+        question = 'label 0+%d 3F %s' % (len(piece), piece.hex() or '-')
+        self.same(where + ' label', self.ask(question), 'label ' + (piece.hex().upper() or '-'))
+
+    def probe_chapters(self, ours):
+        """Our outer atoms against ffprobe's flat list."""
+        probed = self.tools.probed.get('chapters', [])
+        latest, kept = None, []
+        for uid, start, end, names in ours:
+            if latest is not None and start <= latest and latest > 0:
+                self.find('ffprobe: editions', 'the chapter at %d with uid %d' % (start, uid))
+                continue
+            latest = start if latest is None else max(latest, start)
+            kept.append((uid, start, end, names))
+        if not self.same('chapters by ffprobe', len(kept), len(probed)):
+            return
+        for n, ((uid, start, end, names), theirs) in enumerate(zip(kept, probed)):
+            what = 'the chapter at %d by ffprobe' % start
+            self.counts['chapters by ffprobe'] += 1
+            if theirs['id'] < 0 <= uid - 2 ** 63 and theirs['id'] % 2 ** 64 == uid:
+                self.find('ffprobe: uid', '%s: %d is %d' % (what, uid, theirs['id']))
+            else:
+                self.same(what + ' uid', uid, theirs['id'])
+            self.same(what + ' time base', theirs['time_base'], '1/1000000000')
+            self.same(what + ' start', start, theirs['start'])
+            after = probed[n + 1]['start'] if n + 1 < len(probed) else max(start, self.duration())
+            if end is None and theirs['end'] == after:
+                self.find('ffprobe: end', '%s: %d' % (what, theirs['end']))
+            else:
+                self.same(what + ' end', end, theirs['end'])
+            title = theirs.get('tags', {}).get('title')
+            if len(names) > 1 and title == names[-1] != names[0]:
+                self.find('ffprobe: name', '%s: %s, and ours is %s' % (what, title, names[0]))
+            else:
+                self.same(what + ' name', names[0] if names else None, title)
+
+    def duration(self):
+        """Where the recording ends by ffprobe, in nanoseconds; 0 where it can't tell."""
+        about = self.tools.probed['format']
+        return round((float(about['start_time']) + float(about['duration'])) * 10 ** 9) if 'duration' in about else 0
+
+    def tags(self, part, element):
+        xml = self.tools.tags
+        shown = self.children(element, 'Tag')
+        listed = xml.findall('Tag') if xml is not None else []
+        self.same('tags by mkvinfo', len(listed), len(shown))
+        for k, tag in enumerate(listed):
+            what = 'tag %d' % k
+            got = self.fields(part, 'tag', k)
+            if not isinstance(got, dict):
+                self.fail('%s: %s' % (what, got))
+                continue
+            self.counts['tags'] += 1
+            targets = tag.find('Targets')
+            self.same(what + ' target', got['target'], 'no' if targets is None else 'yes')
+            if targets is not None and got['target'] == 'yes':
+                seen = self.children(shown[k], 'Targets')[0]
+                self.same_number(what, got['value'], targets, 'TargetTypeValue', seen, 'Target type value')
+                self.same_text(what + ' TargetType', None if got['type'] == 'unset' else got['type'],
+                               targets.findtext('TargetType'))
+                self.same_place(what + ' TargetType', got['type'], seen, 'Target type')
+                for field, word, name in (('tracks', 'track', 'TrackUID'), ('editions', 'edition', 'EditionUID'),
+                                          ('chapters', 'chapter', 'ChapterUID'),
+                                          ('attachments', 'attachment', 'AttachmentUID')):
+                    uids = [int(e.text) for e in targets.findall(name)]
+                    self.same('%s %s' % (what, name), int(got[field]), len(uids))
+                    for i, uid in enumerate(uids):
+                        told = self.fields(part, 'uid', k, word, i)
+                        self.counts['uids'] += 1
+                        if isinstance(told, dict):
+                            self.same('%s %s %d' % (what, name, i), int(told['uid']), uid)
+                        elif told:
+                            self.fail('%s %s %d: %s' % (what, name, i, told))
+                    self.ends(part, '%s %s' % (what, name), 'uid', k, word, len(uids))
+            simples = tag.findall('Simple')
+            self.same(what + ' simple tags', int(got['simple']), len(simples))
+            seen = self.children(shown[k], 'Simple')
+            for i, simple in enumerate(simples):
+                self.simple(part, k, i, simple, seen[i])
+            self.ends(part, what, 'simple', k, len(simples))
+        self.ends(part, 'Tags', 'tag', len(listed))
+
+    def simple(self, part, k, i, simple, seen):
+        what = 'simple tag %d of tag %d' % (i, k)
+        got = self.fields(part, 'simple', k, i)
+        if not isinstance(got, dict):
+            self.fail('%s: %s' % (what, got))
+            return
+        self.counts['simple tags'] += 1
+        self.same_text(what + ' name', None if got['name'] == 'unset' else got['name'], simple.findtext('Name'))
+        self.same_place(what + ' name', got['name'], seen, 'Name')
+        self.same_language(what, got['language'], simple, 'TagLanguage', 'TagLanguageIETF', seen, 'Tag language')
+        self.same_number(what, got['default'], simple, 'DefaultLanguage', seen, 'Default language')
+        text, binary = simple.findtext('String'), simple.findtext('Binary')
+        value = got['value']
+        self.same_place(what + ' value', value if value == 'unset' else value[1], seen, 'String', 'Binary')
+        if value == 'unset':
+            self.same(what + ' value', (None, None), (text, binary))
+        elif value[0] == 'text':
+            self.same(what + ' binary', None, binary)
+            self.same_text(what + ' value', value[1], text)
+        else:
+            self.same(what + ' text', None, text)
+            form = simple.find('Binary')
+            theirs = bytes.fromhex(binary) if form is not None and form.get('format') == 'hex' else None
+            self.same(what + ' value', self.text(value[1]), theirs, 'binary values')
+        nested = list(simple.iter('Simple'))[1:]
+        inside = [r for r in part.rows if r.id == 0x67C8 and seen.at < r.at < seen.end()]
+        self.same(what + ' nested in the rows', len(inside), len(nested))
+        if nested:
+            self.find('nested', '%s: %d simple tags inside' % (what, len(nested)))
+
+    def attachments(self, part, element):
+        listed, files = self.tools.identified.get('attachments', []), self.tools.attached
+        shown = self.children(element, 'Attached')
+        self.same('attachments by mkvinfo', len(shown), len(listed))
+        streams = [s for s in self.tools.probed.get('streams', []) if s.get('codec_type') == 'attachment']
+        for k, told in enumerate(listed):
+            what = 'attachment %d' % k
+            got = self.fields(part, 'attachment', k)
+            if got is None:
+                # Too long for `ask`: the rows are read instead, by the C face.
+                inside = [r for r in part.rows if r.depth == 1 and shown[k].at < r.at < shown[k].end()]
+                got = {'description': 'unset', 'name': 'unset', 'mime': 'unset', 'data': 'unset'}
+                for r in inside:
+                    field = {0x467E: 'description', 0x466E: 'name', 0x4660: 'mime', 0x465C: 'data'}.get(r.id)
+                    if field:
+                        got[field] = (r.start(), r.payload)
+                self.counts['attachments by rows'] += 1
+            elif not isinstance(got, dict):
+                self.fail('%s: %s' % (what, got))
+                continue
+            self.counts['attachments'] += 1
+            self.same_text(what + ' name', None if got['name'] == 'unset' else got['name'], told['file_name'])
+            self.same_text(what + ' mime type', None if got['mime'] == 'unset' else got['mime'], told['content_type'])
+            if got['description'] == 'unset' and told['description'] == '' and \
+                    not self.children(shown[k], 'File description'):
+                self.find('description', what)
+            else:
+                self.same_text(what + ' description', None if got['description'] == 'unset' else got['description'],
+                               told['description'])
+            for field, name in (('name', 'File name'), ('mime', 'MIME type'), ('description', 'File description'),
+                                ('data', 'File data')):
+                self.same_place('%s %s' % (what, field), got[field], shown[k], name)
+            data = None if got['data'] == 'unset' else self.text(got['data'])
+            if self.small:
+                self.payload(what, part, shown[k], files[k])
+            self.same(what + ' size', data and len(data), told['size'])
+            self.same(what + ' data', data == files[k], True)
+            if k < len(streams):
+                tags = streams[k].get('tags', {})
+                self.same_text(what + ' name by ffprobe', got['name'], tags.get('filename'))
+                self.same_text(what + ' mime type by ffprobe', got['mime'], tags.get('mimetype'))
+        if streams:
+            self.same('attachments by ffprobe', len(listed), len(streams))
+        self.ends(part, 'Attachments', 'attachment', len(listed))
+
+    def payload(self, what, part, seen, data):
+        """The bytes that the payload question gives for the row of the file's data."""
+        index = [n for n, r in enumerate(part.rows) if r.id == 0x465C and seen.at < r.at < seen.end()]
+        question = 'payload %d %d 61A7 %d %d %s' % (part.at, part.size, NUMBERS, index[-1], self.digits)
+        self.same(what + ' payload', self.ask(question), 'bytes ' + (data.hex().upper() or '-'), 'payloads')
+
+    def tracks(self, part, element):
+        listed = self.tools.identified.get('tracks', [])
+        streams = [s for s in self.tools.probed.get('streams', []) if s.get('codec_type') != 'attachment']
+        ours = [(n, r) for n, r in enumerate(part.rows) if r.id == 0xAE and r.depth == 0]
+        if not self.same('tracks by mkvmerge', len(ours), len(listed)):
+            return
+        self.same('tracks by ffprobe', len(ours), len(streams))
+        for (n, row), told, stream in zip(ours, listed, streams):
+            inside = {r.id: r for r in part.rows if r.parent == n + 1}
+            properties = told['properties']
+            what = 'track at %d' % row.at
+            self.counts['tracks'] += 1
+            for name, ident in (('number', 0xD7), ('uid', 0x73C5)):
+                self.same('%s %s' % (what, name), self.whole_number(inside.get(ident)), properties[name])
+            kind = self.ask('tracktype %d' % self.whole_number(inside[0x83]))
+            self.same(what + ' type', kind, told['type'].rstrip('s'))
+            self.same(what + ' type by ffprobe', kind, stream['codec_type'])
+            if 0xE1 in inside:
+                self.audio(what, part, element, inside[0xE1], properties, stream)
+
+    def whole_number(self, row):
+        if row is None:
+            return None
+        piece = self.text((row.start(), row.payload)).hex() or '-'
+        return int(self.ask('body %X 0 0 %d %s' % (row.id, row.payload, piece)).split(' ')[1])
+
+    def audio(self, what, part, element, row, properties, stream):
+        piece = self.text((row.start(), row.payload)).hex() or '-'
+        answer = self.ask('audio 0 %d %d 0 %s' % (row.payload, NUMBERS, piece), 'audio')
+        words = answer.split(' ')
+        if words[0] != 'rate':
+            self.fail('%s audio: %s' % (what, answer[:60]))
+            return
+        inside = [r for r in part.rows if row.start() <= r.at < row.end()]
+        self.same(what + ' audio: rows', ' '.join(words[6:]), 'rows %d rest 0' % len(inside))
+        self.counts['audio settings'] += 1
+        seen = [e for e in element.below() if e.at == row.at][0]
+        rate = None if words[1] == 'unset' else struct.unpack('>d', bytes.fromhex(words[1]))[0]
+        for name, label, value, theirs, probed in (
+                ('SamplingFrequency', 'Sampling frequency', rate, properties.get('audio_sampling_frequency'),
+                 stream.get('sample_rate')),
+                ('Channels', 'Channels', number(words[3]), properties.get('audio_channels'), stream.get('channels'))):
+            there = bool(self.children(seen, label))
+            self.same('%s %s is set' % (what, name), value is not None, there)
+            if not there and theirs == DEFAULTS[name]:
+                self.find('default', '%s %s: %g' % (what, name, theirs))
+                value = DEFAULTS[name]
+            else:
+                self.same('%s %s' % (what, name), value, theirs)
+            if name == 'SamplingFrequency' and stream.get('codec_name') == 'opus' and probed == '48000' != str(value):
+                self.find('ffprobe: opus', '%s: %g' % (what, value))
+            else:
+                self.same('%s %s by ffprobe' % (what, name), value, float(probed))
+        self.same(what + ' BitDepth', number(words[5]), properties.get('audio_bits_per_sample'))
+
+    # ---- All of it ----
+
+    def all(self):
+        if self.tools.info.unread:
+            self.fail('mkvinfo\'s line is not understood: %r' % self.tools.info.unread[0][:100])
+        parts = self.parts()
+        for label, part in parts.items():
+            element = self.place(label, part)
+            if element is None:
+                continue
+            pairs = self.rows(label, part, element)
+            self.values(pairs)
+            self.whose(label, part, element)
+            {'Tracks': self.tracks, 'Attachments': self.attachments, 'Chapters': self.chapters,
+             'Tags': self.tags}[label](part, element)
+        return self
+
+    def line(self):
+        found = ', '.join('%d %s' % (self.counts[name], name) for name in
+                          ('rows', 'chapters', 'displays', 'tags', 'simple tags', 'attachments', 'tracks')
+                          if self.counts[name])
+        state = 'UNEXPLAINED %d' % len(self.wrong) if self.wrong else 'explained'
+        return '%s: %d bytes, %d of 4 parts, %s; findings %d; %s' % (
+            self.name, len(self.bytes), self.counts['parts found'], found, len(self.findings), state)
+
+
+def runner(command):
+    def run(path, *words):
+        with open(path, 'rb') as file:
+            done = subprocess.run(command + ([path, *words] if command[-1].endswith('parts') else []), stdin=file,
+                                  stdout=subprocess.PIPE)
+        if done.returncode != 0:
+            sys.exit('compare.py: %s: status %d of %s' % (path, done.returncode, ' '.join(command)))
+        return done.stdout.decode('utf-8')
+    return run
+
+
+def split_words(words):
+    out = [[]]
+    for word in words:
+        if word == '--':
+            out.append([])
+        else:
+            out[-1].append(word)
+    return out
+
+
+def main():
+    words = sys.argv[1:]
+    selftest, questions = words[:1] == ['--selftest'], None
+    if selftest:
+        words = words[1:]
+    elif words[:1] == ['--questions']:
+        questions, words = words[1], words[2:]
+    groups = split_words(words[1:])
+    if not words or len(groups) != 3 or not all(groups):
+        sys.exit('usage: real/compare.py [--selftest | --questions FILE] FOLDER ASK.. -- ROWS.. -- PARTS..')
+    folder, asker = words[0], Asker(groups[0])
+    run_rows, run_parts = runner(groups[1]), runner(groups[2])
+    with open(os.path.join(folder, 'list'), encoding='utf-8') as file:
+        names = [line.split('\t')[0] for line in file]
+    if selftest:
+        import selftest as tests
+        sys.exit(tests.run(folder, asker, run_rows, run_parts, Comparison, tools))
+    totals, reasons, files, unexplained = collections.Counter(), collections.Counter(), collections.Counter(), 0
+    asker.written = open(questions, 'w', encoding='ascii') if questions else None
+    with open(os.path.join(folder, 'findings.txt'), 'w', encoding='utf-8') as log:
+        for name in names:
+            asker.words.clear()
+            one = Comparison(name, folder, asker, run_rows, run_parts).all()
+            print(one.line(), flush=True)
+            totals.update(one.counts)
+            for reason, what in one.findings:
+                reasons[reason] += 1
+                log.write('%s\t%s\t%s\n' % (reason, name, what))
+            for reason in {reason for reason, _ in one.findings}:
+                files[reason] += 1
+            for what in one.wrong:
+                log.write('UNEXPLAINED\t%s\t%s\n' % (name, what))
+                print('  UNEXPLAINED ' + what[:400])
+            unexplained += len(one.wrong)
+    print('findings by reason:')
+    for reason in REASONS:
+        if reasons[reason]:
+            print('  %s: %d in %d recordings' % (reason, reasons[reason], files[reason]))
+    print('compared: ' + ', '.join('%s %d' % (name, totals[name]) for name in sorted(totals)))
+    print('real: %d recordings, %d questions, %d findings, %d unexplained' %
+          (len(names), asker.count, sum(reasons.values()), unexplained))
+    if asker.written:
+        asker.written.close()
+    sys.exit(1 if unexplained else 0)
+
+
+if __name__ == '__main__':
+    main()

@@ -1,0 +1,300 @@
+# Sees that the comparison can fail: real/run --selftest. One of our answers is changed, or one fact of the tools, and
+# the comparison has to call something unexplained. Answers are changed number by number: an address off by one, a row
+# left out, a name moved by a byte. Facts are changed so that the condition of a finding's reason no longer holds.
+import copy
+import re
+
+RECORDINGS = ['ff-all.mkv', 'mm-all.mkv', 'mm-ordered.mkv', 'mm-attachments.mkv', 'large-mm.mkv']
+
+
+def number_changes(word):
+    """A word of an answer, changed in each way that keeps its form."""
+    if re.fullmatch(r'\d+\+\d+', word):
+        at, length = map(int, word.split('+'))
+        changes = ['%d+%d' % (at + 1, length), '%d+%d' % (at, length + 1), 'unset']
+        return changes + (['%d+%d' % (at, length - 1)] if length else [])
+    if word in ('yes', 'no'):
+        return ['no' if word == 'yes' else 'yes']
+    if word == 'unset':
+        return ['1']
+    if re.fullmatch(r'[0-9A-F]{16}', word):
+        return ['%016X' % (int(word, 16) ^ 1 << 44)]
+    if re.fullmatch(r'\d+', word):
+        return [str(int(word) + 1)] + ([str(int(word) - 1)] if word != '0' else [])
+    if word in ('iso', 'ietf'):
+        return ['ietf' if word == 'iso' else 'iso']
+    if word in ('text', 'binary'):
+        return ['binary' if word == 'text' else 'text']
+    if word in ('header', 'payload'):
+        return ['payload' if word == 'header' else 'header']
+    if word in ('video', 'audio', 'subtitle'):
+        return ['logo']
+    return []
+
+
+def word_changes(answer):
+    words = answer.split(' ')
+    for i, word in enumerate(words):
+        for other in number_changes(word):
+            if words[i - 1:i] == ['language'] and other == '1' or words[i - 1:i] == ['value'] and word == 'unset':
+                continue
+            yield ' '.join(words[:i] + [other] + words[i + 1:])
+
+
+def part_changes(answer):
+    """Changes of a part's answer: its place, its count of heads, rows left out, each number of some rows."""
+    head, *rows = answer.split(' / ')
+    yield 'refused 3 table 0'
+    yield 'refused 9 table 0'
+    if not rows:
+        yield 'at 100 size 0 heads 1 rows 0 rest 0'
+        return
+    yield 'absent heads 1 rows 0 rest 0'
+    yield re.sub(r'heads (\d+)', lambda m: 'heads %d' % (int(m.group(1)) + 1), head) + ' / ' + ' / '.join(rows)
+    for pattern in (r'at (\d+)', r'size (\d+)'):
+        changed = re.sub(pattern, lambda m: '%s %d' % (m.group(0).split(' ')[0], int(m.group(1)) + 1), head, count=1)
+        yield ' / '.join([changed] + rows)
+    for k in sorted({0, 1, len(rows) // 2, len(rows) - 2}):
+        if not 0 <= k < len(rows) - 1:
+            continue
+        fewer = re.sub(r'rows (\d+)', 'rows %d' % (len(rows) - 1), head)
+        yield ' / '.join([fewer] + rows[:k] + rows[k + 1:])
+        words = rows[k].split(' ')
+        for i in range(7):
+            value = '%X' % (int(words[0], 16) ^ 1) if i == 0 else str(int(words[i]) + 1)
+            yield ' / '.join([head] + rows[:k] + [' '.join(words[:i] + [value] + words[i + 1:])] + rows[k + 1:])
+
+
+def answer_changes(word, answer):
+    if word.startswith('part '):
+        return part_changes(answer)
+    if word == 'listing':
+        lines = answer.split('\n')
+        return ['\n'.join(lines[:-2] + ['']), answer.replace(' master ', ' binary ', 1), answer.replace('1', '2', 1)]
+    if answer.startswith('refused'):
+        return ['refused 14 table 0']
+    if word in ('payload', 'label'):
+        return [answer[:-2], answer[:-1] + ('0' if answer[-1] != '0' else '1')]
+    if word == 'whose' and ' rows ' in answer:
+        # The table behind is compared as a whole.
+        front, _, table = answer.partition(' rows ')
+        return [change + ' rows ' + table for change in word_changes(front)] + [answer + ' ']
+    if word == 'body' and answer.startswith('float'):
+        return [answer[:6] + change for change in number_changes(answer[6:])]
+    if word == 'body':
+        return [change for change in word_changes(answer) if not change.endswith('unset')]
+    return word_changes(answer)
+
+
+def changed_answers(comparison):
+    """Runs the comparison unchanged and gathers the answers by word, with a count for each word; then what to change:
+    the first answer, the last, and one in between."""
+    seen = {}
+
+    def watch(word, answer):
+        seen.setdefault(word, []).append(answer)
+        return answer
+    comparison.change = watch
+    comparison.all()
+    for word, answers in seen.items():
+        for k in sorted({0, len(answers) // 2, len(answers) - 1}):
+            for change in answer_changes(word, answers[k]):
+                if change != answers[k]:
+                    yield word, k, change
+
+
+def exchange(word, index, change):
+    """Gives the changed answer in place of the index-th one to that word."""
+    count = [0]
+
+    def swap(asked, answer):
+        if asked != word:
+            return answer
+        count[0] += 1
+        return change if count[0] - 1 == index else answer
+    return swap
+
+
+def entry(info, number, where):
+    """Makes mkvinfo's facts tell one more seek entry, in the last head that is reached."""
+    head = info.heads()[-1]
+    seek = copy.deepcopy(head.children[0])
+    for field in seek.children:
+        if field.label == 'Seek ID':
+            field.value = ' '.join('0x%02x' % byte for byte in number.to_bytes(4, 'big'))
+        else:
+            field.value = str(where - info.start())
+    head.children.append(seek)
+
+
+def first(info, label):
+    return [e for e in info.segment.below() if e.label == label][0]
+
+
+def fact_changes(tools):
+    """Reason, recording, and what to change in the tools' facts so that the reason no longer holds."""
+    def drop(label, where):
+        def change(said):
+            element = first(said.info, where)
+            element.children = [e for e in element.children if e.label != label]
+        return change
+
+    def child(label, where):
+        """One more child of that label in every such element."""
+        def change(said):
+            for element in [e for e in said.info.segment.below() if e.label == where]:
+                element.children.append(tools.Element(element.depth + 1, label, '1', element.at + 1, 2, 0))
+                element.children[-1].parent = element
+        return change
+
+    def title(said):
+        said.probed['chapters'][0]['tags']['title'] += '!'
+
+    def uid(said):
+        [c for c in said.probed['chapters'] if c['id'] < 0][0]['id'] -= 1
+
+    def end(said):
+        said.probed['chapters'][1]['end'] += 1
+
+    def fewer(said):
+        del said.probed['chapters'][-1]
+
+    def more(said):
+        said.probed['chapters'].append(said.probed['chapters'][-1])
+
+    def opus(said):
+        [s for s in said.probed['streams'] if s['codec_type'] == 'audio'][0]['sample_rate'] = '44100'
+
+    def language(said):
+        list(said.chapters.iter('ChapLanguageIETF'))[0].text += 'x'
+
+    def zero(said):
+        [e for e in said.tags.iter('String') if e.text and e.text.startswith('00:')][0].text += '0'
+
+    def nested(said):
+        atom = [a for a in said.chapters.iter('ChapterAtom') if a.find('ChapterAtom') is not None][0]
+        atom.remove(atom.find('ChapterAtom'))
+
+    def nested_simple(said):
+        simple = [a for a in said.tags.iter('Simple') if a.find('Simple') is not None][0]
+        simple.remove(simple.find('Simple'))
+
+    def known(said):
+        for e in said.info.level1('Cluster'):
+            e.size, e.data = 100, 90
+
+    def ending(said):
+        said.info.segment.size, said.info.segment.data = 5000, 4988
+
+    def met(said):
+        tracks = said.info.level1('Tracks')[0]
+        said.info.segment.children.append(copy.deepcopy(tracks))
+        said.info.segment.children[-1].label = 'Chapters'
+
+    def position(label, ident):
+        return lambda said: entry(said.info, ident, said.info.level1(label)[0].at)
+
+    def inside(said):
+        entry(said.info, 0x1254C367, 100)
+
+    def after(said):
+        # The seek head comes behind the part.
+        said.info.level1('Seek head')[0].at = 10 ** 6
+
+    def small_part(said):
+        del first(said.info, 'Edition entry').children[10:]
+
+    def swap_entries(said):
+        entry(said.info, 0x1654AE6B, said.info.level1('Tracks')[0].at)
+
+    def outside(said):
+        first(said.info, 'Video projection').children[-1].at += 1000
+
+    def description(said):
+        said.identified['attachments'][0]['description'] = 'x'
+
+    return [
+        ('hidden', 'mm-hidden.mkv', position('Chapters', 0x1043A770)), ('hidden', 'mm-hidden.mkv', after),
+        ('hidden', 'pe-no-seek.mkv', position('Tags', 0x1254C367)),
+        ('written twice', 'mm-twice.mkv', swap_entries), ('unknown size', 'hand-live.mkv', known),
+        ('unknown size', 'hand-live-4.mkv', lambda said: (known(said), ending(said))),
+        ('unknown size, short', 'hand-live-1.mkv', known), ('unknown size, short', 'hand-live-false.mkv', known),
+        ('open end', 'killed-plain.mkv', ending), ('open end', 'killed-plain.mkv', met),
+        ('open end', 'hand-cut-no-seek.mkv', ending), ('rows', 'large-over.mkv', small_part),
+        ('stale', 'hand-stale.mkv', position('Chapters', 0x1043A770)),
+        ('cut off', 'hand-cut-end.mkv', inside), ('default', 'mm-all.mkv', child('Sampling frequency', 'Audio track')),
+        ('default', 'mm-all.mkv', child('Channels', 'Audio track')), ('zero bytes', 'ff-all.mkv', zero),
+        ('languages', 'mm-all.mkv', language), ('nested', 'mm-all.mkv', nested),
+        ('nested', 'mm-all.mkv', nested_simple), ('description', 'mm-all.mkv', child('File description', 'Attached')),
+        ('description', 'mm-all.mkv', description), ('ffprobe: editions', 'mm-all.mkv', fewer),
+        ('ffprobe: editions', 'mm-all.mkv', more), ('ffprobe: name', 'mm-all.mkv', title),
+        ('ffprobe: end', 'mm-all.mkv', end), ('ffprobe: uid', 'mm-all.mkv', uid),
+        ('ffprobe: opus', 'webm-vp9.webm', opus), ('plain master', 'mm-picture.mkv', outside),
+        ('a row of ours', 'mm-all.mkv', drop('Chapter UID', 'Chapter atom')),
+    ]
+
+
+def once(call):
+    """The same call, run once for the same words."""
+    known = {}
+
+    def kept(*words):
+        if words not in known:
+            known[words] = call(*words)
+        return known[words]
+    return kept
+
+
+def run(folder, asker, run_rows, run_parts, Comparison, tools):
+    asker.keep = True
+    run_rows, run_parts = once(run_rows), once(run_parts)
+    missed = tried = 0
+
+    def fresh(name, said):
+        return Comparison(name, folder, asker, run_rows, run_parts, said)
+
+    for name in RECORDINGS:
+        said = fresh(name, None).tools
+        count = 0
+        plain = fresh(name, said)
+        if plain.all().wrong:
+            print('selftest: %s is not explained as it is' % name)
+            return 1
+        for word, index, change in list(changed_answers(fresh(name, said))):
+            one = fresh(name, said)
+            one.change = exchange(word, index, change)
+            count += 1
+            try:
+                noticed = bool(one.all().wrong)
+            except (ValueError, IndexError, KeyError, TypeError, AttributeError):
+                # An answer that makes no sense stops the comparison, which is noticed too.
+                noticed = True
+            if not noticed:
+                missed += 1
+                print('selftest: %s: not noticed: answer %d to %s as %s' % (name, index, word, change[:100]))
+        print('%s: %d changed answers' % (name, count), flush=True)
+        tried += count
+    facts = 0
+    for reason, name, change in fact_changes(tools):
+        said = fresh(name, None).tools
+        plain = fresh(name, said).all()
+        if plain.wrong or (reason != 'a row of ours' and reason not in {r for r, _ in plain.findings}):
+            print('selftest: %s has no finding %s as it is' % (name, reason))
+            missed += 1
+            continue
+        said = copy.deepcopy(said)
+        change(said)
+        facts += 1
+        if not fresh(name, said).all().wrong:
+            missed += 1
+            print('selftest: %s: not noticed: a changed fact of %s' % (name, reason))
+    # A checksum that is wrong, in the bytes that the comparison has.
+    broken = fresh('ff-all.mkv', None)
+    at = broken.bytes.find(b'\xbf\x84', broken.bytes.find(b'\x16\x54\xae\x6b', 300))
+    broken.bytes = broken.bytes[:at + 2] + bytes([broken.bytes[at + 2] ^ 1]) + broken.bytes[at + 3:]
+    facts += 1
+    if not broken.all().wrong:
+        missed += 1
+        print('selftest: not noticed: a wrong checksum')
+    print('selftest: %d changed answers and %d changed facts, %d not noticed' % (tried, facts, missed))
+    return 1 if missed else 0
