@@ -67,7 +67,8 @@ int main(int count, char **words) {
     The counts are true: a table whose count is refused is filled with zeros all the same.
   - The recording is only read, and only its `length` bytes. Nothing is allocated, nothing is kept after the
     call, there is no global state. Calls may run at the same time, on the same recording too, if each that writes
-    a table has one that no other call uses meanwhile. A call takes less than 16 kilobytes of stack (measured, not proved).
+    a table has one that no other call uses meanwhile. A call takes less than 16 kilobytes of stack (measured, not
+    proved).
   - Damaged or hostile bytes are answered like any others: the call ends, with an answer or a refusal.
   - A refusal is a number from 1 to 15 in `refused`. Every other number of the reply is then 0, but `id` for 8, and
     every number of a table that the call was to write is 0. After acceptance `refused` is 0, and the numbers of

@@ -12,7 +12,7 @@ use Rattle.header.specs.declared.cursor.Cursor.{Cursor}
 use Rattle.kinds.specs.declared.kind.Kind.the-variants as K
 use Rattle.utf8.specs.Utf8.{utf8}
 use Rattle.bodies.specs.Numbers.{signedOf, floatOf}
-use Rattle.bodies.specs.Bodies.{bodyOf, payload, number}
+use Rattle.bodies.specs.Bodies.{bodyOf, payload}
 use Rattle.bodies.specs.Reads.{bodyRead}
 use Rattle.bodies.specs.declared.body.Body.the-variants as B
 use Rattle.bodies.specs.declared.body.BodyRead.the-variants.{Read, Refused}

@@ -2,11 +2,11 @@
 use mathlib.Core.Path.{_≡_, refl, ap, _∙_}
 use Prim.Native.Nat.{ℕ, zero, suc, _+_, _-_, _*_, _%_, _^_, _≤_, _<_}
 use native.Mathlib.Omega.{arith}
-use native.Mathlib.Nat.{one-mul, zero-add}
-use lib.Pow.{shl-exact, pow-pos, pow-mono, pow-add}
-use lib.Dec.{lit<}
+use native.Mathlib.Nat.{zero-add}
+use lib.Pow.{pow-pos, pow-mono, pow-add}
 use lib.IntN.{pos, negsuc, _-ℤ_}
 use borrow.Author.Tests.{lt-ltb, le-ltb}
+use Rattle.header.proofs.Data.{shifted-one}
 use Rattle.bodies.specs.Numbers.{signedOf}
 
 -- The half of the range of n bytes.
@@ -19,7 +19,7 @@ pub record Half (n h : ℕ) : Type 0 where
 pub half : (n : ℕ) → (n ≡ 0 → ⊥) → n ≤ 8 → Half n ((1 * 2 ^ (8 * n - 1)) % 2 ^ 64)
 half n some h =
     let power = 2 ^ (8 * n - 1) in
-    let exact : (1 * power) % 2 ^ 64 ≡ power = shl-exact 1 (8 * n - 1) 64 (lit< tt) (omega arith) ∙ one-mul power in
+    let exact = shifted-one (8 * n - 1) (omega arith) in
     let one-more : 8 * n ≡ 1 + (8 * n - 1) = omega arith in
     let double : 2 ^ (8 * n) ≡ 2 * power = ap (λ (k : ℕ). 2 ^ k) one-more ∙ pow-add 2 1 (8 * n - 1) in
     let least : power ≤ 2 ^ 63 = pow-mono {i = 8 * n - 1} {j = 63} (omega arith) in

@@ -20,7 +20,7 @@ nth-before [] ss k l = absurd (omega arith)
 nth-before (r ∷ rs) ss zero l = refl
 nth-before (r ∷ rs) ss (suc k) l = nth-before rs ss k (omega arith)
 
-nth-seam : (rs : List Row) (r : Row) (ss : List Row) → nth (rs ++ (r ∷ ss)) (length rs) ≡ r
+pub nth-seam : (rs : List Row) (r : Row) (ss : List Row) → nth (rs ++ (r ∷ ss)) (length rs) ≡ r
 unfolding nth
 nth-seam [] r ss = refl
 nth-seam (q ∷ rs) r ss = nth-seam rs r ss

@@ -6,7 +6,7 @@ use mathlib.Core.Bool.{Bool, true, false, not, _&&_}
 use native.Mathlib.Omega.{arith}
 use lib.ListN.{length}
 use lib.Dec.{leb, eqb}
-use borrow.Author.Tests.{leb-true, eqb-true, le-leb, lt-leb, eq-eqb, ne-eqb}
+use borrow.Author.Tests.{leb-true, eqb-true, not-false, le-leb, lt-leb, eq-eqb, ne-eqb}
 use Rattle.header.specs.Promise.{mostBytes}
 use Rattle.elements.specs.Rows.{width}
 use Rattle.elements.specs.Promise.{mostRows, isTable, allowed}
@@ -58,8 +58,4 @@ module _ (s : List ℕ) (start numbers : ℕ) where
 
   -- As a read's outcome tells it: it is not refused.
   pub start-inside : not (allowed s start numbers) ≡ false → start ≤ length s
-  start-inside q = within (go (allowed s start numbers) q) .inside
-    where
-      go : (b : Bool) → not b ≡ false → b ≡ true
-      go true e = refl
-      go false e = let z : _≡_ {A = ℕ} 0 1 = cc in absurd (omega arith)
+  start-inside q = within (not-false (allowed s start numbers) q) .inside

@@ -66,6 +66,11 @@ module _ (start numbers : ℕ) (o : Outcome) (t : List ℕ) where
             ∙ sym (ap (tableOf start numbers) q);
       }
 
+-- They are as promised where the outcome is the read's.
+promised : (s : List ℕ) (start size parent : ℕ) (t : List ℕ) (r : ReadReply) (t′ : List ℕ)
+    → Gives start (length t) (readOf s start size parent (length t)) r t′ → ReadPromise s start size parent t r t′
+promised s start size parent t r t′ g = record { reply = g .reply; table = g .table }
+
 -- ---- from the reader's answer on the cleared table t₁ to the promise
 
 module _ (s : List ℕ) (start size parent : ℕ) (t₁ : List ℕ) (z : t₁ ≡ zeros (length t₁)) where
@@ -84,9 +89,9 @@ module _ (s : List ℕ) (start size parent : ℕ) (t₁ : List ℕ) (z : t₁ �
         → Met s keeping start 0 0 start 0 reading t₁ t (ReadRefused e)
         → t′ ≡ zeros numbers → ReadPromise s start size parent t₁ (Refused e) t′
     fill-refused e t t′ m w =
-        let g = gives-refusal start numbers (readOf s start size parent numbers) t′ e
-        (outcome ∙ told-refused start 0 reading e (m .reply)) w in
-        record { reply = g .reply; table = g .table }
+        promised s start size parent t₁ (Refused e) t′
+        (gives-refusal start numbers (readOf s start size parent numbers) t′ e
+        (outcome ∙ told-refused start 0 reading e (m .reply)) w)
 
     pub fill-done : (n : ℕ) (next : Cursor) (t : List ℕ)
         → Met s keeping start 0 0 start 0 reading t₁ t (Read n next) → ReadPromise s start size parent t₁ (Rows n) t
@@ -95,8 +100,8 @@ module _ (s : List ℕ) (start size parent : ℕ) (t₁ : List ℕ) (z : t₁ �
         let k : n ≡ count f = b ∙ zero-add (count f) in
         let l = m .room f u refl in
         let w = subst (λ (x : List ℕ). t ≡ written keeping x 0 (rows 0 0 start 0 f)) z (m .table f u) in
-        let g = gives-rows start numbers (readOf s start size parent numbers) t f n (outcome ∙ u) k w (omega arith) in
-        record { reply = g .reply; table = g .table }
+        promised s start size parent t₁ (Rows n) t
+        (gives-rows start numbers (readOf s start size parent numbers) t f n (outcome ∙ u) k w (omega arith))
 
 -- ---- the public call
 
@@ -109,8 +114,8 @@ module _ (s : List ℕ) (start size parent : ℕ) (t : List ℕ) where
       → t₁ ≡ zeros (length t) → ReadPromise s start size parent t (Refused e) t₁
   not-allowed e t₁ a b z =
       let q = refused-argument a ∙ ap refused (sym b) in
-      let g = gives-refusal start (length t) (readOf s start size parent (length t)) t₁ e q z in
-      record { reply = g .reply; table = g .table }
+      promised s start size parent t (Refused e) t₁
+      (gives-refusal start (length t) (readOf s start size parent (length t)) t₁ e q z)
 
   -- What was promised of the cleared table holds of the table that the caller lent.
   pub as-lent : (t₁ t₂ : List ℕ) (r : ReadReply) → length t₁ ≡ length t → ReadPromise s start size parent t₁ r t₂

@@ -24,14 +24,15 @@ NotAllRefused =
     (t : List ℕ) (r : ReadReply) (t′ : List ℕ) → length t ≡ 2 * width → ReadPromise trackEntry 0 2 0 t r t′
     → (r ≡ Rows 1) × (t′ ≡ 0xAE ∷ 0 ∷ 0 ∷ 2 ∷ 0 ∷ 1 ∷ 0 ∷ zeros width)
 
--- Not one that gives the same table for all bytes: these two payloads have no leaf, so that no leaf bytes could tell them
--- apart. Where two rows are lent, no table at exit is permitted for both.
+-- Not one that gives the same table for all bytes: these two payloads have no leaf, so that no leaf bytes could tell
+-- them apart. Where two rows are lent, no table at exit is permitted for both.
 abbrev pub NotOneTable : Type 0
 NotOneTable =
     (t u : List ℕ) (r r′ : ReadReply) (t′ : List ℕ) → length t ≡ 2 * width → length u ≡ 2 * width
     → ReadPromise trackEntry 0 2 0 t r t′ → ReadPromise blockGroup 0 2 0 u r′ t′ → ⊥
 
--- Not one that touches nothing: whatever the table held, numbers beyond the last row are 0, and after a refusal all are.
+-- Not one that touches nothing: whatever the table held, numbers beyond the last row are 0, and after a refusal all
+-- are.
 abbrev pub NotUntouched : Type 0
 NotUntouched =
     (s : List ℕ) (start size parent : ℕ) (t t′ : List ℕ)

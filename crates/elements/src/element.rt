@@ -39,7 +39,8 @@ fn element(
     above: Above,
 ) -> ElementRead
     requires { ⌜ Ready (now recording) (now kinds) mode (now table) (place .at) rows ⌝ }
-    ensures { λ r. ⌜ ElementMet (now (recording .entry)) mode place rows above (now (table .entry)) (now (table .exit)) r ⌝ }
+    ensures { λ r. ⌜ ElementMet (now (recording .entry)) mode place rows above
+        (now (table .entry)) (now (table .exit)) r ⌝ }
 {
     match place.header(recording) {
         HeaderRead::Refused(refusal) => ElementRead::Refused(refusal),
@@ -95,7 +96,8 @@ pub fn master_body(
     above: Above,
 ) -> ElementRead
     requires { ⌜ Ready (now recording) (now kinds) mode (now table) (from .at) first ⌝ }
-    ensures { λ r. ⌜ BodyMet (now (recording .entry)) mode from size first above (now (table .entry)) (now (table .exit)) r ⌝ }
+    ensures { λ r. ⌜ BodyMet (now (recording .entry)) mode from size first above
+        (now (table .entry)) (now (table .exit)) r ⌝ }
 {
     let mut place = from;
     let mut left = size;

@@ -52,7 +52,8 @@ pub fn is_allowed(recording: &[u8], start: u64, table: &[u64]) -> bool
 pub fn fill(recording: &[u8], start: u64, size: u64, parent: u32, table: &mut [u64]) -> ReadReply
     requires { ⌜ allowed (now recording) start (length (now table)) ≡ true ⌝ }
     requires { ⌜ now table ≡ zeros (length (now table)) ⌝ }
-    ensures { λ r. ⌜ ReadPromise (now (recording .entry)) start size parent (now (table .entry)) r (now (table .exit)) ⌝ }
+    ensures { λ r. ⌜ ReadPromise (now (recording .entry)) start size parent
+        (now (table .entry)) r (now (table .exit)) ⌝ }
 {
     let kinds = TABLE;
     let mode = Mode { keep: true };
@@ -74,7 +75,8 @@ pub fn fill(recording: &[u8], start: u64, size: u64, parent: u32, table: &mut [u
 // The elements of the payload of `size` bytes from `start` on, under a parent id, into the table. A refusal fills the
 // table with zeros. 14: a length is broken, or the start is past the end.
 pub fn read(recording: &[u8], start: u64, size: u64, parent: u32, table: &mut [u64]) -> ReadReply
-    ensures { λ r. ⌜ ReadPromise (now (recording .entry)) start size parent (now (table .entry)) r (now (table .exit)) ⌝ }
+    ensures { λ r. ⌜ ReadPromise (now (recording .entry)) start size parent
+        (now (table .entry)) r (now (table .exit)) ⌝ }
 {
     clear(table);
     if !is_allowed(recording, start, table) {

@@ -11,8 +11,9 @@ use borrow.Author.Tests.{lt-ltb, le-ltb, ltb-true, ltb-false}
 use Rattle.kinds.specs.declared.kind.Kind.{Kind}
 use Rattle.elements.specs.Forest.{Element, Forest, none, node, whole, count}
 use Rattle.elements.specs.Rows.{rowOf, rows}
-use Rattle.elements.specs.Theorems.{Each, nth}
+use Rattle.elements.specs.Theorems.{Each}
 use Rattle.elements.specs.declared.row.Row.{Row}
+use Rattle.elements.proofs.Family.{nth-seam}
 use Rattle.elements.proofs.Forests.{length-rows}
 use Rattle.elements.proofs.Sound.{each-append, reads-a-tree}
 use Rattle.fields.specs.Children.{deeper, subtree, fits, childrenFrom, children}
@@ -238,11 +239,6 @@ module _ (parent id : ℕ) (kind : Kind) where
   drop-after n [] ss a = from-none n ss a
   drop-after n (r ∷ rs) ss a =
       ap (λ (cs : List Child). cond (fits parent id kind r) (At n r ∷ cs) cs) (drop-after (n + 1) rs ss a)
-
-nth-seam : (rs : List Row) (r : Row) (ss : List Row) → nth (rs ++ (r ∷ ss)) (length rs) ≡ r
-unfolding nth
-nth-seam [] r ss = refl
-nth-seam (q ∷ rs) r ss = nth-seam rs r ss
 
 drop-seam : (rs : List Row) (r : Row) (ss : List Row) → drop (suc (length rs)) (rs ++ (r ∷ ss)) ≡ ss
 drop-seam [] r ss = refl

@@ -1,4 +1,4 @@
--- The laws that the proofs of `fields` share.
+-- The laws that the proofs of `fields` share, and its theorems.
 pub mod Rest
 pub mod Levels
 pub mod Picked

@@ -75,7 +75,8 @@ pub fn uint_in(recording: &[u8], row: Row) -> u64
 // An unsigned number.
 pub fn number_field(recording: &[u8], table: &[u64], master: Below, id: u32) -> Number
     requires { ⌜ Readable (now recording) (now table) master ⌝ }
-    ensures { λ r. ⌜ numberTold r ≡ numberOf (now (recording .entry)) (master .parent) (rowsIn (now (table .entry)) master) id ⌝ }
+    ensures { λ r. ⌜ numberTold r
+        ≡ numberOf (now (recording .entry)) (master .parent) (rowsIn (now (table .entry)) master) id ⌝ }
 {
     match last_child(table, master, id, Kind::Uint) {
         Child::Absent => Number::Unset,
@@ -86,7 +87,8 @@ pub fn number_field(recording: &[u8], table: &[u64], master: Below, id: u32) -> 
 // A truth value: any number but 0 is yes.
 pub fn flag_field(recording: &[u8], table: &[u64], master: Below, id: u32) -> Flag
     requires { ⌜ Readable (now recording) (now table) master ⌝ }
-    ensures { λ r. ⌜ flagTold r ≡ flagOf (now (recording .entry)) (master .parent) (rowsIn (now (table .entry)) master) id ⌝ }
+    ensures { λ r. ⌜ flagTold r
+        ≡ flagOf (now (recording .entry)) (master .parent) (rowsIn (now (table .entry)) master) id ⌝ }
 {
     match last_child(table, master, id, Kind::Uint) {
         Child::Absent => Flag::Unset,
@@ -102,7 +104,8 @@ pub fn flag_field(recording: &[u8], table: &[u64], master: Below, id: u32) -> Fl
 // A text or bytes, by the kind.
 pub fn part_field(recording: &[u8], table: &[u64], master: Below, id: u32, kind: Kind) -> Part
     requires { ⌜ Readable (now recording) (now table) master ⌝ }
-    ensures { λ r. ⌜ partTold r ≡ partOf (now (recording .entry)) (master .parent) (rowsIn (now (table .entry)) master) id kind ⌝ }
+    ensures { λ r. ⌜ partTold r
+        ≡ partOf (now (recording .entry)) (master .parent) (rowsIn (now (table .entry)) master) id kind ⌝ }
 {
     match last_child(table, master, id, kind) {
         Child::Absent => Part::Unset,
@@ -119,7 +122,8 @@ pub fn language_field(
     ietf: u32,
 ) -> Language
     requires { ⌜ Readable (now recording) (now table) master ⌝ }
-    ensures { λ r. ⌜ languageTold r ≡ languageOf (now (recording .entry)) (master .parent) (rowsIn (now (table .entry)) master) iso ietf ⌝ }
+    ensures { λ r. ⌜ languageTold r
+        ≡ languageOf (now (recording .entry)) (master .parent) (rowsIn (now (table .entry)) master) iso ietf ⌝ }
 {
     match last_child(table, master, ietf, Kind::String) {
         Child::At { number: _, row } => Language::Ietf(range_of(row)),
@@ -139,7 +143,8 @@ pub fn value_field(
     binary: u32,
 ) -> TagValue
     requires { ⌜ Readable (now recording) (now table) master ⌝ }
-    ensures { λ r. ⌜ valueTold r ≡ valueOf (now (recording .entry)) (master .parent) (rowsIn (now (table .entry)) master) text binary ⌝ }
+    ensures { λ r. ⌜ valueTold r
+        ≡ valueOf (now (recording .entry)) (master .parent) (rowsIn (now (table .entry)) master) text binary ⌝ }
 {
     match last_child(table, master, text, Kind::Utf8) {
         Child::Absent => match last_child(table, master, binary, Kind::Binary) {
@@ -180,7 +185,8 @@ fn float_in(recording: &[u8], row: Row) -> f64
 // A float, by value.
 pub fn real_field(recording: &[u8], table: &[u64], master: Below, id: u32) -> Real
     requires { ⌜ Readable (now recording) (now table) master ⌝ }
-    ensures { λ r. ⌜ realTold r ≡ realOf (now (recording .entry)) (master .parent) (rowsIn (now (table .entry)) master) id ⌝ }
+    ensures { λ r. ⌜ realTold r
+        ≡ realOf (now (recording .entry)) (master .parent) (rowsIn (now (table .entry)) master) id ⌝ }
 {
     match last_child(table, master, id, Kind::Float) {
         Child::Absent => Real::Unset,

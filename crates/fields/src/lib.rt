@@ -1,7 +1,7 @@
 // The fields of a record: what the direct children of a master hold (document 01, Records).
 //
-// For the crate above, which asks for rows that were read: `rows_below` gives the rows below a master, and each field is
-// taken from the last direct child of its id and kind.
+// For the crates above, which answer from rows that were read: `rows_below` gives the rows below a master, and each
+// field is taken from the last direct child of its id and kind.
 mod child;
 mod field;
 

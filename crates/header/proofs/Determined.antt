@@ -16,14 +16,11 @@ use lib.Dec.{eqb}
 use borrow.Author.Tests.{eqb-true, eqb-false}
 use Rattle.header.specs.Vint.{Width, unmarked, zeros, oneMore, widthOf, bits, bigEndian, bigEndianFrom}
 use Rattle.header.specs.Vint.{Vint, vint, ends, long, vintOf, vintData}
-use Rattle.header.specs.Header.{Heading, heading, refused, sized, named, headerOf}
-use Rattle.header.specs.Reads.{headerRead, headerAt}
+use Rattle.header.specs.Header.{heading, sized, named, headerOf}
 use Rattle.header.specs.Theorems.{Octets, Determined}
-use Rattle.header.specs.declared.cursor.Cursor.{Cursor}
 use Rattle.header.specs.declared.cursor.Header.{Header}
-use Rattle.header.specs.declared.cursor.HeaderRead.the-variants.{Read}
 use Rattle.header.proofs.BigEndian.{octets-drop, octets-take, from-same, from-range}
-use Rattle.header.proofs.Inside.{Made, made}
+use Rattle.header.proofs.Inside.{Made, made, header-read}
 use Rattle.header.proofs.Widths.{eight, width-end, width-zero, width-one}
 
 -- ---- a VINT that was read
@@ -202,14 +199,8 @@ same-octets s t f g h q r =
 
 -- ---- the same at places of two recordings
 
-read-heading : (at : ℕ) (h : Header) (next : Cursor) (y : Heading) → headerRead at y ≡ Read h next → y ≡ heading h
-unfolding headerRead
-read-heading at h next (heading k) q = cc
-read-heading at h next (refused e) q = let x : _≡_ {A = ℕ} 0 1 = cc in absurd (omega arith)
-
 pub header-determined : Determined
-unfolding headerAt
 header-determined s t f g a b h next next′ q r =
     same-octets (drop a s) (drop b t) (octets-drop s f a) (octets-drop t g b) h
-    (read-heading a h next (headerOf (drop a s)) q)
-    (read-heading b h next′ (headerOf (drop b t)) r)
+    (header-read s a h next q .0)
+    (header-read t b h next′ r .0)

@@ -1,4 +1,4 @@
--- The definitions that the contracts of `header` cite.
+-- The definitions that the contracts of `header` cite, and the statements of its theorems.
 pub mod Vint
 pub mod Refusals
 pub mod Header

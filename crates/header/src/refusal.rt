@@ -124,6 +124,7 @@ impl Refusal {
     {
         Refusal { number: 15, id: 0 }
     }
+
     // 15: there is no k-th record or list member.
     pub fn no_record() -> Refusal
         ensures { λ r. ⌜ r ≡ noRecord ⌝ }

@@ -1,4 +1,4 @@
--- The definitions that the contracts of `kinds` cite.
+-- The definitions that the contracts of `kinds` cite, and the statements of its theorems.
 pub mod Elements
 pub mod Kinds
 pub mod Entries

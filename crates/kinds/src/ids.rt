@@ -1,4 +1,4 @@
-// The ids that the reader names, as src/ids.rs names them (document 01, What is ported).
+// The ids by the names that the crate's src/ids.rs gives them (document 01, What is ported).
 pub const SEGMENT: u32 = 0x1853_8067;
 
 pub const SEEKHEAD: u32 = 0x114D_9B74;

@@ -12,7 +12,7 @@ use crate::table::TABLE;
 // The number of the kind of an id that is not listed.
 const BINARY: u64 = 6;
 
-// ChapterTranslate, a member of two small master sets; src/ids.rs has no name for it.
+// ChapterTranslate, a member of two small master sets; the crate's src/ids.rs has no name for it.
 const CHAPTERTRANSLATE: u32 = 0x6924;
 
 // The first place of rising numbers that holds x or more; their count where none does.

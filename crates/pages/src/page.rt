@@ -25,7 +25,8 @@ fn put_number(page: &mut [u8], held: usize, label: &[u8], value: u64, base: u64)
     requires { ⌜ 1 < base ⌝ }
     requires { ⌜ base ≤ 16 ⌝ }
     requires { ⌜ value < base ^ 20 ⌝ }
-    ensures { λ r. ⌜ Wrote (now (page .entry)) held (now (label .entry) ++ numeral base 20 value) r (now (page .exit)) ⌝ }
+    ensures { λ r. ⌜ Wrote (now (page .entry)) held (now (label .entry) ++ numeral base 20 value) r
+        (now (page .exit)) ⌝ }
     ensures { λ r. ⌜ r ≤ held + length (now (label .entry)) + 20 ⌝ }
 {
     let from = put(page, held, label);

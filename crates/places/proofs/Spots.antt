@@ -2,7 +2,7 @@
 use Prim.Native.Nat.{ℕ, suc, _+_, _-_, _*_, _≤_, _<_}
 use mathlib.Core.Path.{_≡_, refl, sym, _∙_}
 use mathlib.Core.List.{List}
-use mathlib.Core.Bool.{Bool, true, false, _&&_}
+use mathlib.Core.Bool.{Bool, true, false, and-false}
 use native.Mathlib.Nat.{sub-zero}
 use native.Mathlib.Omega.{arith}
 use lib.ListN.{drop}
@@ -31,10 +31,6 @@ module _ (start size x : ℕ) where
       go : (b : Bool) → ltb (x - start) size ≡ b → ltb (x - start) size ≡ ltb x (start + size)
       go true e = e ∙ sym (lt-ltb x (start + size) (omega (arith, ltb-true (x - start) size e)))
       go false e = e ∙ sym (le-ltb x (start + size) (omega (arith, ltb-false (x - start) size e)))
-
-and-false : (b : Bool) → (b && false) ≡ false
-and-false true = refl
-and-false false = refl
 
 -- ---- one row
 

@@ -98,7 +98,8 @@ pub fn whose_byte(
     address: u64,
     table: &mut [u64],
 ) -> WhoseReply
-    ensures { λ r. ⌜ WhosePromise (now (recording .entry)) start size parent address (now (table .entry)) r (now (table .exit)) ⌝ }
+    ensures { λ r. ⌜ WhosePromise (now (recording .entry)) start size parent address
+        (now (table .entry)) r (now (table .exit)) ⌝ }
 {
     clear(table);
     if !is_allowed(recording, start, table) {

@@ -1,5 +1,5 @@
--- The worked segments of document 01 (Cases) and the smallest inputs of its readings, as one table: the bytes, the part
--- that is searched for with a table of three rows, and the reply.
+-- The worked segments of document 01 (Cases) and a small input for each of several rules of the search, as one table:
+-- the bytes, the part that is searched for with a table of three rows, and the reply.
 use Prim.Native.Nat.{ℕ}
 use mathlib.Core.Path.{_≡_}
 use mathlib.Core.List.{List, [], _∷_, _++_}

@@ -1,8 +1,13 @@
 -- What is proved of the C face beside the contracts: the statements of the theorems.
-use Prim.Native.Nat.{ℕ}
+use Prim.Native.Nat.{ℕ, _≤_}
 use mathlib.Core.Path.{_≡_}
 use mathlib.Core.List.{List}
 use lib.ListN.{length}
+use Rattle.header.specs.Reply.{Reply, accepted, refusal}
+use Rattle.places.specs.Payload.{placeOf}
+use Rattle.places.specs.Promise.{valuesOf}
+use Rattle.places.specs.Whose.{askedOf, whoseOf}
+use Rattle.search.specs.Part.{searchOf, replyOf}
 use Rattle.viewer.specs.Promise.{UzPartPromise, UzRangePromise, UzPlacePromise}
 use Rattle.viewer.specs.declared.part.UzPart.{UzPart}
 use Rattle.viewer.specs.declared.payload.UzRange.{UzRange}
@@ -24,3 +29,32 @@ OneUzPlace =
     (s : List ℕ) (start size parent x : ℕ) (t u : List ℕ) (r r′ : UzPlace) (t′ u′ : List ℕ) → length t ≡ length u
     → UzPlacePromise s start size parent x t r t′ → UzPlacePromise s start size parent x u r′ u′
     → (r ≡ r′) × (t′ ≡ u′)
+
+-- ---- `refused` tells a refusal
+
+abbrev pub Accepts : Reply → Type 0
+Accepts (accepted values) = Unit
+Accepts (refusal number id) = ⊥
+
+-- What crosses as `refused` is 0 exactly if the reply accepts, and else one of document 01's numbers: no refusal has
+-- the number 0, so that a C caller who tests `refused` misses none.
+pub record Tells (reply : Reply) (refused : ℕ) : Type 0 where
+  pub listed : refused ≤ 15
+  pub accepts : refused ≡ 0 → Accepts reply
+  pub zero : Accepts reply → refused ≡ 0
+
+abbrev pub PartTells : Type 0
+PartTells =
+    (s : List ℕ) (part : ℕ) (t : List ℕ) (r : UzPart) (t′ : List ℕ)
+    → UzPartPromise s part t r t′ → Tells (replyOf (searchOf s part (length t))) (r .refused)
+
+abbrev pub RangeTells : Type 0
+RangeTells =
+    (s t : List ℕ) (row : ℕ) (r : UzRange)
+    → UzRangePromise s t row r → Tells (valuesOf (placeOf s t row)) (r .refused)
+
+abbrev pub PlaceTells : Type 0
+PlaceTells =
+    (s : List ℕ) (start size parent x : ℕ) (t : List ℕ) (r : UzPlace) (t′ : List ℕ)
+    → UzPlacePromise s start size parent x t r t′
+    → Tells (whoseOf start x (askedOf s start size parent x (length t))) (r .refused)

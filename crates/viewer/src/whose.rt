@@ -24,7 +24,8 @@ pub extern "C" fn uz_whose_byte(
     address: u64,
     table: &mut [u64],
 ) -> UzPlace
-    ensures { λ r. ⌜ UzPlacePromise (now (recording .entry)) start size parent address (now (table .entry)) r (now (table .exit)) ⌝ }
+    ensures { λ r. ⌜ UzPlacePromise (now (recording .entry)) start size parent address
+        (now (table .entry)) r (now (table .exit)) ⌝ }
 {
     match whose_byte(recording, start, size, parent, address, table) {
         WhoseReply::Header { row, rows } => UzPlace {
