@@ -11,8 +11,8 @@ use Rattle.attachments.specs.declared.attachment.AttachmentReply.{Attach
 
 -- ---- the questions, with a table of so many numbers
 
--- The payload is read under 61A7, the id that document 01, Kinds, gives for Attachments, so that the full set of masters
--- holds for its direct children.
+-- The payload is read under 61A7, the id that document 01, Kinds, gives for Attachments, so that the full set of
+-- masters holds for its direct children.
 module _ (s : List ℕ) (start size k : ℕ) where
   abbrev pub attachmentAsked : ℕ → Asked
   attachmentAsked numbers = asked s start size 0x61A7 numbers (Nth 0x61A7 k) Here Here

@@ -1,5 +1,5 @@
--- An attached file as a table of fields, each with its id (document 01, Records; the
--- record types of the crate's lib.rs).
+-- An attached file as a table of fields, each with its id (document 01, Records; the record types of the crate's
+-- lib.rs).
 use Prim.Native.Nat.{ℕ}
 use mathlib.Core.List.{List, [], _∷_}
 use Rattle.kinds.specs.declared.kind.Kind.the-variants.{String, Utf8, Binary}

@@ -13,8 +13,8 @@ use Rattle.chapters.specs.declared.display.DisplayReply.{DisplayReply}
 
 -- ---- the questions, with a table of so many numbers
 
--- Each reads the payload under 45B9, the id that document 01, Kinds, gives for Chapters, so that the full set of masters
--- holds for its direct children; then a step for each level.
+-- Each reads the payload under 45B9, the id that document 01, Kinds, gives for Chapters, so that the full set of
+-- masters holds for its direct children; then a step for each level.
 module _ (s : List ℕ) (start size k : ℕ) where
   abbrev pub editionAsked : ℕ → Asked
   editionAsked numbers = asked s start size 0x45B9 numbers (Nth 0x45B9 k) Here Here

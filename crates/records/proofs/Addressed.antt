@@ -1,4 +1,5 @@
--- Every address in a record is the payload's place of a row of the table (`Addressed`), for any fields. Assumes nothing.
+-- Every address in a record is the payload's place of a row of the table (`Addressed`), for any fields. Assumes
+-- nothing.
 use Prim.Native.Nat.{ℕ, zero, suc, _+_, _-_, _*_, _≤_, _<_}
 use mathlib.Core.Path.{_≡_, refl, sym, ap, _∙_, subst}
 use mathlib.Core.List.{List, [], _∷_}

@@ -15,8 +15,8 @@ use Rattle.records.specs.Told.{Answer, fields}
 use Rattle.records.specs.Promise.{RecordPromise}
 use Rattle.records.specs.declared.locate.Step.{Step}
 
--- Any two answers and tables that the promise permits to one question are equal (document 01, Strength of the promises).
--- The numbers that stood in the lent table do not matter, only how many there are.
+-- Any two answers and tables that the promise permits to one question are equal (document 01, Strength of the
+-- promises). The numbers that stood in the lent table do not matter, only how many there are.
 abbrev pub OneAnswer : Type 0
 OneAnswer =
     (values : List Row → ℕ → List Value) (ask : ℕ → Asked) (n m : ℕ) (x y : Answer) (t′ u′ : List ℕ) → n ≡ m

@@ -14,8 +14,8 @@ use Rattle.tags.specs.declared.simple.SimpleReply.{SimpleReply}
 
 -- ---- the questions, with a table of so many numbers
 
--- Each reads the payload under 7373, the id that document 01, Kinds, gives for Tags, so that the full set of masters holds
--- for its direct children; then a step for each level.
+-- Each reads the payload under 7373, the id that document 01, Kinds, gives for Tags, so that the full set of masters
+-- holds for its direct children; then a step for each level.
 module _ (s : List ℕ) (start size k : ℕ) where
   abbrev pub tagAsked : ℕ → Asked
   tagAsked numbers = asked s start size 0x7373 numbers (Nth 0x7373 k) Here Here

@@ -1,5 +1,5 @@
--- The records of Tags as tables of fields, each with its id (document 01, Records; the
--- record types of the crate's lib.rs).
+-- The records of Tags as tables of fields, each with its id (document 01, Records; the record types of the crate's
+-- lib.rs).
 use Prim.Native.Nat.{ℕ, suc}
 use mathlib.Core.List.{List, [], _∷_, _++_}
 use mathlib.Core.Bool.{true, false}

@@ -1,5 +1,5 @@
--- The audio settings of a track as a table of fields, each with its id (document 01, Records; the
--- record types of the crate's lib.rs).
+-- The audio settings of a track as a table of fields, each with its id (document 01, Records; the record types of the
+-- crate's lib.rs).
 use Prim.Native.Nat.{ℕ}
 use mathlib.Core.List.{List, [], _∷_}
 use Rattle.elements.specs.declared.row.Row.{Row}
