@@ -79,6 +79,15 @@ static uz_place whose_byte(recording from, uint64_t start, uint64_t size, uint32
     return said;
 }
 
+// Each row's payload is where the table says.
+static void check_payloads(recording from, uint64_t rows, lent in) {
+    for (uint64_t row = 0; row < rows; row++) {
+        uz_range said = uz_row_payload(from.bytes, from.length, in.table, in.numbers, row);
+        uint64_t at = cell(in, row, UZ_ADDRESS) + cell(in, row, UZ_HEADER);
+        check(is_range(said, UZ_ACCEPTED, at, cell(in, row, UZ_PAYLOAD)), "a row's payload");
+    }
+}
+
 // ---- Recordings that are written here ----
 
 typedef struct {

@@ -79,10 +79,10 @@ static lent lend(arena in, size_t numbers, bool front) {
 }
 
 static bool all_are(const uint64_t *from, const uint64_t *to, uint64_t number) {
+    uint64_t odd = 0;
     while (from < to)
-        if (*from++ != number)
-            return false;
-    return true;
+        odd |= *from++ ^ number;
+    return odd == 0;
 }
 
 // Nothing was written beside the table.
@@ -293,15 +293,6 @@ static void check_place(recording from, uint64_t start, uint64_t size, uint64_t 
 
 static bool is_range(uz_range said, uint64_t refused, uint64_t at, uint64_t length) {
     return said.refused == refused && said.at == at && said.length == length;
-}
-
-// Each row's payload is where the table says.
-static void check_payloads(recording from, uint64_t rows, lent in) {
-    for (uint64_t row = 0; row < rows; row++) {
-        uz_range said = uz_row_payload(from.bytes, from.length, in.table, in.numbers, row);
-        uint64_t at = cell(in, row, UZ_ADDRESS) + cell(in, row, UZ_HEADER);
-        check(is_range(said, UZ_ACCEPTED, at, cell(in, row, UZ_PAYLOAD)), "a row's payload");
-    }
 }
 
 #endif
