@@ -61,6 +61,8 @@ static void rows_seen(uint64_t rows, lent in) {
 
 // ---- The slowest ----
 
+#define ENOUGH 256
+
 typedef struct {
     uint64_t calls, time, most_time, most_each, most_steps, most_steps_each;
 } slowest;
@@ -79,17 +81,16 @@ static void told(cost of) {
         most->most_time = of.time;
     if (of.steps > most->most_steps)
         most->most_steps = of.steps;
-    // For each byte, beyond what every call and its table may take; in hundredths.
-    uint64_t least = LEAST_TIME / 10 + TIME_NUMBER / 10 * of.numbers, bytes = of.bytes + 1;
-    uint64_t time_each = of.time > least ? (of.time - least) * 100 / bytes : 0;
-    uint64_t steps_each =
-        of.steps > LEAST_STEPS / 4 ? (of.steps - LEAST_STEPS / 4) * 100 / bytes : 0;
+    // For each byte, where there are enough that what every call takes does not matter; in
+    // hundredths.
+    uint64_t time_each = of.bytes >= ENOUGH ? of.time * 100 / of.bytes : 0;
+    uint64_t steps_each = of.bytes >= ENOUGH ? of.steps * 100 / of.bytes : 0;
     if (time_each > most->most_each)
         most->most_each = time_each;
     if (steps_each > most->most_steps_each)
         most->most_steps_each = steps_each;
     if (call < 2)
-        features[SLOW + call * 400 + (steps_each / 10 < 400 ? steps_each / 10 : 399)] = 1;
+        features[SLOW + call * 400 + (steps_each / 5 < 400 ? steps_each / 5 : 399)] = 1;
 }
 
 static void told_part(uint32_t part, uz_part said, lent in) {
