@@ -185,12 +185,12 @@ static void change_arguments(uint8_t *data, recording from) {
         put_little(data + 2, any_table(), 2);
         break;
     case 2:
-        put_little(data + 4, any(3) == 0 ? any_id() : parts[any(4)], 4);
+        put_little(data + 4, any(3) == 0 ? any_id() : any(2) == 0 ? 0x1549A966 : parts[any(4)], 4);
         break;
     case 3:
         put_little(data + 8, any(4) == 0 ? any_number() : start, 8);
         put_little(data + 16, any(4) == 0 ? any_number() : left, 8);
-        put_little(data + 24, start + any(left + 1), 8);
+        put_little(data + 24, any(8) == 0 ? any(start + 1) : start + any(left + 1), 8);
         break;
     case 4:
         put_little(data + 24, any(3) == 0 ? any_number() : any(from.length + 2), 8);
@@ -214,6 +214,20 @@ static void change_arguments(uint8_t *data, recording from) {
     }
 }
 
+// A question for a payload: one number of its table, mostly small, and a row that there is.
+static void change_numbers(uint8_t *data, size_t size) {
+    size_t rows = (size - HEAD) / 8 / UZ_WIDTH;
+    data[0] = PAYLOAD;
+    if (rows == 0)
+        return;
+    uint64_t row = any(rows);
+    put_little(data + 2, rows * UZ_WIDTH, 2);
+    put_little(data + 8, any(3) == 0 ? any_number() : any(300), 8);
+    put_little(data + 24, row, 8);
+    put_little(data + HEAD + (row * UZ_WIDTH + UZ_ADDRESS + any(3)) * 8,
+               any(2) == 0 ? any_number() : any(100), 8);
+}
+
 size_t LLVMFuzzerCustomMutator(uint8_t *data, size_t size, size_t room, unsigned seed) {
     chance = (seed + UINT64_C(1)) * UINT64_C(0x9E3779B97F4A7C15);
     if (room < HEAD + 16)
@@ -230,6 +244,12 @@ size_t LLVMFuzzerCustomMutator(uint8_t *data, size_t size, size_t room, unsigned
     case 2:
         return HEAD + LLVMFuzzerMutate(data + HEAD, size - HEAD, room - HEAD);
     case 3:
+        if (data[0] % CALLS == PAYLOAD || any(8) == 0) {
+            change_numbers(data, size);
+            return size;
+        }
+        change_arguments(data, from);
+        return size;
     case 4:
         change_arguments(data, from);
         return size;

@@ -87,18 +87,31 @@ static int new_leaf(uint32_t id) {
     uint8_t *bytes = made < 0 ? NULL : room_for(length);
     if (bytes == NULL)
         return made;
-    static const char *const texts[] = {"abcdefgh",
-                                        "\xC3\xA4\xC2\x80",
-                                        "\xE2\x82\xAC\xEF\xBF\xBF",
-                                        "\xF0\x9F\x94\xA7\xF4\x8F\xBF\xBF",
-                                        "\xED\xA0\x80\xC0\x80",
-                                        "\xE0\x9F\xBF\xF4\x90\x80\x80",
-                                        "\xF0\x8F\xBF\xBF",
-                                        "\xC1\xBF\xFF\x80"};
-    const char *text = texts[any(any(3) == 0 ? COUNT(texts) : 4)];
+    // Texts that are UTF-8, some that are not, and floats at the edges: no numbers, the largest,
+    // the least.
+    static const struct {
+        const char *bytes;
+        size_t length;
+    } bodies[] = {
+        {"abcdefgh", 8},
+        {"\xC3\xA4\xC2\x80", 4},
+        {"\xE2\x82\xAC\xEF\xBF\xBF", 6},
+        {"\xF0\x9F\x94\xA7\xF4\x8F\xBF\xBF", 8},
+        {"\xED\xA0\x80\xC0\x80", 5},
+        {"\xE0\x9F\xBF\xF4\x90\x80\x80", 7},
+        {"\xF0\x8F\xBF\xBF", 4},
+        {"\xC1\xBF\xFF\x80", 4},
+        {"\x7F\xC0\x00\x00", 4},
+        {"\xFF\x80\x00\x01", 4},
+        {"\x7F\x80\x00\x00", 4},
+        {"\x00\x00\x00\x01", 4},
+        {"\x7F\xF0\x00\x00\x00\x00\x00\x01", 8},
+    };
+    size_t body = (size_t)any(any(2) == 0 ? COUNT(bodies) : 4);
     bool random = any(4) == 0;
     for (size_t i = 0; i < length; i++)
-        bytes[i] = random ? (uint8_t)any(256) : (uint8_t)text[i % strlen(text)];
+        bytes[i] =
+            random ? (uint8_t)any(256) : (uint8_t)bodies[body].bytes[i % bodies[body].length];
     nodes[made].bytes = bytes;
     nodes[made].length = length;
     return made;
