@@ -312,54 +312,54 @@ static void grow_shape(shape of) {
     }
 }
 
-// The master that holds the most, and in it the one that does, while that is half of it.
-static int widest(int from, size_t *most) {
-    int found = -1;
-    *most = 0;
-    for (int i = from; i >= 0; i = nodes[i].next) {
-        output to = {written, 0, sizeof written};
-        int next = nodes[i].next;
-        nodes[i].next = -1;
-        write_tree(&to, i);
-        nodes[i].next = next;
-        if (nodes[i].holds && nodes[i].first >= 0 && to.length >= *most) {
-            *most = to.length;
-            found = i;
-        }
-    }
-    if (found < 0)
-        return -1;
-    size_t inner;
-    int in = widest(nodes[found].first, &inner);
-    return in >= 0 && inner * 2 > *most ? in : found;
+// The question on the tree from `root` on, as it is written now.
+static question written_again(question asked, int root) {
+    output to = {written, 0, sizeof written};
+    write_tree(&to, root);
+    question again = asked;
+    again.bytes = written;
+    again.length = to.length;
+    again.numbers = UZ_MOST_NUMBERS;
+    if (asked.call == WHOSE && asked.start + asked.size >= asked.length)
+        again.size = to.length - asked.start;
+    return again;
 }
 
+// Doubles what one master holds, over and over: the one that makes the question dearest.
 static void grow_file(const char *name, question asked) {
+    static uint8_t original[1 << 20];
     before.call = NULL;
     used = 0;
-    static uint8_t original[1 << 20];
-    if (asked.call == PAYLOAD || asked.call == TOO_LONG || asked.length == 0 ||
-        asked.length > sizeof original)
+    if (asked.call == PAYLOAD || asked.call == TOO_LONG || asked.length > sizeof original)
         return;
     memcpy(original, asked.bytes, asked.length);
     recording from = {original, asked.length};
-    int root = read_tree(from, 0);
-    size_t most;
-    int wide = widest(root, &most);
-    if (wide < 0)
+    int root = read_tree(from, 0), dear = -1;
+    cost most = {NULL, 0, 0, 0, 0};
+    for (int i = 0; i < used; i++) {
+        if (!nodes[i].holds || nodes[i].first < 0)
+            continue;
+        nodes[i].times = 4;
+        dearest.call = NULL;
+        question again = written_again(asked, root);
+        ask(&again);
+        nodes[i].times = 1;
+        bool more =
+            dearest.steps != most.steps ? dearest.steps > most.steps : dearest.time > most.time;
+        if (dear < 0 || more) {
+            dear = i;
+            most = dearest;
+        }
+    }
+    if (dear < 0)
         return;
     const char *slash = strrchr(name, '/');
-    for (size_t times = 1; times * asked.length <= GROWN / 8; times *= 2) {
-        nodes[wide].times = times;
-        output to = {written, 0, sizeof written};
-        write_tree(&to, root);
-        question grown = asked;
-        grown.bytes = written;
-        grown.length = to.length;
-        grown.numbers = UZ_MOST_NUMBERS;
-        if (asked.call == WHOSE && asked.start + asked.size >= asked.length)
-            grown.size = to.length - asked.start;
-        tell_growth(slash != NULL ? slash + 1 : name, to.length, grown);
+    for (size_t times = 1; times <= 1 << 16; times *= 2) {
+        nodes[dear].times = times;
+        question again = written_again(asked, root);
+        if (again.length > GROWN / 8)
+            break;
+        tell_growth(slash != NULL ? slash + 1 : name, again.length, again);
     }
 }
 
