@@ -1,0 +1,89 @@
+// The three calls with a fault each, to see that replay tells it: linked between replay and the
+// archive, whose functions then are called shipped_*. The environment's FAULT names one of the
+// faults.
+#include "uzrafmed.h"
+
+#include <stdlib.h>
+#include <string.h>
+
+uz_part shipped_find_part(const uint8_t *recording, size_t length, uint32_t part, uint64_t *table,
+                          size_t numbers);
+uz_range shipped_row_payload(const uint8_t *recording, size_t length, const uint64_t *table,
+                             size_t numbers, uint64_t row);
+uz_place shipped_whose_byte(const uint8_t *recording, size_t length, uint64_t start, uint64_t size,
+                            uint32_t parent, uint64_t address, uint64_t *table, size_t numbers);
+
+static int is(const char *fault) {
+    const char *asked = getenv("FAULT");
+    return asked != NULL && strcmp(asked, fault) == 0;
+}
+
+// What is read but not needed.
+static volatile uint64_t seen;
+
+static unsigned calls;
+
+// What a search and an address question may do wrong to the recording and the table.
+static void damage(const uint8_t *recording, size_t length, uint64_t *table, size_t numbers,
+                   uint64_t refused) {
+    if (is("table_not_cleared") && refused != 0 && numbers > 0)
+        table[numbers - 1] = 1;
+    if (is("rest_not_cleared") && refused == 0 && numbers > 0)
+        table[numbers - 1] += 1;
+    if (is("row_changed") && refused == 0 && numbers > 0)
+        table[UZ_PAYLOAD] ^= 1;
+    if (is("number_behind_the_table"))
+        table[numbers] = 0;
+    if (is("number_before_the_table"))
+        table[-1] = 0;
+    // A recording that is too long can't be read at all.
+    if (length == 0 || length > UZ_MOST_BYTES)
+        return;
+    if (is("byte_behind_the_recording"))
+        seen += recording[length];
+    if (is("byte_before_the_recording"))
+        seen += recording[-1];
+    if (is("recording_written"))
+        *(uint8_t *)(uintptr_t)recording ^= 1;
+    if (is("square_of_the_length"))
+        for (size_t i = 0; i < length; i++)
+            for (size_t k = 0; k < length; k++)
+                seen += recording[k];
+}
+
+uz_part uz_find_part(const uint8_t *recording, size_t length, uint32_t part, uint64_t *table,
+                     size_t numbers) {
+    uz_part said = shipped_find_part(recording, length, part, table, numbers);
+    damage(recording, length, table, numbers, said.refused);
+    if (is("rows_after_a_refusal") && said.refused != 0)
+        said.rows = 1;
+    if (is("heads_made_up") && said.refused == 0)
+        said.heads = 64;
+    if (is("part_moved") && said.found != 0)
+        said.at++;
+    if (is("another_reply_each_time") && said.refused == 0)
+        said.heads = ++calls & 1;
+    return said;
+}
+
+uz_range uz_row_payload(const uint8_t *recording, size_t length, const uint64_t *table,
+                        size_t numbers, uint64_t row) {
+    uz_range said = shipped_row_payload(recording, length, table, numbers, row);
+    if (is("recording_read_for_a_payload"))
+        seen += recording[0];
+    if (is("payload_past_the_end") && said.refused == 0)
+        said.length++;
+    return said;
+}
+
+uz_place uz_whose_byte(const uint8_t *recording, size_t length, uint64_t start, uint64_t size,
+                       uint32_t parent, uint64_t address, uint64_t *table, size_t numbers) {
+    uz_place said =
+        shipped_whose_byte(recording, length, start, size, parent, address, table, numbers);
+    damage(recording, length, table, numbers, said.refused);
+    if (is("another_owner") && said.refused == 0)
+        said.row ^= 1;
+    if (is("header_told_as_payload") && said.refused == 0)
+        said.in_payload ^= 1;
+    return said;
+}

@@ -1,0 +1,331 @@
+// A question to the C face, as the bytes of one file: what the fuzzer mutates, and what is kept.
+//
+//   byte 0       which call: 0 find, 1 whose, 2 payload, 3 all of them, 4 too long a recording
+//   bytes 2, 3   the table's count of numbers; this and what follows is little-endian
+//   bytes 4..7   the part that is sought, or the parent
+//   bytes 8..15  start; for payload and too long a recording, the recording's length
+//   bytes 16..23 size; for payload, nothing
+//   bytes 24..31 address; for payload, the row
+//   from 32 on   the recording; for payload, the table's numbers, over and over
+//
+// Each call is made twice: on a recording and a table that end at an inaccessible page, then on
+// ones that begin behind such a page. The recording can only be read. Both replies and tables have
+// to be the same, and all that the header says of replies has to hold. Each call is timed by the
+// processor's time of this thread, and held to a bound that is linear in what it may look at.
+#ifndef HOSTILE_QUESTION_H
+#define HOSTILE_QUESTION_H
+
+#include "../viewer/replies.h"
+
+#include <stdio.h>
+#include <string.h>
+#include <time.h>
+#include <unistd.h>
+
+#define HEAD 32
+#define MOST_RECORDING (1 << 24)
+
+enum { FIND, WHOSE, PAYLOAD, ALL, TOO_LONG, CALLS };
+
+typedef struct {
+    unsigned call;
+    size_t numbers;
+    uint32_t id;
+    uint64_t start, size, address;
+    const uint8_t *bytes;
+    size_t length;
+} question;
+
+static uint64_t little(const uint8_t *from, unsigned bytes) {
+    uint64_t number = 0;
+    while (bytes-- > 0)
+        number = number << 8 | from[bytes];
+    return number;
+}
+
+// Whether the bytes are a question; any bytes from HEAD on are.
+static bool as_question(const uint8_t *data, size_t size, question *to) {
+    if (size < HEAD || size - HEAD > MOST_RECORDING)
+        return false;
+    to->call = data[0] % CALLS;
+    to->numbers = (size_t)little(data + 2, 2);
+    to->id = (uint32_t)little(data + 4, 4);
+    to->start = little(data + 8, 8);
+    to->size = little(data + 16, 8);
+    to->address = little(data + 24, 8);
+    to->bytes = data + HEAD;
+    to->length = size - HEAD;
+    return true;
+}
+
+// ---- What the program that includes this is told ----
+
+// One call: its name, the numbers and bytes that it may look at, its time in nanoseconds, and how
+// many blocks of instructions were entered, where the archive counts them. A byte counts once for
+// each seek head that may hold it, and once more.
+typedef struct {
+    const char *call;
+    uint64_t numbers, bytes, time, steps;
+} cost;
+
+static void told(cost of);
+static void told_part(uint32_t part, uz_part said, lent in);
+static void told_place(uz_place said, lent in);
+static void told_range(uint64_t row, uz_range said);
+
+// Counted by an instrumented archive; stays 0 with the one that is shipped.
+static uint64_t steps;
+
+// ---- Memory ----
+
+static const size_t room_of[3] = {1 << 13, 1 << 15, 1 << 16};
+static arena tables[3];
+static arena nowhere;
+
+// The same memory twice: to write, and to read between inaccessible pages.
+static uint8_t *to_write;
+static arena to_read;
+
+static void make_memory(void) {
+    for (size_t i = 0; i < 3; i++)
+        tables[i] = make_arena(room_of[i] * sizeof(uint64_t));
+    nowhere = make_arena(PAGE);
+    allow(nowhere, PROT_NONE);
+    to_read = make_arena(2 * (size_t)MOST_RECORDING + PAGE);
+    int file = memfd_create("recording", 0);
+    if (file < 0 || ftruncate(file, (off_t)to_read.size) != 0)
+        give_up("there is no memory for a recording");
+    to_write = mmap(NULL, to_read.size, PROT_READ | PROT_WRITE, MAP_SHARED, file, 0);
+    void *again = mmap(to_read.first, to_read.size, PROT_READ, MAP_SHARED | MAP_FIXED, file, 0);
+    if (to_write == MAP_FAILED || again == MAP_FAILED)
+        give_up("a recording can't be mapped");
+    close(file);
+}
+
+static recording placed(const uint8_t *bytes, size_t length, bool front) {
+    size_t at = front ? 0 : to_read.size - length;
+    if (length > 0)
+        memcpy(to_write + at, bytes, length);
+    recording made = {to_read.first + at, length};
+    return made;
+}
+
+// In the smallest room that has the numbers, since all of it is filled and looked at.
+static lent lend_for(size_t numbers, bool front) {
+    size_t i = 0;
+    while (numbers > room_of[i])
+        i++;
+    return lend(tables[i], numbers, front);
+}
+
+// ---- Time ----
+
+// The bounds. The README tells how they were found; an instrumented archive has a larger TIME_BYTE.
+#define LEAST_TIME UINT64_C(20000) // nanoseconds of any call
+#define TIME_NUMBER UINT64_C(10)   // and for each number of the table
+#ifndef TIME_BYTE
+#define TIME_BYTE UINT64_C(120) // and for each byte
+#endif
+#define LEAST_STEPS UINT64_C(400) // steps of any call
+#define STEPS_BYTE UINT64_C(20)   // and for each byte
+
+// How often a call that took too long is timed again before that counts.
+#define AGAIN 25
+
+static uint64_t now(void) {
+    struct timespec at;
+    clock_gettime(CLOCK_THREAD_CPUTIME_ID, &at);
+    return (uint64_t)at.tv_sec * UINT64_C(1000000000) + (uint64_t)at.tv_nsec;
+}
+
+static bool in_time(cost of) {
+    return of.time <= LEAST_TIME + TIME_NUMBER * of.numbers + TIME_BYTE * of.bytes;
+}
+
+static bool in_steps(cost of) {
+    return of.steps <= LEAST_STEPS + STEPS_BYTE * of.bytes;
+}
+
+// Takes the least time of some more runs of a call that was too slow.
+#define TIMED(of, answer, question_put)                                                            \
+    do {                                                                                           \
+        for (unsigned n_ = 0; n_ <= AGAIN; n_++) {                                                 \
+            uint64_t steps_ = steps, from_ = now();                                                \
+            answer = question_put;                                                                 \
+            uint64_t time_ = now() - from_;                                                        \
+            if (n_ == 0 || time_ < (of).time)                                                      \
+                (of).time = time_;                                                                 \
+            (of).steps = steps - steps_;                                                           \
+            if (in_time(of))                                                                       \
+                break;                                                                             \
+        }                                                                                          \
+        check(in_time(of), "the time is linear");                                                  \
+        check(in_steps(of), "the steps are linear");                                               \
+        told(of);                                                                                  \
+    } while (0)
+
+// How many seek heads a search may read: no more than there are ids of one.
+static uint64_t most_heads(recording from) {
+    static const uint8_t id[4] = {0x11, 0x4D, 0x9B, 0x74};
+    uint64_t found = 0;
+    for (size_t i = 0; i + 4 <= from.length && found < UZ_MOST_HEADS; i++)
+        found += memcmp(from.bytes + i, id, 4) == 0;
+    return found;
+}
+
+// ---- The calls ----
+
+static uint64_t kept[1 << 16];
+
+static uz_part ask_part(const question *asked, uint32_t part, size_t numbers) {
+    uz_part first = {0, 0, 0, 0, 0, 0, 0};
+    for (unsigned front = 0; front < 2; front++) {
+        recording from = placed(asked->bytes, asked->length, front != 0);
+        lent to = lend_for(numbers, front != 0);
+        uint64_t heads = most_heads(from);
+        cost of = {"find", numbers, (1 + heads) * from.length, 0, 0};
+        uz_part said;
+        TIMED(of, said, uz_find_part(from.bytes, from.length, part, to.table, to.numbers));
+        check_part(from, part, to, said);
+        check(said.heads <= heads, "no more heads than there are ids of one");
+        if (front == 0) {
+            first = said;
+            memcpy(kept, to.table, numbers * sizeof *kept);
+            told_part(part, said, to);
+        } else {
+            check(is_part(said, first), "find_part twice gives one reply");
+            check(memcmp(kept, to.table, numbers * sizeof *kept) == 0, "and one table");
+        }
+    }
+    return first;
+}
+
+static uz_place ask_place(const question *asked, uint64_t start, uint64_t size, uint32_t parent,
+                          uint64_t address, size_t numbers) {
+    uz_place first = {0, 0, 0, 0};
+    for (unsigned front = 0; front < 2; front++) {
+        recording from = placed(asked->bytes, asked->length, front != 0);
+        lent to = lend_for(numbers, front != 0);
+        uint64_t left = start <= from.length ? from.length - start : 0;
+        cost of = {"whose", numbers, left, 0, 0};
+        uz_place said;
+        TIMED(of, said,
+              uz_whose_byte(from.bytes, from.length, start, size, parent, address, to.table,
+                            to.numbers));
+        check_place(from, start, size, address, to, said);
+        if (front == 0) {
+            first = said;
+            memcpy(kept, to.table, numbers * sizeof *kept);
+            told_place(said, to);
+        } else {
+            check(same_place(said, first), "whose_byte twice gives one reply");
+            check(memcmp(kept, to.table, numbers * sizeof *kept) == 0, "and one table");
+        }
+    }
+    return first;
+}
+
+// The recording is inaccessible: of it, only the length is looked at.
+static uz_range ask_range(const uint64_t *numbers_of, size_t numbers, uint64_t length,
+                          uint64_t row) {
+    cost of = {"payload", 0, 0, 0, 0};
+    uz_range said, again;
+    TIMED(of, said, uz_row_payload(nowhere.first, (size_t)length, numbers_of, numbers, row));
+    TIMED(of, again, uz_row_payload(nowhere.first, (size_t)length, numbers_of, numbers, row));
+    check(is_range(again, said.refused, said.at, said.length), "row_payload twice gives one reply");
+    bool good = length <= UZ_MOST_BYTES && numbers % UZ_WIDTH == 0 && numbers <= UZ_MOST_NUMBERS &&
+                row < numbers / UZ_WIDTH;
+    uint64_t at = 0, size = 0;
+    if (good) {
+        const uint64_t *cells = numbers_of + row * UZ_WIDTH;
+        at = cells[UZ_ADDRESS];
+        size = cells[UZ_PAYLOAD];
+        good = at <= length && cells[UZ_HEADER] <= length - at;
+        if (good) {
+            at += cells[UZ_HEADER];
+            good = size <= length - at;
+        }
+    }
+    check(good ? is_range(said, UZ_ACCEPTED, at, size) : is_range(said, UZ_BAD_ARGUMENT, 0, 0),
+          "a row's payload");
+    told_range(row, said);
+    return said;
+}
+
+// A table of any numbers, which can't be written during the call.
+static void ask_payload(const question *asked) {
+    for (unsigned front = 0; front < 2; front++) {
+        lent to = lend_for(asked->numbers, front != 0);
+        for (size_t i = 0; asked->length >= 8 && i < to.numbers; i++)
+            to.table[i] = little(asked->bytes + i % (asked->length / 8) * 8, 8);
+        allow(to.in, PROT_READ);
+        ask_range(to.table, to.numbers, asked->start, asked->address);
+        check(only_table(to), "row_payload writes nothing");
+        allow(to.in, PROT_READ | PROT_WRITE);
+    }
+}
+
+// Each part, its rows' payloads, and the owners of its first, its last and some other byte.
+static void ask_all(const question *asked) {
+    static uint64_t table[1 << 16];
+    for (unsigned i = 0; i < 4; i++) {
+        uz_part found = ask_part(asked, parts[i], asked->numbers);
+        memcpy(table, kept, asked->numbers * sizeof *table);
+        for (uint64_t row = 0; row < found.rows; row += 1 + found.rows / 16)
+            check(ask_range(table, asked->numbers, asked->length, row).refused == UZ_ACCEPTED,
+                  "a row of an accepted table has its payload");
+        if (found.size == 0)
+            continue;
+        uint64_t bytes[] = {0, asked->address % found.size, found.size - 1};
+        for (unsigned k = 0; k < 3; k++) {
+            uz_place owner = ask_place(asked, found.at, found.size, parents[i], found.at + bytes[k],
+                                       asked->numbers);
+            check(owner.refused == UZ_ACCEPTED && owner.rows == found.rows,
+                  "a byte of an accepted part has an owner");
+            check(memcmp(table, kept, asked->numbers * sizeof *table) == 0, "one table for a part");
+        }
+    }
+}
+
+// More bytes than a recording may have are refused before one is looked at.
+static void ask_too_long(const question *asked) {
+    uint64_t longer =
+        asked->start > UZ_MOST_BYTES ? asked->start : asked->start + UZ_MOST_BYTES + 1;
+    recording none = {nowhere.first, (size_t)longer};
+    lent to = lend_for(asked->numbers, false);
+    cost of = {"too long", asked->numbers, 0, 0, 0};
+    uz_part part;
+    TIMED(of, part, uz_find_part(none.bytes, none.length, asked->id, to.table, to.numbers));
+    check(part.refused == UZ_BAD_ARGUMENT, "too long a recording is refused");
+    check_part(none, asked->id, to, part);
+    told_part(asked->id, part, to);
+    to = lend_for(asked->numbers, true);
+    uz_place place;
+    TIMED(of, place,
+          uz_whose_byte(none.bytes, none.length, asked->start, asked->size, asked->id,
+                        asked->address, to.table, to.numbers));
+    check(place.refused == UZ_BAD_ARGUMENT, "too long a recording is refused");
+    check_place(none, asked->start, asked->size, asked->address, to, place);
+    told_place(place, to);
+}
+
+static void ask(const question *asked) {
+    switch (asked->call) {
+    case FIND:
+        ask_part(asked, asked->id, asked->numbers);
+        break;
+    case WHOSE:
+        ask_place(asked, asked->start, asked->size, asked->id, asked->address, asked->numbers);
+        break;
+    case PAYLOAD:
+        ask_payload(asked);
+        break;
+    case ALL:
+        ask_all(asked);
+        break;
+    default:
+        ask_too_long(asked);
+    }
+}
+
+#endif

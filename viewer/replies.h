@@ -1,0 +1,298 @@
+// What the tests of the three calls of include/uzrafmed.h share: memory between inaccessible pages,
+// and what the header says of all replies. A program that includes this defines `check`, which is
+// told each thing that has to hold, and `give_up`, for a test that can't go on.
+#ifndef UZ_REPLIES_H
+#define UZ_REPLIES_H
+
+#include "uzrafmed.h"
+
+#include <stdbool.h>
+#include <sys/mman.h>
+
+// A multiple of the page size of every machine that this runs on.
+#define PAGE 65536
+
+// What a number holds before a call.
+#define FILLED UINT64_C(0xA5C3A5C3A5C3A5C3)
+
+// The ids that the tests use by name.
+#define SEGMENT UINT32_C(0x18538067)
+#define SEEK_HEAD UINT32_C(0x114D9B74)
+#define SEEK UINT32_C(0x4DBB)
+#define SEEK_ID UINT32_C(0x53AB)
+#define SEEK_POSITION UINT32_C(0x53AC)
+#define VOID UINT32_C(0xEC)
+
+static const uint32_t parts[] = {UZ_TRACKS, UZ_ATTACHMENTS, UZ_CHAPTERS, UZ_TAGS};
+static const uint32_t parents[] = {UZ_UNDER_TRACKS, UZ_UNDER_ATTACHMENTS, UZ_UNDER_CHAPTERS,
+                                   UZ_UNDER_TAGS};
+
+static void check(bool good, const char *what);
+static void give_up(const char *what);
+
+// ---- Memory between inaccessible pages ----
+
+typedef struct {
+    uint8_t *first;
+    size_t size;
+} arena;
+
+static arena make_arena(size_t size) {
+    arena made;
+    made.size = (size + PAGE - 1) / PAGE * PAGE;
+    uint8_t *all = mmap(NULL, made.size + 2 * (size_t)PAGE, PROT_NONE,
+                        MAP_PRIVATE | MAP_ANONYMOUS | MAP_NORESERVE, -1, 0);
+    if (all == MAP_FAILED)
+        give_up("there is no memory for a test");
+    made.first = all + PAGE;
+    if (mprotect(made.first, made.size, PROT_READ | PROT_WRITE) != 0)
+        give_up("memory can't be made accessible");
+    return made;
+}
+
+static void allow(arena in, int rights) {
+    if (mprotect(in.first, in.size, rights) != 0)
+        give_up("the rights of memory can't be changed");
+}
+
+typedef struct {
+    const uint8_t *bytes;
+    size_t length;
+} recording;
+
+typedef struct {
+    uint64_t *table;
+    size_t numbers;
+    arena in;
+} lent;
+
+// A table of numbers that are all FILLED, and so is the rest of its arena.
+static lent lend(arena in, size_t numbers, bool front) {
+    size_t room = in.size / sizeof(uint64_t);
+    if (numbers > room)
+        give_up("a table is too long for a test");
+    uint64_t *first = (uint64_t *)(void *)in.first;
+    for (size_t i = 0; i < room; i++)
+        first[i] = FILLED;
+    lent made = {front ? first : first + room - numbers, numbers, in};
+    return made;
+}
+
+static bool all_are(const uint64_t *from, const uint64_t *to, uint64_t number) {
+    uint64_t odd = 0;
+    while (from < to)
+        odd |= *from++ ^ number;
+    return odd == 0;
+}
+
+// Nothing was written beside the table.
+static bool only_table(lent to) {
+    const uint64_t *first = (const uint64_t *)(const void *)to.in.first;
+    const uint64_t *last = first + to.in.size / sizeof(uint64_t);
+    return all_are(first, to.table, FILLED) && all_are(to.table + to.numbers, last, FILLED);
+}
+
+static bool zeros_from(lent in, uint64_t row) {
+    return all_are(in.table + row * UZ_WIDTH, in.table + in.numbers, 0);
+}
+
+static uint64_t cell(lent in, uint64_t row, unsigned column) {
+    return in.table[row * UZ_WIDTH + column];
+}
+
+// ---- What holds of every reply ----
+
+// An id or size at an address, of at most `most` bytes: its length, or 0 if none is there.
+static unsigned vint(recording from, uint64_t at, unsigned most, bool marked, uint64_t *value) {
+    if (at >= from.length)
+        return 0;
+    unsigned octets = 1;
+    while (octets <= most && (from.bytes[at] & (0x100u >> octets)) == 0)
+        octets++;
+    if (octets > most || from.length - at < octets)
+        return 0;
+    *value = marked ? from.bytes[at] : from.bytes[at] & ((0x100u >> octets) - 1);
+    for (unsigned i = 1; i < octets; i++)
+        *value = *value << 8 | from.bytes[at + i];
+    return octets;
+}
+
+// A header at an address: its length, or 0 if none is there.
+static unsigned header(recording from, uint64_t at, uint64_t *id, uint64_t *size) {
+    unsigned first = vint(from, at, 4, true, id);
+    unsigned second = first != 0 ? vint(from, at + first, 8, false, size) : 0;
+    return second != 0 ? first + second : 0;
+}
+
+static bool is_utf8(const uint8_t *text, uint64_t length) {
+    uint64_t i = 0;
+    while (i < length) {
+        uint8_t first = text[i++];
+        if (first < 0x80)
+            continue;
+        unsigned more = first >= 0xF0 ? 3 : first >= 0xE0 ? 2 : 1;
+        static const uint32_t least[] = {0, 0x80, 0x800, 0x10000};
+        if (first < 0xC0 || first > 0xF7 || length - i < more)
+            return false;
+        uint32_t character = first & (0x3Fu >> more);
+        for (unsigned k = 0; k < more; k++, i++) {
+            if ((text[i] & 0xC0) != 0x80)
+                return false;
+            character = character << 6 | (text[i] & 0x3F);
+        }
+        if (character < least[more] || character > 0x10FFFF)
+            return false;
+        if (character >= 0xD800 && character <= 0xDFFF)
+            return false;
+    }
+    return true;
+}
+
+// Whether a leaf's payload is one of its kind.
+static bool is_leaf(recording from, uint64_t at, uint64_t size, uint64_t kind) {
+    switch (kind) {
+    case UZ_SIGNED:
+    case UZ_UNSIGNED:
+        return size <= 8;
+    case UZ_STRING:
+    case UZ_UTF8:
+        return is_utf8(from.bytes + at, size);
+    case UZ_BINARY:
+        return true;
+    case UZ_FLOAT:
+        return size == 4 || size == 8;
+    case UZ_DATE:
+        return size == 8;
+    }
+    return false;
+}
+
+// Whether the table's rows are the elements of the payload: each at the place where the one before
+// ends, each header as the bytes have it, each master used up by what it holds, each leaf there and
+// of its kind, and zeros beyond.
+static bool are_rows(recording from, uint64_t at, uint64_t size, uint64_t rows, lent in) {
+    if (at > from.length || size > from.length - at || rows > in.numbers / UZ_WIDTH)
+        return false;
+    // The ends of the masters that are open, and their row numbers plus 1; the payload itself is
+    // the first.
+    uint64_t ends[UZ_MOST_DEPTH + 2] = {at + size};
+    uint64_t masters[UZ_MOST_DEPTH + 2] = {0};
+    uint64_t open = 0;
+    for (uint64_t row = 0; row < rows; row++) {
+        while (open > 0 && ends[open] == at)
+            open--;
+        uint64_t id, payload;
+        unsigned length = header(from, at, &id, &payload);
+        if (length == 0 || cell(in, row, UZ_ID) != id || cell(in, row, UZ_PARENT) != masters[open])
+            return false;
+        if (cell(in, row, UZ_ADDRESS) != at || cell(in, row, UZ_HEADER) != length)
+            return false;
+        if (cell(in, row, UZ_PAYLOAD) != payload || cell(in, row, UZ_DEPTH) != open)
+            return false;
+        at += length;
+        if (open > UZ_MOST_DEPTH || at > ends[open] || payload > ends[open] - at)
+            return false;
+        if (cell(in, row, UZ_KIND) == UZ_MASTER) {
+            open++;
+            ends[open] = at + payload;
+            masters[open] = row + 1;
+        } else {
+            if (!is_leaf(from, at, payload, cell(in, row, UZ_KIND)))
+                return false;
+            at += payload;
+        }
+    }
+    for (uint64_t i = 0; i <= open; i++)
+        if (ends[i] != at)
+            return false;
+    return zeros_from(in, rows);
+}
+
+// Whether a header with the id ends right before the address.
+static bool follows_header(recording from, uint64_t at, uint64_t wanted, uint64_t size) {
+    for (unsigned length = 2; length <= 12 && length <= at; length++) {
+        uint64_t id, payload;
+        if (header(from, at - length, &id, &payload) == length && id == wanted && payload == size)
+            return true;
+    }
+    return false;
+}
+
+// What holds of every reply of uz_find_part, and of the table after it.
+static void check_part(recording from, uint32_t part, lent to, uz_part said) {
+    check(only_table(to), "find_part writes the table alone");
+    if (said.refused != UZ_ACCEPTED) {
+        check(said.refused <= UZ_BAD_ARGUMENT, "find_part gives 1 to 14");
+        bool named = said.refused == UZ_INVALID_SEEK_HEAD;
+        check(named ? said.id == part || said.id == SEEK_HEAD : said.id == 0,
+              "the id comes with 8 alone");
+        check((said.found | said.at | said.size | said.rows | said.heads) == 0,
+              "a refused part is zeros");
+        check(zeros_from(to, 0), "the table of a refused part is zeros");
+        return;
+    }
+    check(said.id == 0 && said.heads <= UZ_MOST_HEADS, "an accepted part has no id, and 64 heads");
+    if (said.found == 0) {
+        check((said.at | said.size | said.rows) == 0 && zeros_from(to, 0),
+              "an absent part is zeros");
+        return;
+    }
+    check(said.found == 1, "found is 0 or 1");
+    check(follows_header(from, said.at, part, said.size), "a found part has the id");
+    check(are_rows(from, said.at, said.size, said.rows, to), "the rows are the part's elements");
+}
+
+// The row that owns an address by the table alone. Counts the owners; there has to be one.
+static unsigned owners(lent in, uint64_t rows, uint64_t address, uz_place *owner) {
+    unsigned found = 0;
+    for (uint64_t row = 0; row < rows; row++) {
+        uint64_t first = cell(in, row, UZ_ADDRESS);
+        uint64_t payload = first + cell(in, row, UZ_HEADER);
+        bool leaf = cell(in, row, UZ_KIND) != UZ_MASTER;
+        uint64_t end = payload + (leaf ? cell(in, row, UZ_PAYLOAD) : 0);
+        if (address < first || address >= end)
+            continue;
+        owner->row = row;
+        owner->in_payload = address >= payload;
+        found++;
+    }
+    owner->refused = UZ_ACCEPTED;
+    owner->rows = rows;
+    return found;
+}
+
+static bool is_part(uz_part said, uz_part due) {
+    return said.refused == due.refused && said.id == due.id && said.found == due.found &&
+           said.at == due.at && said.size == due.size && said.rows == due.rows &&
+           said.heads == due.heads;
+}
+
+static bool same_place(uz_place one, uz_place other) {
+    return one.refused == other.refused && one.row == other.row &&
+           one.in_payload == other.in_payload && one.rows == other.rows;
+}
+
+// What holds of every reply of uz_whose_byte, and of the table after it.
+static void check_place(recording from, uint64_t start, uint64_t size, uint64_t address, lent to,
+                        uz_place said) {
+    check(only_table(to), "whose_byte writes the table alone");
+    if (said.refused != UZ_ACCEPTED) {
+        check(said.refused <= UZ_NOT_UTF8 ||
+                  (said.refused >= UZ_TOO_DEEP && said.refused <= UZ_OUTSIDE),
+              "whose_byte gives 1 to 7 and 12 to 15");
+        check((said.row | said.in_payload | said.rows) == 0, "a refused place is zeros");
+        check(zeros_from(to, 0), "the table of a refused place is zeros");
+        return;
+    }
+    check(address >= start && address - start < size, "an accepted address is in the payload");
+    check(are_rows(from, start, size, said.rows, to), "the rows are the payload's elements");
+    uz_place owner = {0, 0, 0, 0};
+    check(owners(to, said.rows, address, &owner) == 1, "a byte has one owner");
+    check(same_place(said, owner), "the row named owns the byte");
+}
+
+static bool is_range(uz_range said, uint64_t refused, uint64_t at, uint64_t length) {
+    return said.refused == refused && said.at == at && said.length == length;
+}
+
+#endif
