@@ -35,17 +35,18 @@ use Rattle.places.specs.Promise.{valuesOf}
 use Rattle.places.specs.Whose.{holderIn, named as namedRow, whoseIn, askedOf, whoseOf}
 use Rattle.places.specs.declared.whose.Holder.{Holder}
 use Rattle.places.specs.declared.whose.Holder.the-variants.{Header as InHeader, Payload, Neither}
+use Rattle.seeks.specs.Seeks.{seekHeadId, headOf, entries, segmentId, withoutRows}
+use Rattle.seeks.specs.Table.{onLatest, latest}
+use Rattle.seeks.specs.declared.head.Latest.{Latest}
+use Rattle.seeks.specs.declared.head.Latest.the-variants.{Nowhere, At}
+use Rattle.seeks.specs.declared.seek.Seek.{Seek}
 use Rattle.seektable.specs.Answers.{onHeader, onOutcome}
-use Rattle.seektable.specs.Seeks.{seekHeadId, headOf, entries, segmentId, withoutRows}
-use Rattle.seektable.specs.Heads.{Chain, chained, broken, onLatest, latest, tooFar, member, sought, readHead, follow}
+use Rattle.seektable.specs.Heads.{Chain, chained, broken, tooFar, member, sought, readHead, follow}
 use Rattle.seektable.specs.Heads.{chain, mostHeads, linkedHeads}
 use Rattle.seektable.specs.Lookup.{Place, found, absent, stopped, onChain, byHeads}
-use Rattle.seektable.specs.declared.head.Latest.{Latest}
-use Rattle.seektable.specs.declared.head.Latest.the-variants.{Nowhere, At}
 use Rattle.seektable.specs.declared.heads.Head.{Head}
-use Rattle.seektable.specs.declared.seek.Seek.{Seek}
-use Rattle.search.specs.Walk.{Visit, ends as endsAt, over, visit, onVisit}
-use Rattle.search.specs.Walk.{toSegment, segmentOf, walk, children, placeOf}
+use Rattle.segments.specs.Walk.{Visit, ends as endsAt, over, visit, onVisit}
+use Rattle.segments.specs.Walk.{toSegment, segmentOf, walk, children, placeOf}
 use Rattle.search.specs.Part.{parentOf, Search, onParent, onPlace, searchOf, replyOf}
 use Rattle.search.specs.Part.{found as foundPart, absent as absentPart, refused as refusedPart}
 use Rattle.search.specs.declared.part.Parent.{Parent}
