@@ -30,7 +30,8 @@ pub enum AttachmentReply {
 
 fn attachment_in(recording: &[u8], table: &[u64], master: Below) -> Attachment
     requires { ⌜ Readable (now recording) (now table) master ⌝ }
-    ensures { λ r. ⌜ attachmentValues r ≡ attachmentOf (now (recording .entry)) (master .parent) (rowsIn (now (table .entry)) master) ⌝ }
+    ensures { λ r. ⌜ attachmentValues r ≡ attachmentOf (now (recording .entry))
+        (master .parent) (rowsIn (now (table .entry)) master) ⌝ }
 {
     Attachment {
         description: part_field(recording, table, master, ids::FILEDESCRIPTION, Kind::Utf8),
@@ -48,7 +49,8 @@ pub fn attachment_at(
     k: u64,
     table: &mut [u64],
 ) -> AttachmentReply
-    ensures { λ r. ⌜ AttachmentPromise (now (recording .entry)) start size k (now (table .entry)) r (now (table .exit)) ⌝ }
+    ensures { λ r. ⌜ AttachmentPromise (now (recording .entry)) start size k
+        (now (table .entry)) r (now (table .exit)) ⌝ }
 {
     let file = Step::Nth {
         id: ids::ATTACHEDFILE,

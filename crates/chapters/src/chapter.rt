@@ -40,7 +40,8 @@ pub enum ChapterReply {
 
 fn chapter_in(recording: &[u8], table: &[u64], master: Below) -> Chapter
     requires { ⌜ Readable (now recording) (now table) master ⌝ }
-    ensures { λ r. ⌜ chapterValues r ≡ chapterOf (now (recording .entry)) (master .parent) (rowsIn (now (table .entry)) master) ⌝ }
+    ensures { λ r. ⌜ chapterValues r ≡ chapterOf (now (recording .entry))
+        (master .parent) (rowsIn (now (table .entry)) master) ⌝ }
 {
     Chapter {
         uid: number_field(recording, table, master, ids::CHAPTERUID),
@@ -69,7 +70,8 @@ pub fn chapter_at(
     i: u64,
     table: &mut [u64],
 ) -> ChapterReply
-    ensures { λ r. ⌜ ChapterPromise (now (recording .entry)) start size k i (now (table .entry)) r (now (table .exit)) ⌝ }
+    ensures { λ r. ⌜ ChapterPromise (now (recording .entry)) start size k i
+        (now (table .entry)) r (now (table .exit)) ⌝ }
 {
     let edition = Step::Nth {
         id: ids::EDITIONENTRY,

@@ -30,7 +30,8 @@ pub enum DisplayReply {
 
 fn display_in(recording: &[u8], table: &[u64], master: Below) -> ChapterDisplay
     requires { ⌜ Readable (now recording) (now table) master ⌝ }
-    ensures { λ r. ⌜ displayValues r ≡ displayOf (now (recording .entry)) (master .parent) (rowsIn (now (table .entry)) master) ⌝ }
+    ensures { λ r. ⌜ displayValues r ≡ displayOf (now (recording .entry))
+        (master .parent) (rowsIn (now (table .entry)) master) ⌝ }
 {
     ChapterDisplay {
         string: part_field(recording, table, master, ids::CHAPSTRING, Kind::Utf8),
@@ -54,7 +55,8 @@ pub fn display_at(
     j: u64,
     table: &mut [u64],
 ) -> DisplayReply
-    ensures { λ r. ⌜ DisplayPromise (now (recording .entry)) start size k i j (now (table .entry)) r (now (table .exit)) ⌝ }
+    ensures { λ r. ⌜ DisplayPromise (now (recording .entry)) start size k i j
+        (now (table .entry)) r (now (table .exit)) ⌝ }
 {
     let edition = Step::Nth {
         id: ids::EDITIONENTRY,

@@ -35,7 +35,8 @@ pub enum EditionReply {
 
 fn edition_in(recording: &[u8], table: &[u64], master: Below) -> ChapterEdition
     requires { ⌜ Readable (now recording) (now table) master ⌝ }
-    ensures { λ r. ⌜ editionValues r ≡ editionOf (now (recording .entry)) (master .parent) (rowsIn (now (table .entry)) master) ⌝ }
+    ensures { λ r. ⌜ editionValues r ≡ editionOf (now (recording .entry))
+        (master .parent) (rowsIn (now (table .entry)) master) ⌝ }
 {
     ChapterEdition {
         uid: number_field(recording, table, master, ids::EDITIONUID),

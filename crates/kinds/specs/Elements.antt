@@ -1,5 +1,5 @@
--- The ids that have a kind of their own (document 01, Kinds; the sets of the crate's src/ebml.rs): one list, rising, 253
--- rows.
+-- The ids that have a kind of their own (document 01, Kinds; the sets of the crate's src/ebml.rs): one list, rising,
+-- 253 rows.
 use Prim.Native.Nat.{ℕ}
 use mathlib.Core.List.{List, [], _∷_}
 use Rattle.kinds.specs.declared.kind.Kind.{Kind}

@@ -1,4 +1,5 @@
-// What a trainee is shown: the text of a row, and the label of a boot stage (document 01, Records).
+// What a trainee is shown (document 01, Records): the text of a row, by the public calls `text_range` and `shown_text`,
+// and the label of a boot stage, by `stage_label`.
 mod label;
 mod shown;
 

@@ -18,6 +18,9 @@ use search::find_part;
 // The most bytes of a recording that is listed.
 const MOST_LISTED: usize = 65536;
 
+// The numbers of the table that the parts are read into: 1,024 rows.
+const TABLE: usize = 7168;
+
 // How many bytes the page has: room for the longest listing.
 pub const PAGE: usize = 524928;
 
@@ -82,6 +85,6 @@ pub fn listing(recording: &[u8], page: &mut [u8; PAGE]) -> usize
     }
     let counted = put_decimal(page, 0, b"recording ", recording.len() as u64);
     let ended = put(page, counted, b"\n");
-    let mut table = [0u64; 7168];
+    let mut table = [0u64; TABLE];
     all_parts(page, ended, recording, &mut table)
 }

@@ -76,8 +76,8 @@ AnswerIsRead =
 -- And of the question for a list member.
 abbrev pub MemberIsRead : Type 0
 MemberIsRead =
-    (values : List Row → ℕ → List Value) (member : List Row → ℕ → Child) (s : List ℕ) (start size parent : ℕ) (t : List ℕ)
-    (first second third : Step) (vs : List Value) (n : ℕ) (t′ : List ℕ)
+    (values : List Row → ℕ → List Value) (member : List Row → ℕ → Child) (s : List ℕ) (start size parent : ℕ)
+    (t : List ℕ) (first second third : Step) (vs : List Value) (n : ℕ) (t′ : List ℕ)
     → RecordPromise values (listed (asked s start size parent (length t) first second third) member) (length t)
     (fields vs n) t′
     → ReadPromise s start size parent t (Rows n) t′

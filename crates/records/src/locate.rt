@@ -98,7 +98,9 @@ pub fn locate(
     third: Step,
     table: &mut [u64],
 ) -> Located
-    ensures { λ r. ⌜ LocatePromise (now (recording .entry)) (asked (now (recording .entry)) start size parent (length (now (table .entry))) first second third) (length (now (table .entry))) r (now (table .exit)) ⌝ }
+    ensures { λ r. ⌜ LocatePromise (now (recording .entry))
+        (asked (now (recording .entry)) start size parent (length (now (table .entry))) first second third)
+        (length (now (table .entry))) r (now (table .exit)) ⌝ }
 {
     match read(recording, start, size, parent, table) {
         ReadReply::Refused(refusal) => Located::Refused(refusal),

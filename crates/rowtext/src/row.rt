@@ -60,7 +60,8 @@ fn row_line(page: &mut [u8], held: usize, row: Row) -> usize
 pub fn row_lines(page: &mut [u8], held: usize, table: &[u64], rows: usize) -> usize
     requires { ⌜ rows ≤ length (now table) / width ⌝ }
     requires { ⌜ held + rows * lineRoom ≤ length (now page) ⌝ }
-    ensures { λ r. ⌜ Wrote (now (page .entry)) held (rowLines (rowsOf (now (table .entry)) rows)) r (now (page .exit)) ⌝ }
+    ensures { λ r. ⌜ Wrote (now (page .entry)) held (rowLines (rowsOf
+        (now (table .entry)) rows)) r (now (page .exit)) ⌝ }
     ensures { λ r. ⌜ r ≤ held + rows * lineRoom ⌝ }
 {
     let mut end = held;

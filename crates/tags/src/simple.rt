@@ -36,7 +36,8 @@ pub enum SimpleReply {
 
 fn simple_in(recording: &[u8], table: &[u64], master: Below) -> SimpleTag
     requires { ⌜ Readable (now recording) (now table) master ⌝ }
-    ensures { λ r. ⌜ simpleValues r ≡ simpleOf (now (recording .entry)) (master .parent) (rowsIn (now (table .entry)) master) ⌝ }
+    ensures { λ r. ⌜ simpleValues r ≡ simpleOf (now (recording .entry))
+        (master .parent) (rowsIn (now (table .entry)) master) ⌝ }
 {
     SimpleTag {
         name: part_field(recording, table, master, ids::TAGNAME, Kind::Utf8),
@@ -61,7 +62,8 @@ pub fn simple_tag_at(
     i: u64,
     table: &mut [u64],
 ) -> SimpleReply
-    ensures { λ r. ⌜ SimplePromise (now (recording .entry)) start size k i (now (table .entry)) r (now (table .exit)) ⌝ }
+    ensures { λ r. ⌜ SimplePromise (now (recording .entry)) start size k i
+        (now (table .entry)) r (now (table .exit)) ⌝ }
 {
     let tag = Step::Nth { id: ids::TAG, k };
     let simple = Step::Nth {

@@ -52,7 +52,8 @@ pub enum TagReply {
 
 fn target_in(recording: &[u8], table: &[u64], master: Below) -> Target
     requires { ⌜ Readable (now recording) (now table) master ⌝ }
-    ensures { λ r. ⌜ targetValues r ≡ targetOf (now (recording .entry)) (master .parent) (rowsIn (now (table .entry)) master) ⌝ }
+    ensures { λ r. ⌜ targetValues r ≡ targetOf (now (recording .entry))
+        (master .parent) (rowsIn (now (table .entry)) master) ⌝ }
 {
     Target {
         target_type_value: number_field(recording, table, master, ids::TARGETTYPEVALUE),
@@ -67,7 +68,8 @@ fn target_in(recording: &[u8], table: &[u64], master: Below) -> Target
 // The last Targets alone counts.
 fn targets_in(recording: &[u8], table: &[u64], rows: usize, master: Below) -> Targets
     requires { ⌜ Stands (now recording) (now table) rows master ⌝ }
-    ensures { λ r. ⌜ targetsValues r ≡ targetsOf (now (recording .entry)) (rowsOf (now (table .entry)) rows) (master .parent) ⌝ }
+    ensures { λ r. ⌜ targetsValues r ≡ targetsOf (now (recording .entry)) (rowsOf
+        (now (table .entry)) rows) (master .parent) ⌝ }
 {
     match last_child(table, master, ids::TARGETS, Kind::Master) {
         Child::Absent => Targets::Unset,
@@ -80,7 +82,8 @@ fn targets_in(recording: &[u8], table: &[u64], rows: usize, master: Below) -> Ta
 
 fn tag_in(recording: &[u8], table: &[u64], rows: usize, master: Below) -> Tag
     requires { ⌜ Stands (now recording) (now table) rows master ⌝ }
-    ensures { λ r. ⌜ tagValues r ≡ tagOf (now (recording .entry)) (rowsOf (now (table .entry)) rows) (master .parent) ⌝ }
+    ensures { λ r. ⌜ tagValues r ≡ tagOf (now (recording .entry)) (rowsOf
+        (now (table .entry)) rows) (master .parent) ⌝ }
 {
     Tag {
         targets: targets_in(recording, table, rows, master),

@@ -49,7 +49,8 @@ pub fn uid_at(
     i: u64,
     table: &mut [u64],
 ) -> UidReply
-    ensures { λ r. ⌜ UidPromise (now (recording .entry)) start size k list i (now (table .entry)) r (now (table .exit)) ⌝ }
+    ensures { λ r. ⌜ UidPromise (now (recording .entry)) start size k list i
+        (now (table .entry)) r (now (table .exit)) ⌝ }
 {
     let tag = Step::Nth { id: ids::TAG, k };
     let targets = Step::Last(ids::TARGETS);

@@ -1,5 +1,5 @@
--- What the question for the settings of an audio track promises of its reply and of the table, and what a track's type is
--- promised to be.
+-- What the question for the settings of an audio track promises of its reply and of the table, and what is promised
+-- of a track's type.
 use Prim.Native.Nat.{ℕ}
 use mathlib.Core.Path.{_≡_}
 use mathlib.Core.List.{List}

@@ -31,7 +31,8 @@ pub enum AudioReply {
 
 fn audio_in(recording: &[u8], table: &[u64], master: Below) -> Audio
     requires { ⌜ Readable (now recording) (now table) master ⌝ }
-    ensures { λ r. ⌜ audioValues r ≡ audioOf (now (recording .entry)) (master .parent) (rowsIn (now (table .entry)) master) ⌝ }
+    ensures { λ r. ⌜ audioValues r ≡ audioOf (now (recording .entry))
+        (master .parent) (rowsIn (now (table .entry)) master) ⌝ }
 {
     Audio {
         sample_rate: real_field(recording, table, master, ids::SAMPLINGFREQUENCY),

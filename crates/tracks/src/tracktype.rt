@@ -13,7 +13,7 @@ pub enum Tracktype {
 }
 
 impl Tracktype {
-    // Any other number is Unknown.
+    // The type with this number; any other number is Unknown.
     pub fn new(number: u64) -> Tracktype
         ensures { λ r. ⌜ TracktypePromise number r ⌝ }
     {
