@@ -14,13 +14,19 @@ pub fn question(_seed: u64, j: u64, random: &mut Random) -> Vec<u8> {
         18 => anything(random),
         _ => good(random),
     };
+    let row = row(&asked, random);
+    line("payload", j, &asked, row, random)
+}
+
+/// The line of a question about a row: of 20 the last is broken.
+pub fn line(word: &str, j: u64, asked: &Asked, row: u64, random: &mut Random) -> Vec<u8> {
     let words = [
-        "payload",
+        word,
         &asked.start.to_string(),
         &asked.size.to_string(),
         &format!("{:X}", asked.parent),
         &asked.numbers.to_string(),
-        &row(&asked, random).to_string(),
+        &row.to_string(),
         &hex(&asked.bytes),
     ];
     if j % 20 < 19 {

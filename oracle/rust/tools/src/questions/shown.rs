@@ -2,10 +2,9 @@
 //! trees of every shape, other kinds of rows, unused ones and those not in the table.
 
 use crate::asked::{anything, damage, damaged, elsewhere, good, planted, Asked};
-use crate::broken::{self, Sort};
 use crate::kind::parent;
 use crate::payload;
-use crate::random::{hex, Random};
+use crate::random::Random;
 use crate::tree::{bad_body, forest, wide, Body, Node};
 use crate::utf8;
 use tools::ids::{kind, STRING, STRING_KIND, UTF8, UTF8_KIND};
@@ -26,21 +25,8 @@ pub fn question(_seed: u64, j: u64, random: &mut Random) -> Vec<u8> {
         18 => anything(random),
         _ => texts(random),
     };
-    let words = [
-        "shown",
-        &asked.start.to_string(),
-        &asked.size.to_string(),
-        &format!("{:X}", asked.parent),
-        &asked.numbers.to_string(),
-        &row(&asked, random).to_string(),
-        &hex(&asked.bytes),
-    ];
-    if j % 20 < 19 {
-        return words.join(" ").into_bytes();
-    }
-    use Sort::{Count, Id, Number, Recording};
-    let sorts = [Number, Number, Id, Count, Number, Recording];
-    broken::broken(&words, &sorts, random)
+    let row = row(&asked, random);
+    payload::line("shown", j, &asked, row, random)
 }
 
 /// A tree with one to three texts put into it.
