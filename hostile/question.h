@@ -120,9 +120,12 @@ static lent lend_for(size_t numbers, bool front) {
 
 // ---- Time ----
 
-// The bounds. The README tells how they were found; an instrumented archive has a larger TIME_BYTE.
+// The bounds. The README tells how they were found; an instrumented archive has larger ones for
+// time.
 #define LEAST_TIME UINT64_C(20000) // nanoseconds of any call
-#define TIME_NUMBER UINT64_C(10)   // and for each number of the table
+#ifndef TIME_NUMBER
+#define TIME_NUMBER UINT64_C(10) // and for each number of the table
+#endif
 #ifndef TIME_BYTE
 #define TIME_BYTE UINT64_C(120) // and for each byte
 #endif
