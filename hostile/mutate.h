@@ -3,18 +3,10 @@
 #ifndef HOSTILE_MUTATE_H
 #define HOSTILE_MUTATE_H
 
+#include "../viewer/chance.h"
 #include "trees.h"
 
 // ---- Chance ----
-
-static uint64_t chance = 1;
-
-static uint64_t any(uint64_t below) {
-    chance ^= chance >> 12;
-    chance ^= chance << 25;
-    chance ^= chance >> 27;
-    return (chance * UINT64_C(0x2545F4914F6CDD1D) >> 32) % below;
-}
 
 // Mostly small, at times near an edge of 64 bits.
 static uint64_t any_number(void) {

@@ -9,6 +9,7 @@
 //
 // Prints what is wrong, and last 'faces: N checks, 0 wrong'. Status 1 if anything is wrong.
 #define _DEFAULT_SOURCE
+#include "chance.h"
 #include "replies.h"
 
 #include <inttypes.h>
@@ -690,16 +691,6 @@ static void test_longest(void) {
 }
 
 // ---- Damage ----
-
-// A generator of our own, so that every machine damages alike (xorshift64*).
-static uint64_t state = 1;
-
-static uint64_t any(uint64_t below) {
-    state ^= state >> 12;
-    state ^= state << 25;
-    state ^= state >> 27;
-    return (state * UINT64_C(0x2545F4914F6CDD1D) >> 32) % below;
-}
 
 // Changes up to four bytes, and cuts one copy in four short.
 static size_t damage(uint8_t *bytes, size_t length) {
