@@ -1,5 +1,6 @@
 -- The laws that the proofs of `records` and of the crates above share, and its theorems.
 pub mod Ways
+pub mod Inner
 pub mod Lists
 pub mod Settled
 pub mod Unique

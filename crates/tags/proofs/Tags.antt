@@ -1,9 +1,8 @@
 -- A tag: its Targets, and the members of their uid lists. Assumes nothing.
-use Prim.Native.Nat.{ℕ, suc, _+_, _≤_}
-use mathlib.Core.Path.{_≡_, sym, ap, _∙_, subst}
+use Prim.Native.Nat.{ℕ, _+_}
+use mathlib.Core.Path.{_≡_, sym, ap, _∙_}
 use mathlib.Core.List.{List, [], _∷_, _++_}
 use mathlib.Core.Bool.{true, false}
-use native.Mathlib.Omega.{arith}
 use lib.ListN.{length}
 use Rattle.header.specs.Refusals.{noRecord}
 use Rattle.header.specs.declared.refusal.Refusal.{Refusal}
@@ -13,7 +12,7 @@ use Rattle.elements.specs.Promise.{zeros}
 use Rattle.elements.specs.declared.row.Row.{Row}
 use Rattle.elements.proofs.Numbered.{length-rows-of}
 use Rattle.elements.proofs.Whole.{zeros-as}
-use Rattle.fields.specs.Children.{subtree, children, lastOf, nthOf, rowsIn}
+use Rattle.fields.specs.Children.{children, nthOf, rowsIn}
 use Rattle.fields.specs.Contract.{BelowIs}
 use Rattle.fields.specs.Values.{Value, number, flag, count, uintIn, numberIn}
 use Rattle.fields.specs.Fields.{countOf}
@@ -25,7 +24,7 @@ use Rattle.records.specs.Told.{fields, refuses}
 use Rattle.records.specs.Contract.{Stands, LocatePromise}
 use Rattle.records.specs.Promise.{answerOf, RecordPromise}
 use Rattle.records.specs.declared.locate.Located.the-variants.{At, Refused}
-use Rattle.records.proofs.Ways.{last-known}
+use Rattle.records.proofs.Inner.{lastInner, inner-is, inner-fields}
 use Rattle.tags.specs.Records.{targetOf, targetsIn, targetsOf, tagOf, memberId, memberOf, uidOf}
 use Rattle.tags.specs.Told.{targetValues, targetsValues}
 use Rattle.tags.specs.declared.tag.Target.{Target}
@@ -35,48 +34,21 @@ use Rattle.tags.specs.declared.uid.UidList.{UidList}
 module _ (s t : List ℕ) (rows : ℕ) (b : Below) (h : Stands s t rows b) where
   -- ---- the last Targets
 
-  abbrev last : Child
-  last = lastOf (children (b .parent) 0x63C0 Master (rowsIn t b))
-
-  pub targets-known : (n : ℕ) (r : Row) → ChildAt n r ≡ last → n + 1 ≤ rows
-  targets-known n r e =
-      let c = length-rows-of t rows in
-      let l : b .parent ≤ length (rowsOf t rows) = omega (arith, h .below .some, h .below .held) in
-      let k = last-known (rowsOf t rows) (b .parent) 0x63C0 Master l n r
-      (e ∙ ap (λ (x : List Row). lastOf (children (b .parent) 0x63C0 Master x)) (h .below .are)) in
-      omega arith
-
-  -- Its own rows stand among those that were read.
-  pub inner-stands : (n : ℕ) (inner : Below) → BelowIs t rows n inner → Stands s t rows inner
-  inner-stands n inner m =
-      record {
-        held = h .held;
-        short = h .short;
-        sound = h .sound;
-        below = subst (λ (x : ℕ). BelowIs t rows x inner) (sym (m .master)) m;
-      }
-
-  targets-by : (c : Child) → c ≡ last
+  targets-by : (c : Child) → c ≡ lastInner s t rows b h 0x63C0
       → targetsIn s (rowsOf t rows) (b .parent) c ≡ targetsOf s (rowsOf t rows) (b .parent)
   unfolding targetsOf
-  targets-by c e =
-      ap (targetsIn s (rowsOf t rows) (b .parent))
-      (e ∙ ap (λ (x : List Row). lastOf (children (b .parent) 0x63C0 Master x)) (h .below .are))
+  targets-by c e = ap (targetsIn s (rowsOf t rows) (b .parent)) (inner-is s t rows b h 0x63C0 c e)
 
-  pub no-targets : NoChild ≡ last → flag false ∷ [] ≡ targetsOf s (rowsOf t rows) (b .parent)
+  pub no-targets : NoChild ≡ lastInner s t rows b h 0x63C0
+      → flag false ∷ [] ≡ targetsOf s (rowsOf t rows) (b .parent)
   no-targets e = targets-by NoChild e
 
   pub are-targets :
-      (n : ℕ) (r : Row) (inner : Below) (x : Target) → ChildAt n r ≡ last → BelowIs t rows (n + 1) inner
-      → targetValues x ≡ targetOf s (inner .parent) (rowsIn t inner)
+      (n : ℕ) (r : Row) (inner : Below) (x : Target) → ChildAt n r ≡ lastInner s t rows b h 0x63C0
+      → BelowIs t rows (n + 1) inner → targetValues x ≡ targetOf s (inner .parent) (rowsIn t inner)
       → flag true ∷ targetValues x ≡ targetsOf s (rowsOf t rows) (b .parent)
   are-targets n r inner x e m q =
-      let k : n + 1 ≡ suc n = omega arith in
-      ap (λ (v : List Value). flag true ∷ v)
-      (q
-      ∙ ap (λ (y : ℕ). targetOf s y (rowsIn t inner)) (m .master)
-      ∙ ap (targetOf s (n + 1)) (m .are)
-      ∙ ap (λ (y : ℕ). targetOf s y (subtree (rowsOf t rows) y)) k)
+      ap (λ (v : List Value). flag true ∷ v) (inner-fields s t rows b h (targetOf s) (targetValues x) n inner m q)
       ∙ targets-by (ChildAt n r) e
 
   pub tag-is :

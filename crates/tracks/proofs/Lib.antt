@@ -1,4 +1,5 @@
--- The theorems of `tracks`.
+-- The laws that the proofs of `tracks` share, and its theorems.
+pub mod Said
 pub mod Unique
 pub mod Addressed
 pub mod Cases

@@ -1,24 +1,86 @@
 -- Any two replies and tables that a promise permits to one question are equal. Assumes nothing.
-use Prim.Native.Nat.{ℕ}
-use mathlib.Core.Path.{_≡_, ap, sym, _∙_}
+use Prim.Native.Nat.{ℕ, zero, suc}
+use mathlib.Core.Path.{_≡_, refl, ap, sym, _∙_}
+use mathlib.Core.List.{List, [], _∷_}
 use native.Mathlib.Omega.{arith}
 use Rattle.fields.specs.declared.field.Number.{Number}
+use Rattle.fields.specs.declared.field.Flag.{Flag}
 use Rattle.fields.specs.declared.field.Real.{Real}
-use Rattle.fields.proofs.Once.{number-once, real-once}
+use Rattle.fields.proofs.Once.{number-once, flag-once, real-once}
 use Rattle.records.specs.Promise.{ofBelow}
 use Rattle.records.proofs.Lists.{first, rest}
 use Rattle.records.proofs.Unique.{same-refused, one-answer}
 use Rattle.tracks.specs.Records.{audioOf}
-use Rattle.tracks.specs.Told.{audioValues, audioTold}
+use Rattle.tracks.specs.Told.{stereoNumber, stereoTold, audioValues, videoValues, audioTold}
 use Rattle.tracks.specs.Promise.{audioAsked}
 use Rattle.tracks.specs.Theorems.{OneAudio, OneTracktype}
 use Rattle.tracks.specs.declared.audio.Audio.{Audio}
 use Rattle.tracks.specs.declared.audio.AudioReply.{AudioReply}
 use Rattle.tracks.specs.declared.audio.AudioReply.the-variants.{Audio as IsAudio, Refused as NoAudio}
+use Rattle.tracks.specs.declared.stereo.EyeOrder.the-variants.{LeftFirst, RightFirst}
+use Rattle.tracks.specs.declared.stereo.StereoColors.the-variants.{CyanRed, GreenMagenta}
+use Rattle.tracks.specs.declared.stereo.StereoMode.{StereoMode}
+use Rattle.tracks.specs.declared.stereo.StereoMode.the-variants.{Mono, SideBySide, TopBottom, Checkboard}
+use Rattle.tracks.specs.declared.stereo.StereoMode.the-variants.{RowInterleaved, ColumnInterleaved}
+use Rattle.tracks.specs.declared.stereo.StereoMode.the-variants.{Anaglyph, Interlaced}
+use Rattle.tracks.specs.declared.stereo.Stereo.{Stereo}
+use Rattle.tracks.specs.declared.stereo.Stereo.the-variants.{Unset, Is}
+use Rattle.tracks.specs.declared.video.Video.{Video}
+
+-- ---- a stereo mode has a number of its own
+
+abbrev modes : List StereoMode
+modes =
+    Mono
+    ∷ SideBySide LeftFirst
+    ∷ TopBottom RightFirst
+    ∷ TopBottom LeftFirst
+    ∷ Checkboard RightFirst
+    ∷ Checkboard LeftFirst
+    ∷ RowInterleaved RightFirst
+    ∷ RowInterleaved LeftFirst
+    ∷ ColumnInterleaved RightFirst
+    ∷ ColumnInterleaved LeftFirst
+    ∷ Anaglyph CyanRed
+    ∷ SideBySide RightFirst
+    ∷ Anaglyph GreenMagenta
+    ∷ Interlaced LeftFirst
+    ∷ Interlaced RightFirst
+    ∷ []
+
+abbrev mode : List StereoMode → ℕ → StereoMode
+mode [] n = Mono
+mode (m ∷ ms) zero = m
+mode (m ∷ ms) (suc n) = mode ms n
+
+mode-back : (m : StereoMode) → mode modes (stereoNumber m) ≡ m
+mode-back Mono = refl
+mode-back (SideBySide LeftFirst) = refl
+mode-back (SideBySide RightFirst) = refl
+mode-back (TopBottom LeftFirst) = refl
+mode-back (TopBottom RightFirst) = refl
+mode-back (Checkboard LeftFirst) = refl
+mode-back (Checkboard RightFirst) = refl
+mode-back (RowInterleaved LeftFirst) = refl
+mode-back (RowInterleaved RightFirst) = refl
+mode-back (ColumnInterleaved LeftFirst) = refl
+mode-back (ColumnInterleaved RightFirst) = refl
+mode-back (Anaglyph CyanRed) = refl
+mode-back (Anaglyph GreenMagenta) = refl
+mode-back (Interlaced LeftFirst) = refl
+mode-back (Interlaced RightFirst) = refl
+
+stereo-once : (x y : Stereo) → stereoTold x ≡ stereoTold y → x ≡ y
+stereo-once Unset Unset q = refl
+stereo-once Unset (Is m) q = let z : _≡_ {A = ℕ} 0 1 = cc in absurd (omega arith)
+stereo-once (Is m) Unset q = let z : _≡_ {A = ℕ} 0 1 = cc in absurd (omega arith)
+stereo-once (Is m) (Is n) q =
+    let e : stereoNumber m ≡ stereoNumber n = cc in
+    ap Is (sym (mode-back m) ∙ ap (mode modes) e ∙ mode-back n)
 
 -- ---- the fields tell the record
 
-audio-once : (a b : Audio) → audioValues a ≡ audioValues b → a ≡ b
+pub audio-once : (a b : Audio) → audioValues a ≡ audioValues b → a ≡ b
 audio-once a b q =
     same
     (real-once (a .«sample_rate») (b .«sample_rate») (first q))
@@ -30,6 +92,39 @@ audio-once a b q =
         → _≡_ {A = Audio} (record { «sample_rate» = x0; channels = x1; «bit_depth» = x2 })
         (record { «sample_rate» = y0; channels = y1; «bit_depth» = y2 })
     same {x0} {y0} {x1} {y1} {x2} {y2} e0 e1 e2 = rw (e0, e1, e2)
+
+pub video-once : (a b : Video) → videoValues a ≡ videoValues b → a ≡ b
+video-once a b q0 =
+    let q1 = rest q0 in
+    let q2 = rest q1 in
+    let q3 = rest q2 in
+    let q4 = rest q3 in
+    let q5 = rest q4 in
+    same
+    (number-once (a .«pixel_width») (b .«pixel_width») (first q0))
+    (number-once (a .«pixel_height») (b .«pixel_height») (first q1))
+    (number-once (a .«display_width») (b .«display_width») (first q2))
+    (number-once (a .«display_height») (b .«display_height») (first q3))
+    (flag-once (a .interlaced) (b .interlaced) (first q4))
+    (stereo-once (a .stereo) (b .stereo) (first q5))
+    (real-once (a .gamma) (b .gamma) (first (rest q5)))
+  where
+    of : Number → Number → Number → Number → Flag → Stereo → Real → Video
+    of x0 x1 x2 x3 x4 x5 x6 =
+        record {
+          «pixel_width» = x0;
+          «pixel_height» = x1;
+          «display_width» = x2;
+          «display_height» = x3;
+          interlaced = x4;
+          stereo = x5;
+          gamma = x6;
+        }
+
+    same : {x0 y0 x1 y1 x2 y2 x3 y3 : Number} {x4 y4 : Flag} {x5 y5 : Stereo} {x6 y6 : Real}
+        → x0 ≡ y0 → x1 ≡ y1 → x2 ≡ y2 → x3 ≡ y3 → x4 ≡ y4 → x5 ≡ y5 → x6 ≡ y6
+        → of x0 x1 x2 x3 x4 x5 x6 ≡ of y0 y1 y2 y3 y4 y5 y6
+    same e0 e1 e2 e3 e4 e5 e6 = rw (e0, e1, e2, e3, e4, e5, e6)
 
 -- ---- document 01's values tell the reply
 

@@ -29,7 +29,7 @@ pub enum AudioReply {
     Refused(Refusal),
 }
 
-fn audio_in(recording: &[u8], table: &[u64], master: Below) -> Audio
+pub fn audio_in(recording: &[u8], table: &[u64], master: Below) -> Audio
     requires { ⌜ Readable (now recording) (now table) master ⌝ }
     ensures { λ r. ⌜ audioValues r ≡ audioOf (now (recording .entry))
         (master .parent) (rowsIn (now (table .entry)) master) ⌝ }

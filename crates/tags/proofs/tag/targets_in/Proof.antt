@@ -2,7 +2,8 @@
 use mathlib.Core.Path.{sym, _∙_}
 use native.Mathlib.Omega.{arith}
 use Rattle.records.proofs.Ways.{readable}
-use Rattle.tags.proofs.Tags.{targets-known, inner-stands, no-targets, are-targets}
+use Rattle.records.proofs.Inner.{inner-known, inner-stands}
+use Rattle.tags.proofs.Tags.{no-targets, are-targets}
 use borrow.Author.Needs.{needs}
 use Rattle.tags.proofs.tag.targets_in.Statement.{statement}
 use Rattle.tags.proofs.tag.targets_in.Tie as tie
@@ -23,7 +24,7 @@ add-rows-below c =
     let last-child = c .before .before .before .last-child in
     let a = start .args in
     let k =
-    targets-known (a .recording .now) (a .table .now) (a .rows) (a .master) (start .pre) (number .given .0 .0)
+    inner-known (a .recording .now) (a .table .now) (a .rows) (a .master) (start .pre) 0x63C0 (number .given .0 .0)
     (number .given .0 .1 .0) (sym (number .given .1) ∙ last-child .ensures) in
     omega (arith, k, start .fits .rows)
 
@@ -32,7 +33,7 @@ rows-below-requires c κs =
     let start = c .before .before .before .before .before .before in
     let last-child = c .before .before .before .last-child in (
       start .pre .held,
-      targets-known _ _ _ _ (start .pre) _ _ (sym (c .before .number .given .1) ∙ last-child .ensures),
+      inner-known _ _ _ _ (start .pre) _ _ _ (sym (c .before .number .given .1) ∙ last-child .ensures),
     )
 
 target-in-requires : tie.Need-target-in-requires

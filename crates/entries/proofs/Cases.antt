@@ -1,0 +1,40 @@
+-- The worked tracks hold. Assumes nothing.
+use mathlib.Core.Path.{refl}
+use lib.ListN.{drop}
+use lib.Ieee.{ofBits}
+use Rattle.header.specs.Vint.{octetBits, bits, oneMore, widthOf, bigEndianFrom, bigEndian, ofWidth, vintOf}
+use Rattle.header.specs.Header.{sized, named, headerOf}
+use Rattle.header.specs.Reads.{headerRead, headerAt}
+use Rattle.kinds.specs.Elements.{elements}
+use Rattle.kinds.specs.Kinds.{kindIn, keeps, demoted, kindUnder, member}
+use Rattle.utf8.specs.Utf8.{utf8Char, behind, anyOf, goesOn, utf8}
+use Rattle.bodies.specs.Bodies.{bodyOf}
+use Rattle.bodies.specs.Numbers.{floatOf}
+use Rattle.elements.specs.Forest.{span, count, join}
+use Rattle.elements.specs.Reading.{refuseIf, full, siblings, element, masterBody}
+use Rattle.elements.specs.Rows.{rows}
+use Rattle.elements.specs.Promise.{isTable, allowed, filled, readOf}
+use Rattle.elements.specs.Theorems.{nth}
+use Rattle.fields.specs.Children.{deeper, subtree, fits, childrenFrom, lastFrom, nthOf}
+use Rattle.fields.specs.Fields.{numberOf, flagOf, partOf, languageOf, realOf}
+use Rattle.records.specs.Steps.{reached}
+use Rattle.records.specs.Asked.{asked}
+use Rattle.records.specs.Cases.{Hold}
+use Rattle.tracks.specs.Said.{saidOf}
+use Rattle.tracks.specs.Video.{stereo}
+use Rattle.tracks.specs.Records.{audioOf, videoOf}
+use Rattle.tracks.specs.Tracktypes.{typeIn}
+use Rattle.entries.specs.Typed.{typed}
+use Rattle.entries.specs.Settings.{settingsOf}
+use Rattle.entries.specs.Records.{entryOf, trackOf}
+use Rattle.entries.specs.Cases.{cases}
+
+pub cases-hold : Hold cases
+unfolding octetBits bits oneMore widthOf bigEndianFrom bigEndian ofWidth vintOf sized named headerOf headerRead
+    headerAt elements kindIn keeps demoted kindUnder member utf8Char behind anyOf goesOn utf8 bodyOf floatOf ofBits
+    span count join refuseIf full siblings element masterBody rows isTable allowed filled readOf nth
+    deeper subtree fits childrenFrom lastFrom nthOf numberOf flagOf partOf languageOf realOf
+    reached asked saidOf stereo audioOf videoOf typeIn typed settingsOf entryOf trackOf
+cases-hold =
+    let later : Hold (drop 5 cases) = (refl, (refl, (refl, (refl, (refl, tt))))) in
+    (refl, (refl, (refl, (refl, (refl, later)))))

@@ -1,0 +1,134 @@
+-- `settings_in` meets its contract: the master that decides, with the rows below it. Assumes nothing.
+use mathlib.Core.Path.{sym, _∙_}
+use native.Mathlib.Omega.{arith}
+use Rattle.records.proofs.Ways.{readable}
+use Rattle.records.proofs.Inner.{inner-stands}
+use Rattle.entries.proofs.Decided.{video-known, audio-known, no-settings, video-settings, audio-settings}
+use borrow.Author.Needs.{needs}
+use Rattle.entries.proofs.settings.settings_in.Statement.{statement}
+use Rattle.entries.proofs.settings.settings_in.Tie as tie
+
+last-child-requires : tie.Need-last-child-requires
+last-child-requires c κs = search needs
+
+last-child-requires-2 : tie.Need-last-child-requires-2
+last-child-requires-2 c κs = search needs
+
+later-requires : tie.Need-later-requires
+later-requires c κs = search needs
+
+enum-told : tie.Need-enum-told
+enum-told c = search needs
+
+enum-known-number : tie.Need-enum-known-number
+enum-known-number c = search needs
+
+add-rows-below : tie.Need-add-rows-below
+add-rows-below c =
+    let start = c .before .before .before .before .before .before .before .before in
+    let later = c .before .before .before .later in
+    let last-child2 = c .before .before .before .before .last-child2 in
+    let last-child = c .before .before .before .before .before .last-child in
+    let number = c .before .number in
+    let k =
+    video-known _ _ _ _ (start .pre) _ _ (last-child .ensures) (last-child2 .ensures) (number .given .0 .0)
+    (sym (number .given .1) ∙ later .ensures) in
+    omega (arith, k, start .fits .rows)
+
+rows-below-requires : tie.Need-rows-below-requires
+rows-below-requires c κs =
+    let start = c .before .before .before .before .before .before .before .before in
+    let later = c .before .before .before .later in
+    let last-child2 = c .before .before .before .before .last-child2 in
+    let last-child = c .before .before .before .before .before .last-child in
+    let number = c .before .number in (
+      start .pre .held,
+      video-known _ _ _ _ (start .pre) _ _ (last-child .ensures) (last-child2 .ensures) _
+          (sym (number .given .1) ∙ later .ensures),
+    )
+
+video-in-requires : tie.Need-video-in-requires
+video-in-requires c κs =
+    let start = c .before .before .before .before .before .before .before .before .before in
+    readable _ _ _ _ (inner-stands _ _ _ _ (start .pre) _ _ (c .rows-below .ensures))
+
+enum-known-number-2 : tie.Need-enum-known-number-2
+enum-known-number-2 c = search needs
+
+add-rows-below-2 : tie.Need-add-rows-below-2
+add-rows-below-2 c =
+    let start = c .before .before .before .before .before .before .before .before in
+    let later = c .before .before .before .later in
+    let last-child2 = c .before .before .before .before .last-child2 in
+    let last-child = c .before .before .before .before .before .last-child in
+    let number = c .before .number2 in
+    let k =
+    audio-known _ _ _ _ (start .pre) _ _ (last-child .ensures) (last-child2 .ensures) (number .given .0 .0)
+    (sym (number .given .1) ∙ later .ensures) in
+    omega (arith, k, start .fits .rows)
+
+rows-below-requires-2 : tie.Need-rows-below-requires-2
+rows-below-requires-2 c κs =
+    let start = c .before .before .before .before .before .before .before .before in
+    let later = c .before .before .before .later in
+    let last-child2 = c .before .before .before .before .last-child2 in
+    let last-child = c .before .before .before .before .before .last-child in
+    let number = c .before .number2 in (
+      start .pre .held,
+      audio-known _ _ _ _ (start .pre) _ _ (last-child .ensures) (last-child2 .ensures) _
+          (sym (number .given .1) ∙ later .ensures),
+    )
+
+audio-in-requires : tie.Need-audio-in-requires
+audio-in-requires c κs =
+    let start = c .before .before .before .before .before .before .before .before .before in
+    readable _ _ _ _ (inner-stands _ _ _ _ (start .pre) _ _ (c .rows-below2 .ensures))
+
+returns : tie.Need-returns
+returns c =
+    let start = c .before .before .before .before .before .before .before in
+    let later = c .before .before .later in
+    let last-child2 = c .before .before .before .last-child2 in
+    let last-child = c .before .before .before .before .last-child in
+    no-settings _ _ _ _ (start .pre) _ _ (last-child .ensures) (last-child2 .ensures)
+    (sym (c .enum-told .given .1) ∙ later .ensures)
+
+returns-2 : tie.Need-returns-2
+returns-2 c =
+    let start = c .before .before .before .before .before .before .before .before .before .before in
+    let later = c .before .before .before .before .before .later in
+    let last-child2 = c .before .before .before .before .before .before .last-child2 in
+    let last-child = c .before .before .before .before .before .before .before .last-child in
+    let number = c .before .before .before .number in
+    video-settings _ _ _ _ (start .pre) _ _ (last-child .ensures) (last-child2 .ensures) _ _
+    (c .before .rows-below .ensures) _ (sym (number .given .1) ∙ later .ensures) (c .video-in .ensures)
+
+returns-3 : tie.Need-returns-3
+returns-3 c =
+    let start = c .before .before .before .before .before .before .before .before .before .before in
+    let later = c .before .before .before .before .before .later in
+    let last-child2 = c .before .before .before .before .before .before .last-child2 in
+    let last-child = c .before .before .before .before .before .before .before .last-child in
+    let number = c .before .before .before .number2 in
+    audio-settings _ _ _ _ (start .pre) _ _ (last-child .ensures) (last-child2 .ensures) _ _
+    (c .before .rows-below2 .ensures) _ (sym (number .given .1) ∙ later .ensures) (c .audio-in .ensures)
+
+pub settings-in-spec : {M : Type 1} → statement M
+settings-in-spec =
+    tie.close
+    (tie.spec
+    last-child-requires
+    last-child-requires-2
+    later-requires
+    enum-told
+    enum-known-number
+    add-rows-below
+    rows-below-requires
+    video-in-requires
+    enum-known-number-2
+    add-rows-below-2
+    rows-below-requires-2
+    audio-in-requires
+    returns
+    returns-2
+    returns-3)

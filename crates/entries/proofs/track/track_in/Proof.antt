@@ -1,0 +1,144 @@
+-- `track_in` meets its contract: field by field. Assumes nothing.
+use mathlib.Core.Path.{refl, _∙_}
+use Rattle.records.proofs.Ways.{readable}
+use Rattle.records.proofs.Lists.{then}
+use Rattle.tracks.proofs.Said.{said-of}
+use Rattle.entries.specs.Typed.{typed}
+use Rattle.entries.specs.Records.{entryOf}
+use Rattle.entries.proofs.Decided.{track-is}
+use borrow.Author.Needs.{needs}
+use Rattle.entries.proofs.track.track_in.Statement.{statement}
+use Rattle.entries.proofs.track.track_in.Tie as tie
+
+number-field-requires : tie.Need-number-field-requires
+number-field-requires c κs =
+    let start = c .before .before in
+    readable _ _ _ _ (start .pre)
+
+number-field-requires-2 : tie.Need-number-field-requires-2
+number-field-requires-2 c κs =
+    let start = c .before .before .before in
+    readable _ _ _ _ (start .pre)
+
+number-field-requires-3 : tie.Need-number-field-requires-3
+number-field-requires-3 c κs =
+    let start = c .before .before .before .before in
+    readable _ _ _ _ (start .pre)
+
+typed-of-requires : tie.Need-typed-of-requires
+typed-of-requires c κs = search needs
+
+flag-field-requires : tie.Need-flag-field-requires
+flag-field-requires c κs =
+    let start = c .before .before .before .before .before .before in
+    readable _ _ _ _ (start .pre)
+
+flag-field-requires-2 : tie.Need-flag-field-requires-2
+flag-field-requires-2 c κs =
+    let start = c .before .before .before .before .before .before .before in
+    readable _ _ _ _ (start .pre)
+
+flag-field-requires-3 : tie.Need-flag-field-requires-3
+flag-field-requires-3 c κs =
+    let start = c .before .before .before .before .before .before .before .before in
+    readable _ _ _ _ (start .pre)
+
+flag-field-requires-4 : tie.Need-flag-field-requires-4
+flag-field-requires-4 c κs =
+    let start = c .before .before .before .before .before .before .before .before .before in
+    readable _ _ _ _ (start .pre)
+
+number-field-requires-4 : tie.Need-number-field-requires-4
+number-field-requires-4 c κs =
+    let start = c .before .before .before .before .before .before .before .before .before .before in
+    readable _ _ _ _ (start .pre)
+
+part-field-requires : tie.Need-part-field-requires
+part-field-requires c κs =
+    let start = c .before .before .before .before .before .before .before .before .before .before .before in
+    readable _ _ _ _ (start .pre)
+
+language-field-requires : tie.Need-language-field-requires
+language-field-requires c κs =
+    let start = c .before .before .before .before .before .before .before .before .before .before .before .before in
+    readable _ _ _ _ (start .pre)
+
+part-field-requires-2 : tie.Need-part-field-requires-2
+part-field-requires-2 c κs =
+    let start = c .before .before .before .before .before .before .before .before .before .before .before .before .before in
+    readable _ _ _ _ (start .pre)
+
+part-field-requires-3 : tie.Need-part-field-requires-3
+part-field-requires-3 c κs =
+    let start = c .before .before .before .before .before .before .before .before .before .before .before .before .before .before in
+    readable _ _ _ _ (start .pre)
+
+part-field-requires-4 : tie.Need-part-field-requires-4
+part-field-requires-4 c κs =
+    let start = c .before .before .before .before .before .before .before .before .before .before .before .before .before .before .before in
+    readable _ _ _ _ (start .pre)
+
+settings-in-requires : tie.Need-settings-in-requires
+settings-in-requires c κs =
+    let start = c .before .before .before .before .before .before .before .before .before .before .before .before .before .before .before .before in
+    start .pre
+
+returns : tie.Need-returns
+unfolding entryOf
+returns c =
+    let start = c .before .before .before .before .before .before .before .before .before .before .before .before .before .before .before .before .before in
+    let number-field = c .before .before .before .before .before .before .before .before .before .before .before .before .before .before .number-field in
+    let number-field2 = c .before .before .before .before .before .before .before .before .before .before .before .before .before .number-field2 in
+    let number-field3 = c .before .before .before .before .before .before .before .before .before .before .before .before .number-field3 in
+    let typed-of = c .before .before .before .before .before .before .before .before .before .before .before .typed-of in
+    let flag-field = c .before .before .before .before .before .before .before .before .before .before .flag-field in
+    let flag-field2 = c .before .before .before .before .before .before .before .before .before .flag-field2 in
+    let flag-field3 = c .before .before .before .before .before .before .before .before .flag-field3 in
+    let flag-field4 = c .before .before .before .before .before .before .before .flag-field4 in
+    let number-field4 = c .before .before .before .before .before .before .number-field4 in
+    let part-field = c .before .before .before .before .before .part-field in
+    let language-field = c .before .before .before .before .language-field in
+    let part-field2 = c .before .before .before .part-field2 in
+    let part-field3 = c .before .before .part-field3 in
+    let part-field4 = c .before .part-field4 in
+    track-is _ _ _ _ (start .pre) _ _ (c .settings-in .ensures)
+    (then (number-field .ensures)
+    (then (number-field2 .ensures)
+    (then (typed-of .ensures ∙ said-of typed _ _ _ _ (number-field3 .result) (number-field3 .ensures))
+    (then (flag-field .ensures)
+    (then (flag-field2 .ensures)
+    (then (flag-field3 .ensures)
+    (then refl
+    (then refl
+    (then refl
+    (then refl
+    (then refl
+    (then (flag-field4 .ensures)
+    (then (number-field4 .ensures)
+    (then (part-field .ensures)
+    (then (language-field .ensures)
+    (then (part-field2 .ensures)
+    (then (part-field3 .ensures)
+    (then (part-field4 .ensures)
+    refl))))))))))))))))))
+
+pub track-in-spec : {M : Type 1} → statement M
+track-in-spec =
+    tie.close
+    (tie.spec
+    number-field-requires
+    number-field-requires-2
+    number-field-requires-3
+    typed-of-requires
+    flag-field-requires
+    flag-field-requires-2
+    flag-field-requires-3
+    flag-field-requires-4
+    number-field-requires-4
+    part-field-requires
+    language-field-requires
+    part-field-requires-2
+    part-field-requires-3
+    part-field-requires-4
+    settings-in-requires
+    returns)

@@ -1,0 +1,81 @@
+-- Worked tracks, as one table: a question about a small payload, and the answer. They show the rules of document 01,
+-- Records, and of document 02, C-11.
+use Prim.Native.Nat.{ℕ}
+use mathlib.Core.List.{List, [], _∷_}
+use mathlib.Core.Bool.{true, false}
+use lib.ListN.{length}
+use lib.Ieee.{binary64, ofBits}
+use Rattle.fields.specs.Values.{Value, unset, number, flag, part, ietf, real}
+use Rattle.records.specs.Told.{Answer, fields, refusal}
+use Rattle.records.specs.Promise.{answerOf}
+use Rattle.records.specs.Cases.{Case, case, numbers}
+use Rattle.entries.specs.Records.{trackOf}
+use Rattle.entries.specs.Promise.{trackAsked}
+
+-- The question, of a whole payload: the index, and the answer.
+abbrev track : List ℕ → ℕ → Answer → Case
+track s k a = case (answerOf (trackOf s) (trackAsked s 0 (length s) k numbers)) a
+
+-- A track of which few fields are set.
+abbrev few : (n type enabled name language : Value) → List Value → List Value
+few n type enabled name language settings =
+    n ∷ unset ∷ type ∷ enabled ∷ unset ∷ unset ∷ unset ∷ unset ∷ unset ∷ unset ∷ unset ∷ unset ∷ unset ∷ name
+    ∷ language ∷ unset ∷ unset ∷ unset ∷ settings
+
+abbrev bare : List Value
+bare = few unset unset unset unset unset (unset ∷ [])
+
+-- Video settings: interlaced, stereo mode and gamma.
+abbrev video : (interlaced stereo gamma : Value) → List Value
+video interlaced stereo gamma =
+    number 1 ∷ unset ∷ unset ∷ unset ∷ unset ∷ interlaced ∷ stereo ∷ gamma ∷ []
+
+-- The entries: an empty one, and one with the track number 1 and then 2, type 17, enabled 2 and the name A.
+abbrev twoEntries : List ℕ
+twoEntries =
+    0xAE ∷ 0x80 ∷ 0xAE ∷ 0x90 ∷ 0xD7 ∷ 0x81 ∷ 0x01 ∷ 0xD7 ∷ 0x81 ∷ 0x02 ∷ 0x83 ∷ 0x81 ∷ 0x11 ∷ 0xB9 ∷ 0x81 ∷ 0x02
+    ∷ 0x53 ∷ 0x6E ∷ 0x81 ∷ 0x41 ∷ []
+
+-- Type 4, and an ISO 639 language behind an IETF one.
+abbrev languages : List ℕ
+languages =
+    0xAE ∷ 0x8D ∷ 0x83 ∷ 0x81 ∷ 0x04 ∷ 0x22 ∷ 0xB5 ∷ 0x9D ∷ 0x81 ∷ 0x61 ∷ 0x22 ∷ 0xB5 ∷ 0x9C ∷ 0x81 ∷ 0x62 ∷ []
+
+-- Audio settings with 2 channels, behind and before video settings with interlaced 2, mode 14 and a gamma of 1.0.
+abbrev channels : List ℕ → List ℕ
+channels more = 0xE1 ∷ 0x83 ∷ 0x9F ∷ 0x81 ∷ 0x02 ∷ more
+
+abbrev frames : List ℕ → List ℕ
+frames more =
+    0xE0 ∷ 0x8F ∷ 0x9A ∷ 0x81 ∷ 0x02 ∷ 0x53 ∷ 0xB8 ∷ 0x81 ∷ 0x0E ∷ 0x2F ∷ 0xB5 ∷ 0x23 ∷ 0x84 ∷ 0x3F ∷ 0x80 ∷ 0x00
+    ∷ 0x00 ∷ more
+
+-- Interlaced 0 and mode 15.
+abbrev others : List ℕ
+others = 0xAE ∷ 0x89 ∷ 0xE0 ∷ 0x87 ∷ 0x9A ∷ 0x81 ∷ 0x00 ∷ 0x53 ∷ 0xB8 ∷ 0x81 ∷ 0x0F ∷ []
+
+abbrev pub cases : List Case
+cases =
+    -- An entry without fields has none set.
+    track twoEntries 0 (fields bare 7)
+    -- The last child sets a field; any number but 0 is yes.
+    ∷ track twoEntries 1 (fields (few (number 2) (number 17) (flag true) (part 19 1) unset (unset ∷ [])) 7)
+    ∷ track twoEntries 2 (refusal 15 0)
+    -- Any other number is the type Unknown; an ISO 639 language never replaces an IETF one.
+    ∷ track languages 0 (fields (few unset (number 0) unset unset (ietf 9 1) (unset ∷ [])) 4)
+    -- The last settings count, whichever they are.
+    ∷ track (0xAE ∷ 0x96 ∷ frames (channels [])) 0
+    (fields (few unset unset unset unset unset (number 2 ∷ unset ∷ number 2 ∷ unset ∷ [])) 7)
+    ∷ track (0xAE ∷ 0x96 ∷ channels (frames [])) 0
+    (fields
+    (few unset unset unset unset unset
+    (video (flag false) (number 14) (real (ofBits binary64 0x3FF0000000000000)))) 7)
+    -- Interlaced other than 1 and 2, and a mode over 14, stay unset.
+    ∷ track others 0 (fields (few unset unset unset unset unset (video unset unset unset)) 4)
+    -- The flags 55AB to 55AF stay unset; the row is there.
+    ∷ track (0xAE ∷ 0x84 ∷ 0x55 ∷ 0xAB ∷ 0x81 ∷ 0x01 ∷ []) 0 (fields bare 2)
+    -- The full set of masters holds for the direct children of Tracks: an E0 there has a row below it.
+    ∷ track (0xE0 ∷ 0x83 ∷ 0xB0 ∷ 0x81 ∷ 0x05 ∷ 0xAE ∷ 0x80 ∷ []) 0 (fields bare 3)
+    -- The read's refusals come before 15: here a number of 9 bytes, and no second entry.
+    ∷ track (0xAE ∷ 0x82 ∷ 0xD7 ∷ 0x89 ∷ []) 1 (refusal 4 0)
+    ∷ []

@@ -1,0 +1,53 @@
+-- Document 01's values for the fields of a track.
+use mathlib.Core.List.{List, [], _∷_}
+use Rattle.fields.specs.Values.{Value, unset, number}
+use Rattle.fields.specs.Told.{numberTold, flagTold, partTold, languageTold}
+use Rattle.records.specs.Told.{Answer, fields, refuses}
+use Rattle.tracks.specs.Told.{audioValues, videoValues}
+use Rattle.entries.specs.Typed.{typeNumber}
+use Rattle.entries.specs.declared.typed.Typed.{Typed}
+use Rattle.entries.specs.declared.typed.Typed.the-variants.{Unset, Is}
+use Rattle.entries.specs.declared.settings.Settings.{Settings}
+use Rattle.entries.specs.declared.settings.Settings.the-variants.{None, Video, Audio}
+use Rattle.entries.specs.declared.track.Track.{Track}
+use Rattle.entries.specs.declared.track.TrackReply.{TrackReply}
+use Rattle.entries.specs.declared.track.TrackReply.the-variants.{Track as IsTrack, Refused as NoTrack}
+
+-- ---- the fields of a record
+
+abbrev pub typedTold : Typed → Value
+typedTold Unset = unset
+typedTold (Is type) = number (typeNumber type)
+
+abbrev pub settingsValues : Settings → List Value
+settingsValues None = unset ∷ []
+settingsValues (Video v) = number 1 ∷ videoValues v
+settingsValues (Audio a) = number 2 ∷ audioValues a
+
+abbrev pub trackValues : Track → List Value
+trackValues t =
+    numberTold (t .number)
+    ∷ numberTold (t .uid)
+    ∷ typedTold (t .tracktype)
+    ∷ flagTold (t .enabled)
+    ∷ flagTold (t .default)
+    ∷ flagTold (t .forced)
+    ∷ flagTold (t .«hearing_impaired»)
+    ∷ flagTold (t .«visual_impaired»)
+    ∷ flagTold (t .«text_descriptions»)
+    ∷ flagTold (t .original)
+    ∷ flagTold (t .commentary)
+    ∷ flagTold (t .lacing)
+    ∷ numberTold (t .«default_duration»)
+    ∷ partTold (t .name)
+    ∷ languageTold (t .language)
+    ∷ partTold (t .«codec_id»)
+    ∷ partTold (t .«codec_private»)
+    ∷ partTold (t .«codec_name»)
+    ∷ settingsValues (t .settings)
+
+-- ---- the reply
+
+abbrev pub trackTold : TrackReply → Answer
+trackTold (IsTrack a rows) = fields (trackValues a) rows
+trackTold (NoTrack e) = refuses e

@@ -1,0 +1,12 @@
+// The entries of Tracks (document 02, C-11): which track is which, and its settings.
+//
+// The question takes the place of a Tracks payload, reads it into a lent table and builds the record asked for.
+mod settings;
+mod track;
+mod typed;
+
+pub use settings::Settings;
+pub use track::Track;
+pub use track::TrackReply;
+pub use track::track_at;
+pub use typed::Typed;
