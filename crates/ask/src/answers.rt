@@ -24,6 +24,7 @@ use replies::ask_label::label;
 use replies::ask_shown::shown;
 use replies::ask_simple::simple;
 use replies::ask_tag::tag;
+use replies::ask_track::track;
 use replies::ask_tracktype::tracktype;
 use replies::ask_uid::uid;
 
@@ -48,9 +49,9 @@ fn line_told(
     held: usize,
 ) -> usize {
     let names =
-        b"header kind utf8 body read whose part payload range attachment edition chapter display tag uid simple audio tracktype label shown";
+        b"header kind utf8 body read whose part payload range attachment edition chapter display tag uid simple audio tracktype label shown track";
     let forms =
-        b"ab np b npasb asptb aspdtb ntb asptrb lrb astkb astkb astkib astkijb astkb astkwib astkib astkb k gwb asptrb";
+        b"ab np b npasb asptb aspdtb ntb asptrb lrb astkb astkb astkib astkijb astkb astkwib astkib astkb k gwb asptrb astkb";
     let question = words::place_of(words::word(line, 0), names);
     let asked = asked_of(line, words::word(forms, question), recording, table);
     if !asked.good {
@@ -130,6 +131,7 @@ fn record(
         17 => tracktype(asked, out, held),
         18 => label(asked, words::word(line, 2), recording, out, held),
         19 => shown(asked, recording, table, out, held),
+        20 => track(asked, recording, table, out, held),
         _ => bad(out, held),
     }
 }

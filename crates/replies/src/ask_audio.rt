@@ -26,7 +26,7 @@ pub fn audio(
 }
 
 // `rate F channels N depth N`
-fn fields_told(audio: Audio, out: &mut [u8; 65536], held: usize) -> usize {
+pub fn fields_told(audio: Audio, out: &mut [u8; 65536], held: usize) -> usize {
     let names = b"rate channels depth";
     let rate = audio.sample_rate;
     let channels = audio.channels;

@@ -5,12 +5,13 @@ use questions::asked::Asked;
 use tracks::Tracktype;
 
 pub fn tracktype(asked: Asked, out: &mut [u8; 65536], held: usize) -> usize {
+    name_told(Tracktype::new(asked.k), out, held)
+}
+
+// The type by its name.
+pub fn name_told(tracktype: Tracktype, out: &mut [u8; 65536], held: usize) -> usize {
     let names = b"video audio complex logo subtitle buttons control unknown";
-    out::put(
-        out,
-        held,
-        words::word(names, place_of(Tracktype::new(asked.k))),
-    )
+    out::put(out, held, words::word(names, place_of(tracktype)))
 }
 
 // The place of the type's name in the list.

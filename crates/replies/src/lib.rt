@@ -8,5 +8,6 @@ pub mod ask_label;
 pub mod ask_shown;
 pub mod ask_simple;
 pub mod ask_tag;
+pub mod ask_track;
 pub mod ask_tracktype;
 pub mod ask_uid;
