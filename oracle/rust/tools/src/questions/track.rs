@@ -151,6 +151,9 @@ fn stray(parent: u32, levels: u64, random: &mut Random) -> Node {
             let level = random.one_of(&[TRACK, VIDEO, AUDIO]);
             master(level, levels - 1, random)
         }
+        // What a field is easily taken for.
+        4..=5 if parent == VIDEO => field(OLD_STEREO, random),
+        4..=5 if parent == AUDIO => field(OTHER_RATE, random),
         4 => leaf(parent, random),
         5 => field(unknown_id(random), random),
         _ => field(random.one_of(&OTHERS), random),
