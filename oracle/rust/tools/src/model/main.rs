@@ -54,8 +54,7 @@ fn tell(faults: &[&str]) -> io::Result<()> {
 
 /// The lines of the faults that tracks share with the other records.
 fn shared() -> String {
-    let lines = TABLE.lines().chain(RECORD.lines());
-    let shared = lines.filter(|line| SHARED.iter().any(|name| named(line) == *name));
+    let shared = RECORD.lines().filter(|line| SHARED.contains(&named(line)));
     shared.map(|line| format!("{line}\n")).collect()
 }
 

@@ -146,10 +146,10 @@ impl Table<'_> {
     /// The last video or audio.
     fn settings(&self, track: Master) -> Option<Settings> {
         let fault = self.fault;
-        let deep = fault.is("settings-deep");
-        let rows = match deep {
-            true => self.below(track).into_iter().map(|(row, _)| row).collect(),
-            false => self.children(track),
+        let rows = if fault.is("settings-deep") {
+            self.below(track).into_iter().map(|(row, _)| row).collect()
+        } else {
+            self.children(track)
         };
         let masters = rows.into_iter().map(|row| Master { row: Some(row) });
         let mut all: Vec<(Master, bool)> = masters
@@ -215,9 +215,10 @@ impl Table<'_> {
         let kept = |id: u32, name: &str, means: fn(u64) -> bool| {
             let rows = self.children(masters[0]).into_iter();
             let mut rows = rows.filter(|row| self.id(*row) == id && means(self.number(*row)));
-            match fault.is(name) {
-                true => rows.next_back(),
-                false => field(id),
+            if fault.is(name) {
+                rows.next_back()
+            } else {
+                field(id)
             }
         };
         let interlaced = kept(VIDEO_INTERLACED, "interlaced-kept", |n| n == 1 || n == 2);
@@ -242,14 +243,16 @@ impl Table<'_> {
     fn interlaced(&self, field: Field) -> &'static str {
         let fault = self.fault;
         let Some(row) = field else {
-            return match fault.is("interlaced-unset") {
-                true => "no",
-                false => "unset",
+            return if fault.is("interlaced-unset") {
+                "no"
+            } else {
+                "unset"
             };
         };
-        let number = match fault.is("interlaced-byte") {
-            true => self.number(row) & 0xFF,
-            false => self.number(row),
+        let number = if fault.is("interlaced-byte") {
+            self.number(row) & 0xFF
+        } else {
+            self.number(row)
         };
         match number {
             0 if fault.is("interlaced-zero") => "no",
@@ -267,14 +270,16 @@ impl Table<'_> {
     fn stereo(&self, field: Field) -> String {
         let fault = self.fault;
         let Some(row) = field else {
-            return match fault.is("stereo-unset") {
-                true => "0".to_string(),
-                false => "unset".to_string(),
+            return if fault.is("stereo-unset") {
+                "0".to_string()
+            } else {
+                "unset".to_string()
             };
         };
-        let number = match fault.is("stereo-byte") {
-            true => self.number(row) & 0xFF,
-            false => self.number(row),
+        let number = if fault.is("stereo-byte") {
+            self.number(row) & 0xFF
+        } else {
+            self.number(row)
         };
         let shown = match number {
             0 => !fault.is("stereo-zero"),
@@ -283,9 +288,10 @@ impl Table<'_> {
             16.. => fault.is("stereo-any"),
             _ => true,
         };
-        match shown {
-            true => number.to_string(),
-            false => "unset".to_string(),
+        if shown {
+            number.to_string()
+        } else {
+            "unset".to_string()
         }
     }
 }
