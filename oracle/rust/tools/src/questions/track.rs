@@ -388,7 +388,8 @@ fn cut(place: u64) -> Vec<u8> {
         let nodes = payload(&mut random);
         let (mut bytes, spots) = written(&nodes);
         let size = bytes.len() as u64;
-        if masters_of(&nodes, TRACK).is_empty() || size < CUT_AT / 2 || size >= CUT_AT {
+        let small = (CUT_AT / 2..CUT_AT).contains(&size);
+        if !small || masters_of(&nodes, TRACK).is_empty() {
             continue;
         }
         let indices = indices(&TRACK_WORD, &nodes, &mut random);
