@@ -102,7 +102,7 @@ fn ask(question: &Question) -> String {
         } => with_table(records::uid(payload, *k, *list, *i)),
         Simple { payload, k, i } => with_table(records::simple(payload, *k, *i)),
         Audio { payload, k } => with_table(records::audio(payload, *k)),
-        TrackType { number } => tracktype(*number).to_string(),
+        TrackType { number } => tracktype(crate::Tracktype::new(*number)).to_string(),
         // Added by the port: the crate has nothing of the kind.
         Label { .. } => "no answer".to_string(),
         Shown {
@@ -116,6 +116,7 @@ fn ask(question: &Question) -> String {
             Ok((elements, rows)) => plain(places::shown(&elements, &rows, *numbers, *row)),
             Err(failed) => with_table(Err(failed)),
         },
+        Track { payload, k } => with_table(records::track(payload, *k)),
     }
 }
 
@@ -240,10 +241,10 @@ fn float(number: f64) -> String {
     }
 }
 
-fn tracktype(number: u64) -> &'static str {
+fn tracktype(tracktype: crate::Tracktype) -> &'static str {
     use crate::Tracktype::*;
 
-    match crate::Tracktype::new(number) {
+    match tracktype {
         Video => "video",
         Audio => "audio",
         Complex => "complex",

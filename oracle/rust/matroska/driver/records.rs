@@ -2,12 +2,12 @@
 //! run of bytes is replaced by its own address and length.
 
 use super::read::{read, Row};
-use super::{call, float, Failed, Outcome, Reader};
+use super::{call, float, tracktype, Failed, Outcome, Reader};
 use crate::ebml::{Element, ElementType};
 use crate::{ids, Parseable};
 use crate::{
-    Attachment, Audio, Chapter, ChapterDisplay, ChapterEdition, Language, SimpleTag, Tag, TagValue,
-    Target, TargetTypeValue,
+    Attachment, Audio, Chapter, ChapterDisplay, ChapterEdition, Language, Settings, SimpleTag,
+    StereoMode, Tag, TagValue, Target, TargetTypeValue, Track, Tracktype, Video,
 };
 use question::{List, Payload};
 use std::convert::TryFrom;
@@ -23,6 +23,8 @@ enum Numbers {
     Other,
     /// The number that the crate reads as the target level `Collection`.
     Collection,
+    /// The number that the crate reads as the track type `Video`.
+    Video,
 }
 
 impl Numbers {
@@ -31,6 +33,7 @@ impl Numbers {
             Numbers::True => number,
             Numbers::Other => u64::from(number == 0),
             Numbers::Collection => 70,
+            Numbers::Video => 1,
         }
     }
 
@@ -197,6 +200,15 @@ fn flag(now: bool, other: bool, empty: bool) -> Outcome<String> {
         _ if now == other => unset(now, empty),
         (true, _) => Ok("yes".to_string()),
         (false, _) => Ok("no".to_string()),
+    }
+}
+
+/// A flag that the crate holds as an option.
+fn option_flag(flag: Option<bool>, empty: Option<bool>) -> Outcome<String> {
+    match flag {
+        None => unset(flag, empty),
+        Some(true) => Ok("yes".to_string()),
+        Some(false) => Ok("no".to_string()),
     }
 }
 
@@ -458,18 +470,153 @@ pub(crate) fn audio(payload: &Payload, k: u64) -> Outcome<String> {
     nth(std::iter::once(()), k)?;
     let now = Audio::build(source.retell(Numbers::True));
     let other = Audio::build(source.retell(Numbers::Other));
+    Ok(format!("{} {}", told_audio(&now, &other)?, source.rows()))
+}
+
+/// Audio from the true tree, and from the other.
+fn told_audio(now: &Audio, other: &Audio) -> Outcome<String> {
     let empty = Audio::build(Vec::new());
     let bits = |audio: &Audio| audio.sample_rate.to_bits();
-    let rate = if bits(&now) == bits(&other) {
-        unset(bits(&now), bits(&empty))?
+    let rate = if bits(now) == bits(other) {
+        unset(bits(now), bits(&empty))?
     } else {
         float(now.sample_rate)
     };
     Ok(format!(
-        "rate {} channels {} depth {} {}",
+        "rate {} channels {} depth {}",
         rate,
         bare_number(now.channels, other.channels, empty.channels)?,
-        number(now.bit_depth, empty.bit_depth)?,
+        number(now.bit_depth, empty.bit_depth)?
+    ))
+}
+
+/// Video in the same way.
+fn told_video(now: &Video, other: &Video) -> Outcome<String> {
+    let empty = Video::build(Vec::new());
+    let stereo = match now.stereo {
+        None => unset(now.stereo, empty.stereo)?,
+        Some(mode) => stereo_number(mode)?.to_string(),
+    };
+    let gamma = match now.gamma {
+        None => unset(now.gamma, empty.gamma)?,
+        Some(gamma) => float(gamma),
+    };
+    Ok(format!(
+        "width {} height {} dwidth {} dheight {} interlaced {} stereo {} gamma {}",
+        bare_number(now.pixel_width, other.pixel_width, empty.pixel_width)?,
+        bare_number(now.pixel_height, other.pixel_height, empty.pixel_height)?,
+        number(now.display_width, empty.display_width)?,
+        number(now.display_height, empty.display_height)?,
+        option_flag(now.interlaced, empty.interlaced)?,
+        stereo,
+        gamma
+    ))
+}
+
+/// The number that makes a stereo mode, by the crate's own table. No two make the
+/// same one.
+fn stereo_number(mode: StereoMode) -> Outcome<u64> {
+    let made_by = |number: &u64| {
+        let element = Element {
+            id: ids::STEREOMODE,
+            size: 0,
+            val: ElementType::UInt(*number),
+        };
+        Video::build(vec![element]).stereo == Some(mode)
+    };
+    let mut numbers = (0..256).filter(made_by);
+    match (numbers.next(), numbers.next()) {
+        (Some(number), None) => Ok(number),
+        _ => Err(Failed::Fault),
+    }
+}
+
+/// The settings, which are of one sort in both trees.
+fn settings(now: &Settings, other: &Settings, empty: &Settings) -> Outcome<String> {
+    match (now, other) {
+        (Settings::None, Settings::None) => {
+            agree(now == empty)?;
+            Ok("none".to_string())
+        }
+        (Settings::Audio(now), Settings::Audio(other)) => {
+            Ok(format!("audio {}", told_audio(now, other)?))
+        }
+        (Settings::Video(now), Settings::Video(other)) => {
+            Ok(format!("video {}", told_video(now, other)?))
+        }
+        _ => Err(Failed::Fault),
+    }
+}
+
+pub(crate) fn track(payload: &Payload, k: u64) -> Outcome<String> {
+    let source = Source::read(payload, ids::TRACKENTRY)?;
+    let build = |numbers| {
+        source
+            .entry(ids::TRACKENTRY, k, numbers)
+            .map(Track::build_entry)
+    };
+    let (now, other) = (build(Numbers::True)?, build(Numbers::Other)?);
+    // The crate looks into the bytes of 55AB to 55AF, so these five are told from the
+    // record that it builds from the bytes. Settings are compared as they are shown:
+    // there a NaN is equal to itself.
+    let own = source.own::<_, Track>(k)?;
+    agree(format!("{:?}", own.settings) == format!("{:?}", now.settings))?;
+    agree(
+        Track {
+            settings: Settings::None,
+            ..own.clone()
+        } == Track {
+            hearing_impaired: own.hearing_impaired,
+            visual_impaired: own.visual_impaired,
+            text_descriptions: own.text_descriptions,
+            original: own.original,
+            commentary: own.commentary,
+            name: now.name.as_deref().map(|text| source.text(text)),
+            language: now.language.as_ref().map(|l| source.language(l)),
+            codec_id: source.text(&now.codec_id),
+            codec_private: now.codec_private.as_deref().map(|part| source.bytes(part)),
+            codec_name: now.codec_name.as_deref().map(|text| source.text(text)),
+            settings: Settings::None,
+            ..now.clone()
+        },
+    )?;
+    let empty = Track::build_entry(Vec::new());
+    // Unknown is a number without a name, or none at all.
+    let told_type = match build(Numbers::Video)?.tracktype {
+        Tracktype::Video => tracktype(now.tracktype).to_string(),
+        _ => unset(now.tracktype, empty.tracktype)?,
+    };
+    let private = match now.codec_private.as_deref() {
+        None => unset(&now.codec_private, &empty.codec_private)?,
+        Some(private) => byte_range(private, &[])?,
+    };
+    Ok(format!(
+        "number {} uid {} type {} enabled {} default {} forced {} hearing {} visual {} text {} \
+         original {} commentary {} lacing {} duration {} name {} language {} codec {} private {} \
+         codecname {} settings {} {}",
+        bare_number(now.number, other.number, empty.number)?,
+        bare_number(now.uid, other.uid, empty.uid)?,
+        told_type,
+        flag(now.enabled, other.enabled, empty.enabled)?,
+        flag(now.default, other.default, empty.default)?,
+        flag(now.forced, other.forced, empty.forced)?,
+        option_flag(own.hearing_impaired, empty.hearing_impaired)?,
+        option_flag(own.visual_impaired, empty.visual_impaired)?,
+        option_flag(own.text_descriptions, empty.text_descriptions)?,
+        option_flag(own.original, empty.original)?,
+        option_flag(own.commentary, empty.commentary)?,
+        // The crate's name for lacing.
+        flag(now.interlaced, other.interlaced, empty.interlaced)?,
+        number(
+            now.default_duration.map(nanoseconds),
+            empty.default_duration.map(nanoseconds)
+        )?,
+        option_range(now.name.as_deref(), empty.name.as_deref())?,
+        language(now.language.as_ref(), empty.language.as_ref())?,
+        range(&now.codec_id, &empty.codec_id)?,
+        private,
+        option_range(now.codec_name.as_deref(), empty.codec_name.as_deref())?,
+        settings(&now.settings, &other.settings, &empty.settings)?,
         source.rows()
     ))
 }

@@ -131,6 +131,10 @@ pub enum Question {
         row: u64,
         bytes: Vec<u8>,
     },
+    Track {
+        payload: Payload,
+        k: u64,
+    },
 }
 
 /// Takes a line apart, its line feed already removed. `None`: a bad question.
@@ -242,6 +246,10 @@ pub fn parse(line: &[u8]) -> Option<Question> {
             numbers: numbers(w[4])?,
             row: number(w[5])?,
             bytes: bytes(w[6])?,
+        },
+        (b"track", 6) => Question::Track {
+            k: number(w[4])?,
+            payload: payload(w)?,
         },
         _ => return None,
     })

@@ -147,6 +147,37 @@ pub const AUDIO_RATE: u32 = 0xB5;
 pub const AUDIO_CHANNELS: u32 = 0x9F;
 pub const AUDIO_DEPTH: u32 = 0x6264;
 
+/// A track, whose payload's parent is its own id, and the video in it.
+pub const TRACK: u32 = 0xAE;
+pub const VIDEO: u32 = 0xE0;
+
+/// The fields of a track. The five marks are flags in Matroska's schema, and in no
+/// set here.
+pub const TRACK_NUMBER: u32 = 0xD7;
+pub const TRACK_OWN_UID: u32 = 0x73C5;
+pub const TRACK_TYPE: u32 = 0x83;
+pub const TRACK_ENABLED: u32 = 0xB9;
+pub const TRACK_DEFAULT: u32 = 0x88;
+pub const TRACK_FORCED: u32 = 0x55AA;
+pub const TRACK_MARKS: [u32; 5] = [0x55AB, 0x55AC, 0x55AD, 0x55AE, 0x55AF];
+pub const TRACK_LACING: u32 = 0x9C;
+pub const TRACK_DURATION: u32 = 0x23E383;
+pub const TRACK_NAME: u32 = 0x536E;
+pub const TRACK_ISO: u32 = 0x22B59C;
+pub const TRACK_IETF: u32 = 0x22B59D;
+pub const TRACK_CODEC: u32 = 0x86;
+pub const TRACK_PRIVATE: u32 = 0x63A2;
+pub const TRACK_CODEC_NAME: u32 = 0x258688;
+
+/// Of video.
+pub const VIDEO_WIDTH: u32 = 0xB0;
+pub const VIDEO_HEIGHT: u32 = 0xBA;
+pub const VIDEO_SHOWN_WIDTH: u32 = 0x54B0;
+pub const VIDEO_SHOWN_HEIGHT: u32 = 0x54BA;
+pub const VIDEO_INTERLACED: u32 = 0x9A;
+pub const VIDEO_STEREO: u32 = 0x53B8;
+pub const VIDEO_GAMMA: u32 = 0x2FB523;
+
 /// The special parents, neighbours of two of them, and others.
 pub const PARENTS: [u32; 14] = [
     0x1549A966, 0x1654AE6B, 0x1941A469, 0x1043A770, 0x1254C367, 0, 0xAE, 0x7373, 0x18538067,

@@ -16,18 +16,23 @@ pub struct Terms {
     pub empty_signed: bool,
     /// No memory is asked for. Else a text or bytes may be too large for it.
     pub no_memory: bool,
+    /// The flags 55AB to 55AF of a track stay unset. Else each is the first byte of its
+    /// bytes.
+    pub unset_marks: bool,
 }
 
 pub const OURS: Terms = Terms {
     bounds: true,
     empty_signed: true,
     no_memory: true,
+    unset_marks: true,
 };
 
 pub const CRATE: Terms = Terms {
     bounds: false,
     empty_signed: false,
     no_memory: false,
+    unset_marks: false,
 };
 
 /// The largest single request for memory that the oracle grants.

@@ -7,6 +7,9 @@ use crate::table::{read, reason, with_table, Due, BOUNDED};
 use question::{List, Question};
 use tools::ids::*;
 
+/// The exception of the flags 55AB to 55AF of a track.
+pub const MARKS: &str = "flags 55AB to 55AF";
+
 /// The answers due to a question; `None` if it asks for no record.
 pub fn due(question: &Question) -> Option<Due> {
     match question {
@@ -35,10 +38,29 @@ pub fn due(question: &Question) -> Option<Due> {
             let ours = answer(question, &payload, OURS);
             let theirs = answer(question, &payload, CRATE);
             let bounded = || answer(question, &payload, BOUNDED);
-            let exception = (ours != theirs).then(|| reason(&bounded(), &theirs));
+            let exception = (ours != theirs).then(|| {
+                if but_marks(&ours, &theirs) {
+                    MARKS
+                } else {
+                    reason(&bounded(), &theirs)
+                }
+            });
             Some(told_by(&ours, &theirs, exception))
         }
     }
+}
+
+/// Whether two answers tell the same track but for the five marks, of which ours are
+/// unset wherever they differ.
+fn but_marks(ours: &str, theirs: &str) -> bool {
+    let ours: Vec<&str> = ours.split(' ').collect();
+    let theirs: Vec<&str> = theirs.split(' ').collect();
+    let left_unset = |place: usize| {
+        let named = place > 0 && MARK_NAMES.contains(&ours[place - 1]);
+        named && ours[place] == "unset"
+    };
+    ours.len() == theirs.len()
+        && (0..ours.len()).all(|place| ours[place] == theirs[place] || left_unset(place))
 }
 
 /// Our answer, and that of both builds.
@@ -62,6 +84,7 @@ fn payload_of(question: &Question) -> Option<(&question::Payload, u32)> {
         | Question::Uid { payload, .. }
         | Question::Simple { payload, .. } => Some((payload, TAG)),
         Question::Audio { payload, .. } => Some((payload, AUDIO)),
+        Question::Track { payload, .. } => Some((payload, TRACK)),
         _ => None,
     }
 }
@@ -76,7 +99,7 @@ fn answer(question: &Question, payload: &Payload, terms: Terms) -> String {
         };
         Ok(format!(
             "{} rows {} rest 0",
-            record(question, whole)?,
+            record(question, whole, terms)?,
             rows.len()
         ))
     });
@@ -84,7 +107,7 @@ fn answer(question: &Question, payload: &Payload, terms: Terms) -> String {
 }
 
 /// What a question asks of a payload that was read.
-fn record(question: &Question, whole: Record) -> Result<String, End> {
+fn record(question: &Question, whole: Record, terms: Terms) -> Result<String, End> {
     Ok(match question {
         Question::Attachment { k, .. } => attachment(whole.member(ATTACHED_FILE, *k)?),
         Question::Edition { k, .. } => edition(whole.member(EDITION, *k)?),
@@ -107,6 +130,7 @@ fn record(question: &Question, whole: Record) -> Result<String, End> {
         Question::Simple { k, i, .. } => simple(whole.member(TAG, *k)?.member(SIMPLE, *i)?),
         // An audio payload is the record.
         Question::Audio { k, .. } => audio(nth(&[whole], *k)?),
+        Question::Track { k, .. } => track(whole.member(TRACK, *k)?, terms),
         _ => unreachable!("it asks for a record"),
     })
 }
@@ -184,6 +208,12 @@ impl<'a> Record<'a> {
     fn flag(&self, id: u32) -> String {
         let flag = self.numbers(id).pop();
         told(flag.map(|number| if number == 0 { "no" } else { "yes" }))
+    }
+
+    /// A float.
+    fn float(&self, id: u32) -> String {
+        let float_of = |(_, row): (u64, &Row)| float(self.body(row));
+        told(self.last(id, FLOAT_KIND).map(float_of))
     }
 
     /// The last IETF language; only where there is none the last ISO one.
@@ -291,12 +321,81 @@ fn simple(simple: Record) -> String {
 }
 
 fn audio(audio: Record) -> String {
-    let rate = audio.last(AUDIO_RATE, FLOAT_KIND);
     format!(
         "rate {} channels {} depth {}",
-        told(rate.map(|(_, row)| float(audio.body(row)))),
+        audio.float(AUDIO_RATE),
         audio.number(AUDIO_CHANNELS),
         audio.number(AUDIO_DEPTH)
+    )
+}
+
+/// The names of the flags 55AB to 55AF.
+const MARK_NAMES: [&str; 5] = ["hearing", "visual", "text", "original", "commentary"];
+
+fn track(track: Record, terms: Terms) -> String {
+    let number_type = track.numbers(TRACK_TYPE).pop();
+    let marks = MARK_NAMES.iter().zip(TRACK_MARKS);
+    let marks: Vec<String> = marks
+        .map(|(name, id)| format!("{name} {}", mark(track, id, terms)))
+        .collect();
+    let first = format!(
+        "number {} uid {} type {} enabled {} default {} forced {} {} lacing {}",
+        track.number(TRACK_NUMBER),
+        track.number(TRACK_OWN_UID),
+        told(number_type.map(track_type)),
+        track.flag(TRACK_ENABLED),
+        track.flag(TRACK_DEFAULT),
+        track.flag(TRACK_FORCED),
+        marks.join(" "),
+        track.flag(TRACK_LACING)
+    );
+    format!(
+        "{first} duration {} name {} language {} codec {} private {} codecname {} settings {}",
+        track.number(TRACK_DURATION),
+        track.range(TRACK_NAME, UTF8_KIND),
+        track.language(TRACK_ISO, TRACK_IETF),
+        track.range(TRACK_CODEC, STRING_KIND),
+        track.range(TRACK_PRIVATE, BINARY_KIND),
+        track.range(TRACK_CODEC_NAME, UTF8_KIND),
+        settings(track)
+    )
+}
+
+/// A flag of 55AB to 55AF. It is made of bytes, of which the crate takes the first; of
+/// none it makes no flag.
+fn mark(track: Record, id: u32, terms: Terms) -> String {
+    let bytes = track.last(id, BINARY_KIND).filter(|_| !terms.unset_marks);
+    let first = bytes.and_then(|(_, row)| track.body(row).first());
+    told(first.map(|byte| if *byte == 0 { "no" } else { "yes" }))
+}
+
+/// The last of all video and audio of a track decides.
+fn settings(track: Record) -> String {
+    let (seen, heard) = (track.members(VIDEO).pop(), track.members(AUDIO).pop());
+    match (seen, heard) {
+        (Some(seen), Some(heard)) if heard.own > seen.own => format!("audio {}", audio(heard)),
+        (Some(seen), _) => format!("video {}", video(seen)),
+        (None, Some(heard)) => format!("audio {}", audio(heard)),
+        (None, None) => "none".to_string(),
+    }
+}
+
+/// Numbers that mean nothing leave a field unset, whatever stands before them.
+fn video(video: Record) -> String {
+    let interlaced = match video.numbers(VIDEO_INTERLACED).pop() {
+        Some(1) => "yes",
+        Some(2) => "no",
+        _ => "unset",
+    };
+    let stereo = video.numbers(VIDEO_STEREO).pop();
+    format!(
+        "width {} height {} dwidth {} dheight {} interlaced {interlaced} stereo {} gamma {}",
+        video.number(VIDEO_WIDTH),
+        video.number(VIDEO_HEIGHT),
+        video.number(VIDEO_SHOWN_WIDTH),
+        video.number(VIDEO_SHOWN_HEIGHT),
+        told(stereo.filter(|mode| *mode <= 14)),
+        video.float(VIDEO_GAMMA)
     )
 }
 

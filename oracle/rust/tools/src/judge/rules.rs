@@ -44,7 +44,7 @@ pub enum Verdict {
 type Rule = fn(&Question, &Case) -> Option<bool>;
 
 /// The listed exceptions by name.
-pub const NAMES: [&str; 10] = [
+pub const NAMES: [&str; 11] = [
     "argument",
     "signed",
     "allocation",
@@ -55,11 +55,13 @@ pub const NAMES: [&str; 10] = [
     "heads",
     "wraps",
     "added",
+    records::MARKS,
 ];
 
 /// Those of a header or body question, each with its rule. The element table and
-/// the records have the first five, the search the first nine, and the label the
-/// last: there the judge's own reading says what is due.
+/// the records have the first five, the search the first nine, the label the last but
+/// one, and a track the last as well as the first five: there the judge's own reading
+/// says what is due.
 const RULES: [(&str, Rule); 3] = [
     ("argument", argument),
     ("signed", signed),

@@ -216,3 +216,117 @@ label-text: bytes that are no text give the caller's label
 label-zero: a label ends before a byte of 0
 label-before: the caller's label is taken where there is one
 ";
+
+/// Those of a track. The faults of records that are named behind them hold for it too.
+pub const TRACK: &str = "\
+track-number-uid: a track's number and uid are swapped
+track-tag-uid: the uid of a tag's list is taken for a track's
+track-enabled-default: the flags enabled and default are swapped
+track-default-forced: the flags default and forced are swapped
+track-forced-lacing: the flags forced and lacing are swapped
+track-name-codec: the names of track and codec are swapped
+track-codec-private: the codec and its private bytes are swapped
+track-private-name: the codec's private bytes and its name are swapped
+track-languages: the ISO language is the IETF one, and the other way round
+track-language-display: the languages of a display are taken
+track-empty: a track without children is not counted
+track-numberless: a track without a number is not counted
+track-type-unset: an unset type is unknown
+track-type-unknown: a type that has no name is told as unset
+track-type-settings: an unset type is that of the settings
+track-enabled-yes: an unset flag enabled is yes
+track-default-yes: an unset flag default is yes
+track-forced-no: an unset flag forced is no
+track-lacing-yes: an unset flag lacing is yes
+track-lacing-video: the lacing of a track with video is that video's interlacing
+track-hearing: 55AB is set as in the crate
+track-visual: 55AC is set as in the crate
+track-text: 55AD is set as in the crate
+track-original: 55AE is set as in the crate
+track-commentary: 55AF is set as in the crate
+track-marks: 55AB to 55AF are set as in the crate
+track-marks-no: 55AB to 55AF are told as no
+track-marks-flag: 55AB to 55AF are read as numbers
+track-duration-zero: a duration of 0 is told as unset
+track-private-text: private bytes are told where they are text alone
+settings-first: the first video or audio is taken
+settings-audio: audio is taken wherever there is one
+settings-video: video is taken wherever there is one
+settings-type: the settings are those of the track's type
+settings-empty: video or audio without children is passed over
+settings-deep: video and audio are taken from any depth of the track
+settings-merge: what the last video or audio does not set is taken from those before
+settings-direct: the fields of video and audio may stand in the track itself
+video-width-height: width and height are swapped
+video-shown-swapped: width and height to display are swapped
+video-shown-width: the widths of pixels and to display are swapped
+video-shown-height: the heights of pixels and to display are swapped
+video-shown-default: what is to display is the pixels where it is unset
+interlaced-two: 2 is yes
+interlaced-zero: 0 is no
+interlaced-three: 3 and more is yes
+interlaced-other: 3 and more is no
+interlaced-flag: any number but 0 is yes, and 0 is no
+interlaced-kept: a number that is neither 1 nor 2 does not replace another one
+interlaced-unset: an unset one is no
+interlaced-byte: only the last byte counts
+stereo-15: 15 is told
+stereo-any: every number is told
+stereo-14: 14 is told as unset
+stereo-zero: 0 is told as unset
+stereo-unset: an unset one is 0
+stereo-kept: a number of 15 or more does not replace another one
+stereo-byte: only the last byte counts
+stereo-old: the old stereo mode 53B9 is taken too
+gamma-bits: the pattern of a gamma of 4 bytes is not widened
+gamma-narrow: a gamma has 32 bits
+gamma-nan: a NaN is told by its pattern
+gamma-zero: a negative zero is told as zero
+gamma-unset: a gamma of 0 is told as unset
+";
+
+/// The faults of records that a reader of tracks could have as well.
+pub const SHARED: [&str; 42] = [
+    "record-parent",
+    "record-any-depth",
+    "record-any-id",
+    "record-15-kept",
+    "record-15-first",
+    "record-15-early",
+    "record-rows",
+    "index-1",
+    "index-32",
+    "index-last",
+    "first-child",
+    "any-depth",
+    "siblings",
+    "field-header",
+    "empty-unset",
+    "number-zero",
+    "empty-number",
+    "narrow-number",
+    "signed-number",
+    "flag-no",
+    "flag-one",
+    "flag-byte",
+    "flag-empty",
+    "times-milli",
+    "times-second",
+    "iso-replaces",
+    "ietf-kept",
+    "iso-kept",
+    "ietf-weak",
+    "language-empty",
+    "language-default",
+    "rate-bits",
+    "rate-narrow",
+    "rate-nan",
+    "rate-zero",
+    "rate-unset",
+    "rate-output",
+    "depth-channels",
+    "type-logo",
+    "type-byte",
+    "type-18",
+    "type-zero",
+];

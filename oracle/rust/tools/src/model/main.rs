@@ -1,8 +1,8 @@
 //! A model of our reader for the questions about the element table, the search for
 //! a part and the records, to test the judge and the stored lists with: `model`
 //! answers the questions on standard input as document 01 orders, `model FAULT` with
-//! one fault. `model faults` tells the faults, `model faults table` and `model faults
-//! record` those of one sort. It shares no reading with the judge.
+//! one fault. `model faults` tells the faults, `model faults table`, `model faults record`
+//! and `model faults track` those of one sort. It shares no reading with the judge.
 
 mod faults;
 mod label;
@@ -10,8 +10,9 @@ mod lent;
 mod places;
 mod records;
 mod search;
+mod track;
 
-use faults::{RECORD, TABLE};
+use faults::{RECORD, SHARED, TABLE, TRACK};
 use lent::{Lent, Read};
 use question::{parse, Question};
 use std::io::{self, BufRead, BufWriter, Write};
@@ -31,12 +32,13 @@ fn main() {
     let arguments: Vec<String> = std::env::args().skip(1).collect();
     let done = match &arguments[..] {
         [] => answer_all(Fault(None)),
-        [word] if word == "faults" => tell(&[TABLE, RECORD]),
+        [word] if word == "faults" => tell(&[TABLE, RECORD, TRACK]),
         [word, sort] if word == "faults" && sort == "table" => tell(&[TABLE]),
         [word, sort] if word == "faults" && sort == "record" => tell(&[RECORD]),
+        [word, sort] if word == "faults" && sort == "track" => tell(&[TRACK, &shared()]),
         [word] if known(word).is_some() => answer_all(Fault(known(word))),
         _ => {
-            eprintln!("usage: model [FAULT]\n       model faults [table|record]");
+            eprintln!("usage: model [FAULT]\n       model faults [table|record|track]");
             std::process::exit(2);
         }
     };
@@ -50,10 +52,21 @@ fn tell(faults: &[&str]) -> io::Result<()> {
     io::stdout().write_all(faults.concat().as_bytes())
 }
 
+/// The lines of the faults that tracks share with the other records.
+fn shared() -> String {
+    let shared = RECORD.lines().filter(|line| SHARED.contains(&named(line)));
+    shared.map(|line| format!("{line}\n")).collect()
+}
+
+/// The name of a fault, from its line.
+fn named(line: &str) -> &str {
+    line.split(':').next().unwrap_or(line)
+}
+
 /// The fault of that name.
 fn known(word: &str) -> Option<&'static str> {
-    let lines = TABLE.lines().chain(RECORD.lines());
-    let mut names = lines.filter_map(|line| line.split(':').next());
+    let lines = TABLE.lines().chain(RECORD.lines()).chain(TRACK.lines());
+    let mut names = lines.map(named);
     names.find(|name| *name == word)
 }
 

@@ -26,6 +26,7 @@ enum Sort {
     Member(List, u64),
     Simple,
     Audio,
+    Track,
 }
 
 /// What a record question asks; `None` for any other.
@@ -55,6 +56,7 @@ pub fn asked(question: &Question) -> Option<Asked<'_>> {
             (payload, path, Sort::Simple)
         }
         Question::Audio { payload, k } => (payload, vec![(AUDIO, *k)], Sort::Audio),
+        Question::Track { payload, k } => (payload, vec![(TRACK, *k)], Sort::Track),
         _ => return None,
     };
     Some(Asked {
@@ -106,23 +108,23 @@ pub fn record(lent: &mut Lent, asked: &Asked, fault: Fault) -> Result<String, u6
 }
 
 /// The rows that were read.
-struct Table<'a> {
+pub struct Table<'a> {
     rows: Vec<&'a [u64]>,
     bytes: &'a [u8],
-    fault: Fault,
+    pub fault: Fault,
 }
 
 /// A master by its row, or the whole payload.
 #[derive(Clone, Copy)]
-struct Master {
-    row: Option<usize>,
+pub struct Master {
+    pub row: Option<usize>,
 }
 
 /// A field, from nothing to what the last child makes of it.
-type Field = Option<usize>;
+pub type Field = Option<usize>;
 
 impl Table<'_> {
-    fn id(&self, row: usize) -> u32 {
+    pub fn id(&self, row: usize) -> u32 {
         self.rows[row][0] as u32
     }
 
@@ -131,7 +133,7 @@ impl Table<'_> {
     }
 
     /// The rows below a master, in order, of which the direct children are told.
-    fn below(&self, master: Master) -> Vec<(usize, bool)> {
+    pub fn below(&self, master: Master) -> Vec<(usize, bool)> {
         let (from, depth) = match master.row {
             None => (0, 0),
             Some(row) => (row + 1, self.depth(row) + 1),
@@ -143,7 +145,7 @@ impl Table<'_> {
     }
 
     /// Its children that may be fields.
-    fn children(&self, master: Master) -> Vec<usize> {
+    pub fn children(&self, master: Master) -> Vec<usize> {
         let deep = self.fault.is("any-depth");
         let below = self.below(master).into_iter();
         let mut rows: Vec<usize> = below
@@ -206,7 +208,10 @@ impl Table<'_> {
                 self.nth(&[()], *index, true)?;
                 break;
             }
-            let all = self.records(master, *id);
+            let mut all = self.records(master, *id);
+            if *id == TRACK {
+                all = self.counted_tracks(all);
+            }
             master = self.nth(&all, *index, level == 0)?;
         }
         match &asked.sort {
@@ -217,12 +222,13 @@ impl Table<'_> {
             Sort::Tag => Ok(self.tag(master)),
             Sort::Member(list, index) => self.member(master, *list, *index),
             Sort::Simple => Ok(self.simple(master)),
-            Sort::Audio => Ok(self.audio(master)),
+            Sort::Audio => Ok(self.audio_of(|id| self.field(master, id))),
+            Sort::Track => Ok(self.track(master)),
         }
     }
 
     /// A field's child: the last of an id.
-    fn field(&self, master: Master, id: u32) -> Field {
+    pub fn field(&self, master: Master, id: u32) -> Field {
         let mut field = None;
         for row in self.children(master) {
             if self.id(row) == id {
@@ -233,7 +239,7 @@ impl Table<'_> {
     }
 
     /// The bytes of a row.
-    fn body(&self, row: usize) -> &[u8] {
+    pub fn body(&self, row: usize) -> &[u8] {
         let from = (self.rows[row][2] + self.rows[row][3]) as usize;
         // A faulty reader may come to a row that is no leaf.
         let part = self.bytes.get(from..from + self.rows[row][4] as usize);
@@ -254,12 +260,12 @@ impl Table<'_> {
         format!("{}+{payload}", address + header)
     }
 
-    fn range(&self, field: Field) -> String {
+    pub fn range(&self, field: Field) -> String {
         field.map_or("unset".to_string(), |row| self.place(row))
     }
 
     /// The number of a row that has one.
-    fn number(&self, row: usize) -> u64 {
+    pub fn number(&self, row: usize) -> u64 {
         let body = self.body(row);
         let body = if self.fault.is("narrow-number") {
             &body[body.len().saturating_sub(4)..]
@@ -276,7 +282,7 @@ impl Table<'_> {
         number
     }
 
-    fn number_told(&self, field: Field) -> String {
+    pub fn number_told(&self, field: Field) -> String {
         match field {
             None if self.fault.is("number-zero") => "0".to_string(),
             Some(row) if self.fault.is("empty-number") && self.body(row).is_empty() => {
@@ -287,7 +293,7 @@ impl Table<'_> {
         }
     }
 
-    fn time(&self, field: Field) -> String {
+    pub fn time(&self, field: Field) -> String {
         match field {
             Some(row) if self.fault.is("times-milli") => (self.number(row) / 1_000_000).to_string(),
             Some(row) if self.fault.is("times-second") => {
@@ -298,7 +304,7 @@ impl Table<'_> {
         }
     }
 
-    fn flag(&self, field: Field) -> &'static str {
+    pub fn flag(&self, field: Field) -> &'static str {
         let fault = self.fault;
         let Some(row) = field else {
             return if fault.is("flag-no") { "no" } else { "unset" };
@@ -317,7 +323,7 @@ impl Table<'_> {
     }
 
     /// The language, as each child changes it.
-    fn language(&self, master: Master, iso: u32, ietf: u32) -> String {
+    pub fn language(&self, master: Master, iso: u32, ietf: u32) -> String {
         let fault = self.fault;
         // What was set, and whether it is the IETF one.
         let mut language: Option<(usize, bool)> = None;
@@ -530,8 +536,8 @@ impl Table<'_> {
         )
     }
 
-    fn audio(&self, audio: Master) -> String {
-        let field = |id| self.field(audio, id);
+    /// Audio by its fields.
+    pub fn audio_of(&self, field: impl Fn(u32) -> Field) -> String {
         let (mut channels, mut depth) = (field(AUDIO_CHANNELS), field(AUDIO_DEPTH));
         if self.fault.is("depth-channels") {
             (channels, depth) = (depth, channels);
@@ -540,36 +546,36 @@ impl Table<'_> {
         let rate = output.max(field(AUDIO_RATE));
         format!(
             "rate {} channels {} depth {}",
-            rate.map_or("unset".to_string(), |row| self.rate(row)),
+            rate.map_or("unset".to_string(), |row| self.float(row, "rate")),
             self.number_told(channels),
             self.number_told(depth)
         )
     }
 
-    /// The pattern of a rate as a float of 64 bits.
-    fn rate(&self, row: usize) -> String {
-        let fault = self.fault;
+    /// The pattern of a rate or a gamma as a float of 64 bits.
+    pub fn float(&self, row: usize, of: &str) -> String {
+        let faulty = |what: &str| self.fault.is(&format!("{of}-{what}"));
         let pattern = self
             .body(row)
             .iter()
             .fold(0, |sum, byte| sum << 8 | u64::from(*byte));
         let narrow = self.body(row).len() == 4;
-        let mut rate = if narrow {
+        let mut float = if narrow {
             f64::from(f32::from_bits(pattern as u32))
         } else {
             f64::from_bits(pattern)
         };
-        if fault.is("rate-narrow") {
-            rate = f64::from(rate as f32);
+        if faulty("narrow") {
+            float = f64::from(float as f32);
         }
-        if fault.is("rate-zero") && rate == 0.0 {
-            rate = 0.0;
+        if faulty("zero") && float == 0.0 {
+            float = 0.0;
         }
         match () {
-            () if fault.is("rate-bits") && narrow => format!("{pattern:016X}"),
-            () if fault.is("rate-unset") && rate == 0.0 => "unset".to_string(),
-            () if rate.is_nan() && !fault.is("rate-nan") => "nan".to_string(),
-            () => format!("{:016X}", rate.to_bits()),
+            () if faulty("bits") && narrow => format!("{pattern:016X}"),
+            () if faulty("unset") && float == 0.0 => "unset".to_string(),
+            () if float.is_nan() && !faulty("nan") => "nan".to_string(),
+            () => format!("{:016X}", float.to_bits()),
         }
     }
 }

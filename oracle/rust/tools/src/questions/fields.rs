@@ -2,6 +2,7 @@
 //! any order and number, fields where they do not belong, and odd bodies.
 
 use crate::random::Random;
+use crate::track;
 use crate::tree::{bad_body, chain, good_body, leaf, unknown_id, wide, Body, Node};
 use crate::utf8;
 use tools::ids::*;
@@ -90,13 +91,27 @@ const OTHERS: [u32; 10] = [
 ];
 
 /// The ids that are flags.
-const FLAGS: [u32; 6] = [
+const FLAGS: [u32; 10] = [
     EDITION_HIDDEN,
     EDITION_DEFAULT,
     EDITION_ORDERED,
     CHAPTER_HIDDEN,
     CHAPTER_ENABLED,
     SIMPLE_DEFAULT,
+    TRACK_ENABLED,
+    TRACK_DEFAULT,
+    TRACK_FORCED,
+    TRACK_LACING,
+];
+
+/// The ids that are languages.
+const LANGUAGES: [u32; 6] = [
+    DISPLAY_ISO,
+    DISPLAY_IETF,
+    SIMPLE_ISO,
+    SIMPLE_IETF,
+    TRACK_ISO,
+    TRACK_IETF,
 ];
 
 fn level(id: u32) -> &'static Level {
@@ -108,6 +123,9 @@ fn level(id: u32) -> &'static Level {
 pub fn payload(record: u32, random: &mut Random) -> Vec<Node> {
     if record == AUDIO {
         return children(AUDIO, 1, random);
+    }
+    if record == TRACK {
+        return track::payload(random);
     }
     let count = random.one_of(&[0, 1, 1, 1, 1, 2, 2, 3, 5]);
     let mut nodes = Vec::new();
@@ -277,7 +295,7 @@ fn float(random: &mut Random) -> Vec<u8> {
 
 /// A text: empty, a language, anything.
 fn text(id: u32, random: &mut Random) -> Vec<u8> {
-    let language = [DISPLAY_ISO, DISPLAY_IETF, SIMPLE_ISO, SIMPLE_IETF].contains(&id);
+    let language = LANGUAGES.contains(&id);
     match random.below(8) {
         0 => Vec::new(),
         1 => vec![0],

@@ -20,6 +20,7 @@ mod read;
 mod record;
 mod segment;
 mod shown;
+mod track;
 mod tree;
 mod utf8;
 mod whose;
@@ -32,7 +33,7 @@ use std::io::{self, BufWriter, Write};
 type Kind = fn(seed: u64, j: u64, random: &mut Random) -> Vec<u8>;
 
 /// The kinds that can be asked for, by their word.
-const KINDS: [(&str, Kind); 20] = [
+const KINDS: [(&str, Kind); 21] = [
     ("header", header::question),
     ("kind", kind::question),
     ("utf8", utf8::question),
@@ -53,15 +54,18 @@ const KINDS: [(&str, Kind); 20] = [
     ("tracktype", label::track_type),
     ("label", label::label),
     ("shown", shown::question),
+    ("track", record::track),
 ];
 
-/// The kinds that have a whole list; the records and what goes with them have one.
-const WHOLE: [(&str, List); 5] = [
+/// The kinds that have a whole list; the records and what goes with them have one, but
+/// for the tracks.
+const WHOLE: [(&str, List); 6] = [
     ("kind", kind::WHOLE),
     ("utf8", utf8::WHOLE),
     ("read", read::WHOLE),
     ("part", part::WHOLE),
     ("record", record::WHOLE),
+    ("track", track::WHOLE),
 ];
 
 fn main() {

@@ -9,13 +9,14 @@ use crate::header::place;
 use crate::label::{label_at, type_at, LABELS, TYPES};
 use crate::list::{walked, List};
 use crate::random::{hex, Random};
+use crate::track;
 use crate::tree::{id_bytes, size_bytes, written, Node};
 use tools::ids::*;
 
 /// What a question names behind the table: the masters that lead to the record, and
 /// whether a list's member is asked for.
 #[derive(Clone, Copy)]
-struct Word {
+pub struct Word {
     name: &'static str,
     path: &'static [u32],
     list: bool,
@@ -32,6 +33,7 @@ const UID_WORD: Word = Word {
 };
 const SIMPLE_WORD: Word = word("simple", &[TAG, SIMPLE]);
 const AUDIO_WORD: Word = word("audio", &[AUDIO]);
+pub const TRACK_WORD: Word = word("track", &[TRACK]);
 
 const fn word(name: &'static str, path: &'static [u32]) -> Word {
     Word {
@@ -41,6 +43,7 @@ const fn word(name: &'static str, path: &'static [u32]) -> Word {
     }
 }
 
+/// Those of the whole list, of which tracks have one of their own.
 const WORDS: [Word; 8] = [
     ATTACHMENT_WORD,
     EDITION_WORD,
@@ -84,6 +87,15 @@ pub fn audio(seed: u64, j: u64, random: &mut Random) -> Vec<u8> {
     question(AUDIO_WORD, seed, j, random)
 }
 
+/// The walk is through the tracks' own whole list.
+pub fn track(seed: u64, j: u64, random: &mut Random) -> Vec<u8> {
+    let (round, turn) = (j / 20, j % 20);
+    if turn < 2 {
+        return track::WHOLE.walk(seed, round * 2 + turn);
+    }
+    unwalked(TRACK_WORD, turn, random)
+}
+
 /// The shares are fixed: of 20 questions 2 are from a walk through the word's part of
 /// the whole list, 11 are about good payloads, 1 about a part's payload behind its
 /// header, 2 about one with an odd element, 2 are damaged, 1 has an odd start or size,
@@ -93,6 +105,11 @@ fn question(word: Word, seed: u64, j: u64, random: &mut Random) -> Vec<u8> {
     if turn < 2 {
         return small(&word, seed, round * 2 + turn);
     }
+    unwalked(word, turn, random)
+}
+
+/// A question that is not from a walk.
+fn unwalked(word: Word, turn: u64, random: &mut Random) -> Vec<u8> {
     // Mostly there is such a record; one payload in 16 is of another sort.
     let sort = match random.below(16) {
         0 => random.one_of(&WORDS).path[0],
@@ -134,7 +151,7 @@ fn question(word: Word, seed: u64, j: u64, random: &mut Random) -> Vec<u8> {
     broken::broken(&words, &sorts, random)
 }
 
-fn words(word: &Word, asked: &Asked, indices: &[String]) -> Vec<String> {
+pub fn words(word: &Word, asked: &Asked, indices: &[String]) -> Vec<String> {
     let mut words = vec![
         word.name.to_string(),
         asked.start.to_string(),
@@ -230,7 +247,7 @@ const LISTS: [(&str, u32); 4] = [
 ];
 
 /// The words of the indices, from the outside in. Mostly they lead to a record.
-fn indices(word: &Word, nodes: &[Node], random: &mut Random) -> Vec<String> {
+pub fn indices(word: &Word, nodes: &[Node], random: &mut Random) -> Vec<String> {
     let mut words = Vec::new();
     let mut now = Some(nodes);
     for (level, id) in word.path.iter().enumerate() {
@@ -316,10 +333,10 @@ pub const WHOLE: List = List {
 };
 
 /// So many children are put in every order.
-const ITEMS: usize = 8;
+pub const ITEMS: usize = 8;
 
 /// Up to three of them.
-const ONE_ORDER: u64 = 1 + 8 + 8 * 8 + 8 * 8 * 8;
+pub const ONE_ORDER: u64 = 1 + 8 + 8 * 8 + 8 * 8 * 8;
 
 const ORDERS: u64 = 7 * ONE_ORDER;
 
@@ -420,7 +437,7 @@ const CHILDREN: [(Word, [&[u8]; ITEMS]); 7] = [
 ];
 
 /// The n-th order of up to three of some children.
-fn in_order(items: &[&[u8]; ITEMS], mut place: u64) -> Vec<u8> {
+pub fn in_order(items: &[&[u8]; ITEMS], mut place: u64) -> Vec<u8> {
     let mut count = 0;
     while place >= 1 << (3 * count) {
         place -= 1 << (3 * count);
@@ -440,7 +457,7 @@ fn wrapped(path: &[u32], mut bytes: Vec<u8>) -> Vec<u8> {
 }
 
 /// A question about the first record, with a table of 16 rows.
-fn first(word: &Word, more: &[String], bytes: &[u8]) -> Vec<u8> {
+pub fn first(word: &Word, more: &[String], bytes: &[u8]) -> Vec<u8> {
     let asked = Asked {
         start: 0,
         size: bytes.len() as u64,
