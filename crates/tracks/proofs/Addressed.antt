@@ -4,7 +4,7 @@ use Prim.Native.Nat.{ℕ, _≤_}
 use mathlib.Core.List.{List}
 use mathlib.Core.Bool.{Bool, true, false, cond}
 use lib.ListN.{length}
-use lib.Dec.{eqb}
+use lib.Dec.{ltb, eqb}
 use Rattle.kinds.specs.declared.kind.Kind.the-variants.{Uint}
 use Rattle.elements.specs.declared.row.Row.{Row}
 use Rattle.fields.specs.Children.{subtree}
@@ -15,7 +15,7 @@ use Rattle.fields.specs.declared.child.Child.the-variants.{At as ChildAt, Absen
 use Rattle.records.specs.Theorems.{Placed, AllPlaced}
 use Rattle.records.proofs.Addressed.{numbers, reals, asked-addressed}
 use Rattle.tracks.specs.Said.{saidIn, saidOf}
-use Rattle.tracks.specs.Video.{interlaced, stereo}
+use Rattle.tracks.specs.Video.{interlaced, modes, stereo}
 use Rattle.tracks.specs.Records.{audioOf, videoOf}
 use Rattle.tracks.specs.Theorems.{TracksAddressed}
 
@@ -39,7 +39,7 @@ interlaced-placed rs n =
 
 stereo-placed : (rs : List Row) (n : ℕ) → Placed rs (stereo n)
 unfolding stereo
-stereo-placed rs n = one-placed rs _ (number n) unset tt tt
+stereo-placed rs n = one-placed rs (ltb n modes) (number n) unset tt tt
 
 module _ (s : List ℕ) (rs : List Row) (parent : ℕ) (l : parent ≤ length rs) where
   pub audio-placed : AllPlaced rs (audioOf s parent (subtree rs parent))

@@ -8,6 +8,9 @@ use Rattle.fields.specs.Values.{Value, unset, number, flag}
 abbrev pub interlaced : ℕ → Value
 interlaced n = cond (eqb n 1) (flag true) (cond (eqb n 2) (flag false) unset)
 
--- A stereo mode has a number from 0 to 14; any other leaves it unset.
+-- The stereo modes have the numbers 0 to 14; any other leaves it unset.
+abbrev pub modes : ℕ
+modes = 15
+
 unfoldable pub stereo : ℕ → Value
-stereo n = cond (ltb n 15) (number n) unset
+stereo n = cond (ltb n modes) (number n) unset

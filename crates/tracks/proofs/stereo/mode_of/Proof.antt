@@ -3,7 +3,7 @@ use Prim.Native.Nat.{_≤_}
 use mathlib.Core.Path.{refl, ap, sym}
 use native.Mathlib.Omega.{arith}
 use borrow.Author.Tests.{le-ltb}
-use Rattle.tracks.specs.Video.{stereo}
+use Rattle.tracks.specs.Video.{modes, stereo}
 use Rattle.tracks.proofs.stereo.mode_of.Statement.{statement}
 use Rattle.tracks.proofs.stereo.mode_of.Tie as tie
 
@@ -87,7 +87,7 @@ returns-16 c =
     let at-least-13 : 13 ≤ n = omega (arith, at-least-12, other .0 .0 .1) in
     let at-least-14 : 14 ≤ n = omega (arith, at-least-13, other .0 .1) in
     let at-least-15 : 15 ≤ n = omega (arith, at-least-14, other .1) in
-    rw (le-ltb n 15 at-least-15) refl
+    rw (le-ltb n modes at-least-15) refl
 
 pub mode-of-spec : {M : Type 1} → statement M
 mode-of-spec =
