@@ -49,9 +49,46 @@ module _ (s : List ℕ) (rs : List Row) (parent : ℕ) (l : parent ≤ length rs
       let number = numbers s rs parent l in
       let flag = flags s rs parent l in
       let part = parts s rs parent l in
-      let type = said-placed rs typed (typed-placed rs) s parent (subtree rs parent) _ in
-      (number _, (number _, (type, (flag _, (flag _, (flag _, (tt, (tt, (tt, (tt, (tt, (flag _, (number _,
-          (part _ _, (languages s rs parent l _ _, (part _ _, (part _ _, (part _ _, p))))))))))))))))))
+      let type = said-placed rs typed (typed-placed rs) s parent (subtree rs parent) _ in (
+        number _,
+        (
+          number _,
+          (
+            type,
+            (
+              flag _,
+              (
+                flag _,
+                (
+                  flag _,
+                  (
+                    tt,
+                    (
+                      tt,
+                      (
+                        tt,
+                        (
+                          tt,
+                          (
+                            tt,
+                            (
+                              flag _,
+                              (
+                                number _,
+                                (part _ _, (languages s rs parent l _ _, (part _ _, (part _ _, (part _ _, p))))),
+                              ),
+                            ),
+                          ),
+                        ),
+                      ),
+                    ),
+                  ),
+                ),
+              ),
+            ),
+          ),
+        ),
+      )
 
   track-placed : AllPlaced rs (trackOf s rs parent)
   unfolding trackOf
