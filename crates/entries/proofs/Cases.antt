@@ -36,5 +36,5 @@ unfolding octetBits bits oneMore widthOf bigEndianFrom bigEndian ofWidth vintOf 
     deeper subtree fits childrenFrom lastFrom nthOf numberOf flagOf partOf languageOf realOf
     reached asked saidOf stereo audioOf videoOf typeIn typed settingsOf entryOf trackOf
 cases-hold =
-    let later : Hold (drop 5 cases) = (refl, (refl, (refl, (refl, (refl, tt))))) in
+    let later : Hold (drop 5 cases) = (refl, (refl, (refl, (refl, (refl, (refl, (refl, (refl, tt)))))))) in
     (refl, (refl, (refl, (refl, (refl, later)))))

@@ -5,7 +5,7 @@ use mathlib.Core.List.{List, [], _∷_}
 use mathlib.Core.Bool.{true, false}
 use lib.ListN.{length}
 use lib.Ieee.{binary64, ofBits}
-use Rattle.fields.specs.Values.{Value, unset, number, flag, part, ietf, real}
+use Rattle.fields.specs.Values.{Value, unset, number, flag, part, iso, ietf, real}
 use Rattle.records.specs.Told.{Answer, fields, refusal}
 use Rattle.records.specs.Promise.{answerOf}
 use Rattle.records.specs.Cases.{Case, case, numbers}
@@ -54,6 +54,32 @@ frames more =
 abbrev others : List ℕ
 others = 0xAE ∷ 0x89 ∷ 0xE0 ∷ 0x87 ∷ 0x9A ∷ 0x81 ∷ 0x00 ∷ 0x53 ∷ 0xB8 ∷ 0x81 ∷ 0x0F ∷ []
 
+-- The flags 55AB to 55AF, all 1.
+abbrev unread : List ℕ
+unread =
+    0xAE ∷ 0x94 ∷ 0x55 ∷ 0xAB ∷ 0x81 ∷ 0x01 ∷ 0x55 ∷ 0xAC ∷ 0x81 ∷ 0x01 ∷ 0x55 ∷ 0xAD ∷ 0x81 ∷ 0x01 ∷ 0x55 ∷ 0xAE
+    ∷ 0x81 ∷ 0x01 ∷ 0x55 ∷ 0xAF ∷ 0x81 ∷ 0x01 ∷ []
+
+-- An entry with uid 3, default 0, forced 1, lacing 0, a duration of 4, an ISO 639 language, codec id, codec private and
+-- codec name, and video settings with the sizes 5, 6, 7 and 8 and interlaced 1.
+abbrev full : List ℕ
+full =
+    0xAE ∷ 0xB8 ∷ 0x73 ∷ 0xC5 ∷ 0x81 ∷ 0x03 ∷ 0x88 ∷ 0x81 ∷ 0x00 ∷ 0x55 ∷ 0xAA ∷ 0x81 ∷ 0x01 ∷ 0x9C ∷ 0x81 ∷ 0x00
+    ∷ 0x23 ∷ 0xE3 ∷ 0x83 ∷ 0x81 ∷ 0x04 ∷ 0x22 ∷ 0xB5 ∷ 0x9C ∷ 0x81 ∷ 0x65 ∷ 0x86 ∷ 0x81 ∷ 0x56 ∷ 0x63 ∷ 0xA2 ∷ 0x82
+    ∷ 0xFF ∷ 0x00 ∷ 0x25 ∷ 0x86 ∷ 0x88 ∷ 0x81 ∷ 0x43 ∷ 0xE0 ∷ 0x91 ∷ 0xB0 ∷ 0x81 ∷ 0x05 ∷ 0xBA ∷ 0x81 ∷ 0x06 ∷ 0x54
+    ∷ 0xB0 ∷ 0x81 ∷ 0x07 ∷ 0x54 ∷ 0xBA ∷ 0x81 ∷ 0x08 ∷ 0x9A ∷ 0x81 ∷ 0x01 ∷ []
+
+abbrev fullValues : List Value
+fullValues =
+    unset ∷ number 3 ∷ unset ∷ unset ∷ flag false ∷ flag true ∷ unset ∷ unset ∷ unset ∷ unset ∷ unset ∷ flag false
+    ∷ number 4 ∷ unset ∷ iso 25 1 ∷ part 28 1 ∷ part 32 2 ∷ part 38 1 ∷ number 1 ∷ number 5 ∷ number 6 ∷ number 7
+    ∷ number 8 ∷ flag true ∷ unset ∷ unset ∷ []
+
+-- Two E0, the first with a width of 5, and an entry inside the entry, with the track number 9.
+abbrev twoVideos : List ℕ
+twoVideos =
+    0xAE ∷ 0x8C ∷ 0xE0 ∷ 0x83 ∷ 0xB0 ∷ 0x81 ∷ 0x05 ∷ 0xAE ∷ 0x83 ∷ 0xD7 ∷ 0x81 ∷ 0x09 ∷ 0xE0 ∷ 0x80 ∷ []
+
 abbrev pub cases : List Case
 cases =
     -- An entry without fields has none set.
@@ -72,8 +98,13 @@ cases =
     (video (flag false) (number 14) (real (ofBits binary64 0x3FF0000000000000)))) 7)
     -- Interlaced other than 1 and 2, and a mode over 14, stay unset.
     ∷ track others 0 (fields (few unset unset unset unset unset (video unset unset unset)) 4)
-    -- The flags 55AB to 55AF stay unset; the row is there.
-    ∷ track (0xAE ∷ 0x84 ∷ 0x55 ∷ 0xAB ∷ 0x81 ∷ 0x01 ∷ []) 0 (fields bare 2)
+    -- The flags 55AB to 55AF stay unset; their rows are there.
+    ∷ track unread 0 (fields bare 6)
+    -- Each field is taken from its own id.
+    ∷ track full 0 (fields fullValues 16)
+    -- What an earlier E0 held is not kept; an entry inside an entry is none of Tracks, and sets nothing.
+    ∷ track twoVideos 0 (fields (few unset unset unset unset unset (video unset unset unset)) 6)
+    ∷ track twoVideos 1 (refusal 15 0)
     -- The full set of masters holds for the direct children of Tracks: an E0 there has a row below it.
     ∷ track (0xE0 ∷ 0x83 ∷ 0xB0 ∷ 0x81 ∷ 0x05 ∷ 0xAE ∷ 0x80 ∷ []) 0 (fields bare 3)
     -- The read's refusals come before 15: here a number of 9 bytes, and no second entry.

@@ -22,8 +22,8 @@ decided (ChildAt n r) NoChild = Video n
 decided NoChild (ChildAt m q) = Audio m
 decided (ChildAt n r) (ChildAt m q) = cond (ltb n m) (Audio m) (Video n)
 
--- Of a master among the rows that were read. Which settings they are is told by the number of the track type: 1 for
--- video and 2 for audio.
+-- Of a master among the rows that were read. Which settings they are is told by the number of the track type, 1 for
+-- video and 2 for audio, and none by unset.
 module _ (s : List ℕ) (rs : List Row) (parent : ℕ) where
   abbrev pub settingsIn : Deciding → List Value
   settingsIn None = unset ∷ []

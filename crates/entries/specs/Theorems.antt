@@ -36,7 +36,7 @@ IsVideo parent below m = fits parent 0xE0 Master (nth below m) ≡ true
 abbrev pub IsAudio : ℕ → List Row → ℕ → Type 0
 IsAudio parent below m = fits parent 0xE1 Master (nth below m) ≡ true
 
--- No row from m on is one.
+-- No row from k on is one.
 abbrev pub NoneFrom : ℕ → List Row → ℕ → Type 0
 NoneFrom parent below k =
     (m : ℕ) → k < m + 1 → m < length below

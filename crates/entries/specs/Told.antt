@@ -1,4 +1,4 @@
--- Document 01's values for the fields of a track.
+-- The values of a track's fields (document 02, C-11), in document 01's terms.
 use mathlib.Core.List.{List, [], _∷_}
 use Rattle.fields.specs.Values.{Value, unset, number}
 use Rattle.fields.specs.Told.{numberTold, flagTold, partTold, languageTold}

@@ -84,7 +84,7 @@ fn track_in(recording: &[u8], table: &[u64], rows: usize, master: Below) -> Trac
     }
 }
 
-// Track k of the Tracks payload of `size` bytes from `start` on.
+// Track k of the Tracks payload of `size` bytes from `start` on. 15: there is no such track.
 pub fn track_at(recording: &[u8], start: u64, size: u64, k: u64, table: &mut [u64]) -> TrackReply
     ensures { λ r. ⌜ TrackPromise (now (recording .entry)) start size k (now (table .entry)) r (now (table .exit)) ⌝ }
 {

@@ -4,6 +4,7 @@ use fields::Flag;
 use fields::Language;
 use fields::Number;
 use fields::Part;
+use fields::Real;
 use header::Refusal;
 use lines::numbers;
 use lines::out;
@@ -61,6 +62,15 @@ pub fn flag(names: &[u8], place: usize, value: Flag, out: &mut [u8; 65536], held
         Flag::Unset => out::put(out, n, b"unset"),
         Flag::No => out::put(out, n, b"no"),
         Flag::Yes => out::put(out, n, b"yes"),
+    }
+}
+
+// A float behind its name.
+pub fn real(names: &[u8], place: usize, value: Real, out: &mut [u8; 65536], held: usize) -> usize {
+    let n = name(names, place, out, held);
+    match value {
+        Real::Unset => out::put(out, n, b"unset"),
+        Real::Is(value) => numbers::put_float(out, n, b"", value),
     }
 }
 

@@ -1,7 +1,4 @@
 // `audio START SIZE NUMBERS K BYTES`: the settings of an audio track.
-use fields::Real;
-use lines::numbers;
-use lines::out;
 use questions::asked::Asked;
 use questions::table;
 use questions::told;
@@ -31,10 +28,7 @@ pub fn fields_told(audio: Audio, out: &mut [u8; 65536], held: usize) -> usize {
     let rate = audio.sample_rate;
     let channels = audio.channels;
     let depth = audio.bit_depth;
-    let n = match rate {
-        Real::Unset => out::put(out, held, b"rate unset"),
-        Real::Is(value) => numbers::put_float(out, held, b"rate ", value),
-    };
+    let n = told::real(names, 0, rate, out, held);
     let n = told::number(names, 1, channels, out, n);
     told::number(names, 2, depth, out, n)
 }

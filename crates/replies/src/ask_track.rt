@@ -6,8 +6,6 @@ use entries::Track;
 use entries::TrackReply;
 use entries::Typed;
 use fields::Number;
-use fields::Real;
-use lines::numbers;
 use lines::out;
 use questions::asked::Asked;
 use questions::table;
@@ -76,7 +74,8 @@ fn type_told(tracktype: Typed, out: &mut [u8; 65536], held: usize) -> usize {
     }
 }
 
-// ` name RANGE language .. codec RANGE private RANGE codecname RANGE`
+// ` name RANGE language .. codec RANGE private RANGE codecname RANGE`; none is the first word of the line, so the first
+// place is left free.
 fn texts_told(track: Track, out: &mut [u8; 65536], held: usize) -> usize {
     let names = b"- name codec private codecname";
     let name = track.name;
@@ -108,7 +107,7 @@ fn settings_told(settings: Settings, out: &mut [u8; 65536], held: usize) -> usiz
 
 // `width N height N dwidth N dheight N interlaced F stereo N gamma F`
 fn video_told(video: Video, out: &mut [u8; 65536], held: usize) -> usize {
-    let names = b"width height dwidth dheight interlaced stereo";
+    let names = b"width height dwidth dheight interlaced stereo gamma";
     let width = video.pixel_width;
     let height = video.pixel_height;
     let dwidth = video.display_width;
@@ -122,10 +121,7 @@ fn video_told(video: Video, out: &mut [u8; 65536], held: usize) -> usize {
     let n = told::number(names, 3, dheight, out, n);
     let n = told::flag(names, 4, interlaced, out, n);
     let n = told::number(names, 5, mode_of(stereo), out, n);
-    match gamma {
-        Real::Unset => out::put(out, n, b" gamma unset"),
-        Real::Is(value) => numbers::put_float(out, n, b" gamma ", value),
-    }
+    told::real(names, 6, gamma, out, n)
 }
 
 // The number of a stereo mode.

@@ -1,4 +1,4 @@
--- The worked records of Tracks hold. Assumes nothing.
+-- The worked audio settings hold. Assumes nothing.
 use mathlib.Core.Path.{refl}
 use lib.Ieee.{ofBits}
 use Rattle.header.specs.Vint.{octetBits, bits, oneMore, widthOf, bigEndianFrom, bigEndian, ofWidth, vintOf}

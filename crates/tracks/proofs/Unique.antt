@@ -1,5 +1,5 @@
 -- Any two replies and tables that a promise permits to one question are equal. Assumes nothing.
-use Prim.Native.Nat.{ℕ, zero, suc}
+use Prim.Native.Nat.{ℕ, zero, suc, _<_}
 use mathlib.Core.Path.{_≡_, refl, ap, sym, _∙_}
 use mathlib.Core.List.{List, [], _∷_}
 use native.Mathlib.Omega.{arith}
@@ -10,10 +10,11 @@ use Rattle.fields.proofs.Once.{number-once, flag-once, real-once}
 use Rattle.records.specs.Promise.{ofBelow}
 use Rattle.records.proofs.Lists.{first, rest}
 use Rattle.records.proofs.Unique.{same-refused, one-answer}
+use Rattle.tracks.specs.Video.{modes}
 use Rattle.tracks.specs.Records.{audioOf}
 use Rattle.tracks.specs.Told.{stereoNumber, stereoTold, audioValues, videoValues, audioTold}
 use Rattle.tracks.specs.Promise.{audioAsked}
-use Rattle.tracks.specs.Theorems.{OneAudio, OneTracktype}
+use Rattle.tracks.specs.Theorems.{OneAudio, OneTracktype, OneStereoMode, ModesNumbered}
 use Rattle.tracks.specs.declared.audio.Audio.{Audio}
 use Rattle.tracks.specs.declared.audio.AudioReply.{AudioReply}
 use Rattle.tracks.specs.declared.audio.AudioReply.the-variants.{Audio as IsAudio, Refused as NoAudio}
@@ -29,8 +30,8 @@ use Rattle.tracks.specs.declared.video.Video.{Video}
 
 -- ---- a stereo mode has a number of its own
 
-abbrev modes : List StereoMode
-modes =
+abbrev named : List StereoMode
+named =
     Mono
     ∷ SideBySide LeftFirst
     ∷ TopBottom RightFirst
@@ -53,30 +54,31 @@ mode [] n = Mono
 mode (m ∷ ms) zero = m
 mode (m ∷ ms) (suc n) = mode ms n
 
-mode-back : (m : StereoMode) → mode modes (stereoNumber m) ≡ m
-mode-back Mono = refl
-mode-back (SideBySide LeftFirst) = refl
-mode-back (SideBySide RightFirst) = refl
-mode-back (TopBottom LeftFirst) = refl
-mode-back (TopBottom RightFirst) = refl
-mode-back (Checkboard LeftFirst) = refl
-mode-back (Checkboard RightFirst) = refl
-mode-back (RowInterleaved LeftFirst) = refl
-mode-back (RowInterleaved RightFirst) = refl
-mode-back (ColumnInterleaved LeftFirst) = refl
-mode-back (ColumnInterleaved RightFirst) = refl
-mode-back (Anaglyph CyanRed) = refl
-mode-back (Anaglyph GreenMagenta) = refl
-mode-back (Interlaced LeftFirst) = refl
-mode-back (Interlaced RightFirst) = refl
+named-back : (m : StereoMode) → mode named (stereoNumber m) ≡ m
+named-back Mono = refl
+named-back (SideBySide LeftFirst) = refl
+named-back (SideBySide RightFirst) = refl
+named-back (TopBottom LeftFirst) = refl
+named-back (TopBottom RightFirst) = refl
+named-back (Checkboard LeftFirst) = refl
+named-back (Checkboard RightFirst) = refl
+named-back (RowInterleaved LeftFirst) = refl
+named-back (RowInterleaved RightFirst) = refl
+named-back (ColumnInterleaved LeftFirst) = refl
+named-back (ColumnInterleaved RightFirst) = refl
+named-back (Anaglyph CyanRed) = refl
+named-back (Anaglyph GreenMagenta) = refl
+named-back (Interlaced LeftFirst) = refl
+named-back (Interlaced RightFirst) = refl
+
+mode-once : (m n : StereoMode) → stereoNumber m ≡ stereoNumber n → m ≡ n
+mode-once m n e = sym (named-back m) ∙ ap (mode named) e ∙ named-back n
 
 stereo-once : (x y : Stereo) → stereoTold x ≡ stereoTold y → x ≡ y
 stereo-once Unset Unset q = refl
 stereo-once Unset (Is m) q = let z : _≡_ {A = ℕ} 0 1 = cc in absurd (omega arith)
 stereo-once (Is m) Unset q = let z : _≡_ {A = ℕ} 0 1 = cc in absurd (omega arith)
-stereo-once (Is m) (Is n) q =
-    let e : stereoNumber m ≡ stereoNumber n = cc in
-    ap Is (sym (mode-back m) ∙ ap (mode modes) e ∙ mode-back n)
+stereo-once (Is m) (Is n) q = ap Is (mode-once m n (cc))
 
 -- ---- the fields tell the record
 
@@ -144,3 +146,26 @@ audio-unique s start size k t u r r′ t′ u′ l p q =
 
 pub tracktype-unique : OneTracktype
 tracktype-unique n r r′ p q = p ∙ sym q
+
+pub stereo-mode-unique : OneStereoMode
+stereo-mode-unique m r r′ p q = p ∙ sym q
+
+number-below : (m : StereoMode) → stereoNumber m < modes
+number-below Mono = omega arith
+number-below (SideBySide LeftFirst) = omega arith
+number-below (SideBySide RightFirst) = omega arith
+number-below (TopBottom LeftFirst) = omega arith
+number-below (TopBottom RightFirst) = omega arith
+number-below (Checkboard LeftFirst) = omega arith
+number-below (Checkboard RightFirst) = omega arith
+number-below (RowInterleaved LeftFirst) = omega arith
+number-below (RowInterleaved RightFirst) = omega arith
+number-below (ColumnInterleaved LeftFirst) = omega arith
+number-below (ColumnInterleaved RightFirst) = omega arith
+number-below (Anaglyph CyanRed) = omega arith
+number-below (Anaglyph GreenMagenta) = omega arith
+number-below (Interlaced LeftFirst) = omega arith
+number-below (Interlaced RightFirst) = omega arith
+
+pub modes-numbered : ModesNumbered
+modes-numbered = record { own = mode-once; below = number-below }

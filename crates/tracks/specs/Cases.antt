@@ -1,4 +1,4 @@
--- Worked records of Tracks, as one table: a question about a small payload, and the answer. They show the rules of
+-- Worked audio settings, as one table: a question about a small payload, and the answer. They show the rules of
 -- document 01, Records.
 use Prim.Native.Nat.{ℕ}
 use mathlib.Core.List.{List, [], _∷_}

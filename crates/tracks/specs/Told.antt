@@ -1,4 +1,4 @@
--- Document 01's values for the settings of a track.
+-- The values of a track's settings (document 01, Records; document 02, C-11), in document 01's terms.
 use Prim.Native.Nat.{ℕ}
 use mathlib.Core.List.{List, [], _∷_}
 use Rattle.fields.specs.Values.{Value, unset, number}
@@ -19,7 +19,7 @@ use Rattle.tracks.specs.declared.stereo.Stereo.{Stereo}
 use Rattle.tracks.specs.declared.stereo.Stereo.the-variants.{Unset, Is}
 use Rattle.tracks.specs.declared.video.Video.{Video}
 
--- ---- a stereo mode, by its number
+-- ---- a stereo mode, by its number in the crate's `Video::build`
 
 abbrev pub byOrder : EyeOrder → (left right : ℕ) → ℕ
 byOrder LeftFirst left right = left

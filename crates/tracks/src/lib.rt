@@ -1,6 +1,6 @@
 // The settings of a track (document 01, Records; document 02, C-11), audio and video, and track types.
 //
-// A record question takes the place of a part's payload, reads it into a lent table and builds the record asked for.
+// The question takes the place of an E1 payload, reads it into a lent table and builds the record asked for.
 // `audio_in` and `video_in` are for the crate above, which builds them from rows that were read.
 mod audio;
 mod stereo;

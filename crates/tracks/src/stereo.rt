@@ -2,7 +2,8 @@
 ghost use mathlib.Core.Path.{_≡_};
 ghost use Rattle.tracks.specs.Said.{said};
 ghost use Rattle.tracks.specs.Video.{stereo};
-ghost use Rattle.tracks.specs.Told.{byOrder, stereoNumber, stereoTold};
+ghost use Rattle.tracks.specs.Told.{byOrder, stereoTold};
+ghost use Rattle.tracks.specs.Promise.{StereoModePromise};
 use fields::Number;
 
 // The eye that is shown first.
@@ -35,7 +36,7 @@ pub enum Stereo {
 impl StereoMode {
     // The mode's number, as it stands in the recording.
     pub fn number(self) -> u64
-        ensures { λ r. ⌜ r ≡ stereoNumber self ⌝ }
+        ensures { λ r. ⌜ StereoModePromise self r ⌝ }
     {
         match self {
             StereoMode::Mono => 0,
