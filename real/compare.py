@@ -33,7 +33,7 @@ PLAIN = {0x55AB, 0x55AC, 0x55AD, 0x55AE, 0x55AF, 0x41F0, 0x41E7, 0x44B4, 0x4588,
 # Matroska's default values (RFC 9559), which a tool may show for an element that is not there.
 DEFAULTS = {'TargetTypeValue': 50, 'EditionFlagHidden': 0, 'EditionFlagDefault': 0, 'EditionFlagOrdered': 0,
             'ChapterFlagHidden': 0, 'ChapterFlagEnabled': 1, 'DefaultLanguage': 1, 'SamplingFrequency': 8000.0,
-            'Channels': 1, 'enabled': 1, 'default': 1, 'forced': 0}
+            'Channels': 1, 'enabled': 1, 'default': 1, 'forced': 0, 'Language': 'eng'}
 # The numbers and flags of a track: the field of our answer, its id, mkvinfo's label, mkvmerge's property, and ffprobe's
 # disposition; None where the tool does not show it.
 TRACK_NUMBERS = [
@@ -78,6 +78,7 @@ REASONS = collections.OrderedDict([
                   'one'),
     ('nested', 'atoms in an atom or simple tags in a simple tag, which the records pass over; the rows have them'),
     ('description', 'mkvmerge shows an empty description where there is none; ours is unset'),
+    ('empty name', 'mkvmerge shows no name for a track whose name is an empty text'),
     ('ffprobe: editions', 'ffprobe leaves out a chapter that does not start after all before it'),
     ('ffprobe: name', 'ffprobe shows the name of the last display of several'),
     ('ffprobe: end', 'ffprobe fills in the end of a chapter that has none'),
@@ -866,30 +867,39 @@ class Comparison:
         for field, label in (('name', 'Name'), ('codec', 'Codec ID'), ('private', 'Codec\'s private data'),
                              ('codecname', 'Codec name')):
             self.same_place('%s %s' % (what, field), got[field], seen, label)
-        self.same_text(what + ' name', spots['name'], properties.get('track_name'))
-        self.same_text(what + ' name by ffprobe', spots['name'], stream.get('tags', {}).get('title'))
+        named = self.children(seen, 'Name')[-1:]
+        if named and named[0].data == 0 and properties.get('track_name') is None:
+            self.find('empty name', what)
+        else:
+            self.same_text(what + ' name', spots['name'], properties.get('track_name'))
+        tags = stream.get('tags', {})
+        self.same_text(what + ' name by ffprobe', spots['name'], tags.get('title'))
         self.same_text(what + ' codec', spots['codec'], properties['codec_id'])
+        self.same_text(what + ' codec name', spots['codecname'], properties.get('codec_name'))
         data = None if spots['private'] is None else self.text(spots['private'])
         self.same(what + ' private', data and data.hex(), properties.get('codec_private_data'))
         self.same(what + ' private size', len(data or b''), properties['codec_private_length'])
-        last = self.children(seen, 'Codec name')[-1:]
-        self.same_text(what + ' codec name', spots['codecname'], last[0].value if last else None)
-        # mkvmerge shows both languages of a track; ffprobe the older form alone, and 'und' as none.
+        self.track_language(what, got['language'], seen, properties, tags)
+
+    def track_language(self, what, ours, seen, properties, tags):
+        """mkvmerge shows both languages of a track. ffprobe shows the older form alone, and no 'und'."""
         isos, ietfs = self.children(seen, 'Language'), self.children(seen, 'Language (IETF BCP 47)')
         kind = 'ietf' if ietfs else 'iso' if isos else 'unset'
-        if kind == 'unset' or got['language'] == 'unset':
-            self.same(what + ' language', got['language'], kind)
+        if not self.same(what + ' language kind', ours if ours == 'unset' else ours[0], kind):
             return
-        self.same(what + ' language kind', got['language'][0], kind)
-        self.same_place(what + ' language', got['language'][1], seen,
-                        'Language (IETF BCP 47)' if kind == 'ietf' else 'Language')
-        self.same_text(what + ' language', got['language'][1],
-                       properties.get('language_ietf' if kind == 'ietf' else 'language'))
-        if isos and ietfs:
-            self.find('languages', '%s: %s' % (what, ' '.join(e.value for e in isos + ietfs)))
+        if not isos and properties['language'] == DEFAULTS['Language'] == tags.get('language'):
+            self.find('default', '%s language: %s' % (what, properties['language']))
         elif kind == 'iso':
-            self.same_text(what + ' language by ffprobe', got['language'][1],
-                           stream.get('tags', {}).get('language', 'und'))
+            self.same_text(what + ' language', ours[1], properties['language'])
+            self.same_text(what + ' language by ffprobe', ours[1], tags.get('language', 'und'))
+        elif kind == 'unset':
+            self.same(what + ' language', None, properties['language'])
+        if kind != 'unset':
+            self.same_place(what + ' language', ours[1], seen, (ietfs or isos)[-1].label)
+        if kind == 'ietf':
+            self.same_text(what + ' language', ours[1], properties.get('language_ietf'))
+            if isos:
+                self.find('languages', '%s: %s' % (what, ' '.join(e.value for e in isos + ietfs)))
 
     def settings(self, what, part, element, got, n, seen, properties, stream):
         """The settings of a track: those of the last Video or Audio in it."""
