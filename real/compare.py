@@ -3,7 +3,7 @@
 # FOLDER has the recordings of real/make.py; the words behind it are the commands that run `ask`, `rows` and `parts`.
 # --selftest as the first word changes our answers and the tools' facts one at a time, and sees that it is noticed.
 # --questions FILE as the first words writes some of the questions down: of each recording, the first three of each
-# word, and all those for parts.
+# word, and all those for parts and tracks.
 #
 # It prints a line for each recording, the findings by reason, and a summary; FOLDER/findings.txt has each finding in a
 # line. A finding is a difference with a named reason whose condition was tested on the tools' own facts. Whatever has
@@ -96,10 +96,11 @@ class Asker:
         self.written, self.words = None, collections.Counter()
 
     def write(self, question):
-        """Writes the question down, if it is one of the first of its word since the last clearing of `words`."""
+        """Writes the question down, if it is for a part or a track, or one of the first of its word since the last
+        clearing of `words`."""
         word = question.split(' ')[0]
         self.words[word] += 1
-        if word == 'part' or self.words[word] <= 3:
+        if word in ('part', 'track') or self.words[word] <= 3:
             self.written.write(question + '\n')
 
     def __call__(self, question):
