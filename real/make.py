@@ -365,8 +365,9 @@ class Maker:
                  '0:0.31,0.33', '--max-content-light', '0:400', '--cropping', '0:1,2,3,4', '--stereo-mode', '0:1',
                  '--aspect-ratio', '0:16/9', '--field-order', '0:1', 'source.mkv')
         ffmpeg('glimpse.mkv', *PICTURE, *MPEG4, *BITEXACT, '-t', '0.3')
-        mkvmerge(add('mm-stereo.mkv', 'fifteen pictures, one of each stereo mode'), *[word for mode in range(15) for word
-                 in ('--stereo-mode', '0:%d' % mode, '--track-name', '0:mode %d' % mode, 'glimpse.mkv')])
+        mkvmerge(add('mm-stereo.mkv', 'fifteen pictures, one of each stereo mode; mkvmerge does not write mode 0'),
+                 *[word for mode in range(15) for word in ('--stereo-mode', '0:%d' % mode, '--track-name',
+                                                           '0:mode %d' % mode, 'glimpse.mkv')])
         mkvmerge(add('mm-marks.mkv', 'marks of tracks'), '--hearing-impaired-flag', '1:yes', '--visual-impaired-flag',
                  '1:yes', '--text-descriptions-flag', '0:yes', '--original-flag', '0:yes', '--commentary-flag', '1:yes',
                  '--forced-display-flag', '1:yes', '--track-enabled-flag', '1:no', 'source.mkv')
