@@ -403,7 +403,7 @@ class Maker:
         name = 'a very long name for the camera over the bench, so that the track has no room where it was. '
         edit('ff-plain.mkv', 'pe-tracks.mkv', 'Tracks grown, and moved to the end', ['--edit', 'track:v1', '--set',
              'name=' + name * 3, '--edit', 'info', '--set', 'title=' + name * 2])
-        edit('ff-all.mkv', 'pe-settings.mkv', 'names of tracks and codecs, other flags and settings, languages left out',
+        edit('ff-all.mkv', 'pe-settings.mkv', 'names of tracks and codecs, other flags and settings, no language',
              ['--edit', 'track:1', '--set', 'name=Kamera über der Bank 配線', '--set', 'codec-name=MPEG-4, as filmed',
               '--set', 'interlaced=1', '--set', 'stereo-mode=13', '--set', 'display-width=80', '--set',
               'display-height=60', '--set', 'flag-enabled=0', '--delete', 'language', '--delete', 'language-ietf'],
