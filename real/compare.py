@@ -3,7 +3,7 @@
 # FOLDER has the recordings of real/make.py; the words behind it are the commands that run `ask`, `rows` and `parts`.
 # --selftest as the first word changes our answers and the tools' facts one at a time, and sees that it is noticed.
 # --questions FILE as the first words writes some of the questions down: of each recording, the first three of each
-# word, and all those for parts.
+# word, and all those for parts and tracks.
 #
 # It prints a line for each recording, the findings by reason, and a summary; FOLDER/findings.txt has each finding in a
 # line. A finding is a difference with a named reason whose condition was tested on the tools' own facts. Whatever has
@@ -33,7 +33,27 @@ PLAIN = {0x55AB, 0x55AC, 0x55AD, 0x55AE, 0x55AF, 0x41F0, 0x41E7, 0x44B4, 0x4588,
 # Matroska's default values (RFC 9559), which a tool may show for an element that is not there.
 DEFAULTS = {'TargetTypeValue': 50, 'EditionFlagHidden': 0, 'EditionFlagDefault': 0, 'EditionFlagOrdered': 0,
             'ChapterFlagHidden': 0, 'ChapterFlagEnabled': 1, 'DefaultLanguage': 1, 'SamplingFrequency': 8000.0,
-            'Channels': 1}
+            'Channels': 1, 'enabled': 1, 'default': 1, 'forced': 0, 'Language': 'eng'}
+# The numbers and flags of a track: the field of our answer, its id, mkvinfo's label, mkvmerge's property, and ffprobe's
+# disposition; None where the tool does not show it.
+TRACK_NUMBERS = [
+    ('number', 0xD7, 'Track number', 'number', None), ('uid', 0x73C5, 'Track UID', 'uid', None),
+    ('enabled', 0xB9, '"Enabled" flag', 'enabled_track', None),
+    ('default', 0x88, '"Default track" flag', 'default_track', 'default'),
+    ('forced', 0x55AA, '"Forced display" flag', 'forced_track', 'forced'),
+    ('lacing', 0x9C, '"Lacing" flag', None, None),
+    ('duration', 0x23E383, 'Default duration', 'default_duration', None)]
+# Those that are plain bytes for us, and so unset in the record: field, id, label and property.
+TRACK_MARKS = [
+    ('hearing', 0x55AB, '"Hearing impaired" flag', 'flag_hearing_impaired'),
+    ('visual', 0x55AC, '"Visual impaired" flag', 'flag_visual_impaired'),
+    ('text', 0x55AD, '"Text descriptions" flag', 'flag_text_descriptions'),
+    ('original', 0x55AE, '"Original language" flag', 'flag_original'),
+    ('commentary', 0x55AF, '"Commentary" flag', 'flag_commentary')]
+# The stereo modes 0 to 14, as ffprobe calls them.
+STEREO = ['mono', 'left_right', 'bottom_top', 'top_bottom', 'checkerboard_rl', 'checkerboard_lr', 'row_interleaved_rl',
+          'row_interleaved_lr', 'col_interleaved_rl', 'col_interleaved_lr', 'anaglyph_cyan_red', 'right_left',
+          'anaglyph_green_magenta', 'block_lr', 'block_rl']
 
 REASONS = collections.OrderedDict([
     ('crc-32', 'mkvinfo does not show CRC-32 elements; ours are rows. Each is the first in its master, and its value '
@@ -53,9 +73,12 @@ REASONS = collections.OrderedDict([
     ('cut off', 'the seek entry leads past the end of the recording: refused 1'),
     ('default', 'the tool shows Matroska\'s default for an element that mkvinfo does not show; ours is unset'),
     ('zero bytes', 'the text has zero bytes at its end, which the tools leave out and ours keeps'),
-    ('languages', 'a display or a simple tag has several languages; ours is the last IETF one, or the last ISO one'),
+    ('marks', 'a mark of a track, 55AB to 55AF, is plain bytes for us: unset in the record, and mkvmerge shows it'),
+    ('languages', 'a display, simple tag or track has several languages; ours is the last IETF one, or the last ISO '
+                  'one'),
     ('nested', 'atoms in an atom or simple tags in a simple tag, which the records pass over; the rows have them'),
     ('description', 'mkvmerge shows an empty description where there is none; ours is unset'),
+    ('empty name', 'mkvmerge shows no name for a track whose name is an empty text'),
     ('ffprobe: editions', 'ffprobe leaves out a chapter that does not start after all before it'),
     ('ffprobe: name', 'ffprobe shows the name of the last display of several'),
     ('ffprobe: end', 'ffprobe fills in the end of a chapter that has none'),
@@ -73,10 +96,11 @@ class Asker:
         self.written, self.words = None, collections.Counter()
 
     def write(self, question):
-        """Writes the question down, if it is one of the first of its word since the last clearing of `words`."""
+        """Writes the question down, if it is for a part or a track, or one of the first of its word since the last
+        clearing of `words`."""
         word = question.split(' ')[0]
         self.words[word] += 1
-        if word == 'part' or self.words[word] <= 3:
+        if word in ('part', 'track') or self.words[word] <= 3:
             self.written.write(question + '\n')
 
     def __call__(self, question):
@@ -132,6 +156,13 @@ class Part:
 def ranged(word):
     """ADDRESS+LENGTH, or None for unset."""
     return None if word == 'unset' else tuple(map(int, word.split('+')))
+
+
+def shown_number(shown):
+    """The number that mkvinfo shows of an element, or None where its text does not begin with one."""
+    clock = re.match(r'^(\d\d:\d\d:\d\d\.\d{9})( |$)', shown.value or '')
+    plain = re.match(r'^(-?\d+)( |$)', shown.value or '')
+    return time_of(clock.group(1)) if clock else int(plain.group(1)) if plain else None
 
 
 def number(word):
@@ -410,12 +441,8 @@ class Comparison:
                 ours = struct.unpack('>d', bytes.fromhex(value))[0]
                 self.same(where, abs(ours - float(shown.value)) <= 1e-6 * max(1.0, abs(ours)), True)
             else:
-                clock = re.match(r'^(\d\d:\d\d:\d\d\.\d{9})( |$)', shown.value)
-                plain = re.match(r'^(-?\d+)( |$)', shown.value)
-                if clock:
-                    self.same(where, int(value), time_of(clock.group(1)))
-                elif plain:
-                    self.same(where, int(value), int(plain.group(1)))
+                if shown_number(shown) is not None:
+                    self.same(where, int(value), shown_number(shown))
                 elif shown.label == 'Track type':
                     self.same(where, self.ask('tracktype ' + value).rstrip('s'), shown.value.rstrip('s'))
                 else:
@@ -785,22 +812,150 @@ class Comparison:
     def tracks(self, part, element):
         listed = self.tools.identified.get('tracks', [])
         streams = [s for s in self.tools.probed.get('streams', []) if s.get('codec_type') != 'attachment']
+        shown = self.children(element, 'Track')
         ours = [(n, r) for n, r in enumerate(part.rows) if r.id == 0xAE and r.depth == 0]
+        self.same('tracks by mkvinfo', len(ours), len(shown))
         if not self.same('tracks by mkvmerge', len(ours), len(listed)):
             return
         self.same('tracks by ffprobe', len(ours), len(streams))
-        for (n, row), told, stream in zip(ours, listed, streams):
-            inside = {r.id: r for r in part.rows if r.parent == n + 1}
-            properties = told['properties']
+        for k, ((n, row), seen, told, stream) in enumerate(zip(ours, shown, listed, streams)):
             what = 'track at %d' % row.at
+            got = self.fields(part, 'track', k)
+            if not isinstance(got, dict):
+                self.fail('%s: %s' % (what, got))
+                continue
             self.counts['tracks'] += 1
-            for name, ident in (('number', 0xD7), ('uid', 0x73C5)):
-                self.same('%s %s' % (what, name), self.whole_number(inside.get(ident)), properties[name])
-            kind = self.ask('tracktype %d' % self.whole_number(inside[0x83]))
-            self.same(what + ' type', kind, told['type'].rstrip('s'))
-            self.same(what + ' type by ffprobe', kind, stream['codec_type'])
-            if 0xE1 in inside:
-                self.audio(what, part, element, inside[0xE1], properties, stream)
+            # The last direct child of each id.
+            inside = {r.id: r for r in part.rows if r.parent == n + 1}
+            self.track_numbers(what, got, inside, seen, told['properties'], stream)
+            kind = self.whole_number(inside.get(0x83))
+            self.same(what + ' type by its row', got['type'],
+                      'unset' if kind is None else self.ask('tracktype %d' % kind))
+            self.same(what + ' type', got['type'], told['type'].rstrip('s'))
+            self.same(what + ' type by ffprobe', got['type'], stream['codec_type'])
+            self.track_texts(what, got, seen, told['properties'], stream)
+            self.settings(what, part, element, got, n, seen, told['properties'], stream)
+        self.ends(part, 'Tracks', 'track', len(ours))
+
+    def track_numbers(self, what, got, inside, seen, properties, stream):
+        for field, ident, label, name, probed in TRACK_NUMBERS:
+            where = '%s %s' % (what, field)
+            value = number(got[field])
+            self.same(where + ' by its row', value, self.whole_number(inside.get(ident)))
+            last = self.children(seen, label)[-1:]
+            self.same(where + ' by mkvinfo', value, shown_number(last[0]) if last else None)
+            if not last and field in DEFAULTS:
+                self.find('default', '%s: %d' % (where, DEFAULTS[field]))
+                value = DEFAULTS[field]
+            if name:
+                self.same(where, value, properties.get(name))
+            if probed:
+                self.same(where + ' by ffprobe', value, stream['disposition'][probed])
+        for field, ident, label, name in TRACK_MARKS:
+            where = '%s %s' % (what, field)
+            self.same(where, got[field], 'unset')
+            if self.children(seen, label):
+                mark = inside[ident]
+                self.same(where + ': the bytes', int.from_bytes(self.text((mark.start(), mark.payload)), 'big'),
+                          properties.get(name))
+                self.find('marks', '%s: %s, in a row of kind %s' % (where, properties.get(name), KIND[mark.kind]))
+            else:
+                self.same(where + ' by mkvmerge', None, properties.get(name))
+
+    def track_texts(self, what, got, seen, properties, stream):
+        spots = {field: None if got[field] == 'unset' else got[field] for field in ('name', 'codec', 'private',
+                                                                                    'codecname')}
+        for field, label in (('name', 'Name'), ('codec', 'Codec ID'), ('private', 'Codec\'s private data'),
+                             ('codecname', 'Codec name')):
+            self.same_place('%s %s' % (what, field), got[field], seen, label)
+        named = self.children(seen, 'Name')[-1:]
+        if named and named[0].data == 0 and properties.get('track_name') is None:
+            self.find('empty name', what)
+        else:
+            self.same_text(what + ' name', spots['name'], properties.get('track_name'))
+        tags = stream.get('tags', {})
+        self.same_text(what + ' name by ffprobe', spots['name'], tags.get('title'))
+        self.same_text(what + ' codec', spots['codec'], properties['codec_id'])
+        self.same_text(what + ' codec name', spots['codecname'], properties.get('codec_name'))
+        data = None if spots['private'] is None else self.text(spots['private'])
+        self.same(what + ' private', data and data.hex(), properties.get('codec_private_data'))
+        self.same(what + ' private size', len(data or b''), properties['codec_private_length'])
+        self.track_language(what, got['language'], seen, properties, tags)
+
+    def track_language(self, what, ours, seen, properties, tags):
+        """mkvmerge shows both languages of a track. ffprobe shows the older form alone, and no 'und'."""
+        isos, ietfs = self.children(seen, 'Language'), self.children(seen, 'Language (IETF BCP 47)')
+        kind = 'ietf' if ietfs else 'iso' if isos else 'unset'
+        if not self.same(what + ' language kind', ours if ours == 'unset' else ours[0], kind):
+            return
+        if not isos and properties['language'] == DEFAULTS['Language'] == tags.get('language'):
+            self.find('default', '%s language: %s' % (what, properties['language']))
+        elif kind == 'iso':
+            self.same_text(what + ' language', ours[1], properties['language'])
+            self.same_text(what + ' language by ffprobe', ours[1], tags.get('language', 'und'))
+        elif kind == 'unset':
+            self.same(what + ' language', None, properties['language'])
+        if kind != 'unset':
+            self.same_place(what + ' language', ours[1], seen, (ietfs or isos)[-1].label)
+        if kind == 'ietf':
+            self.same_text(what + ' language', ours[1], properties.get('language_ietf'))
+            if isos:
+                self.find('languages', '%s: %s' % (what, ' '.join(e.value for e in isos + ietfs)))
+
+    def settings(self, what, part, element, got, n, seen, properties, stream):
+        """The settings of a track: those of the last Video or Audio in it."""
+        both = [(i, r) for i, r in enumerate(part.rows) if r.parent == n + 1 and r.id in (0xE0, 0xE1)]
+        deciding = [e for e in seen.children if e.label in ('Video track', 'Audio track')][-1:]
+        kind = deciding[0].label.split(' ')[0].lower() if deciding else 'none'
+        if not self.same(what + ' settings', got['settings'], kind) or not deciding:
+            return
+        i, row = both[-1]
+        self.same(what + ' settings: the row', row.at, deciding[0].at)
+        if kind == 'audio':
+            words = self.audio(what, part, element, row, properties, stream)
+            for field in ('rate', 'channels', 'depth'):
+                self.same('%s %s by the audio question' % (what, field), got[field],
+                          words and words[words.index(field) + 1])
+            return
+        self.video(what, got, {r.id: r for r in part.rows if r.parent == i + 1}, deciding[0], properties, stream)
+
+    def video(self, what, got, inside, seen, properties, stream):
+        self.counts['video settings'] += 1
+        pixels, shows = ([int(n) for n in properties[name].split('x')] for name in ('pixel_dimensions',
+                                                                                   'display_dimensions'))
+        for field, ident, label, theirs, probed in (
+                ('width', 0xB0, 'Pixel width', pixels[0], stream['width']),
+                ('height', 0xBA, 'Pixel height', pixels[1], stream['height']),
+                ('dwidth', 0x54B0, 'Display width', shows[0], None),
+                ('dheight', 0x54BA, 'Display height', shows[1], None)):
+            where = '%s %s' % (what, field)
+            value = number(got[field])
+            last = self.children(seen, label)[-1:]
+            self.same(where + ' by its row', value, self.whole_number(inside.get(ident)))
+            self.same(where + ' by mkvinfo', value, shown_number(last[0]) if last else None)
+            if not last and field in ('dwidth', 'dheight') and theirs == pixels[field == 'dheight']:
+                self.find('default', '%s: %d' % (where, theirs))
+            else:
+                self.same(where, value, theirs)
+            if probed is not None:
+                self.same(where + ' by ffprobe', value, probed)
+        # 1 is interlaced and 2 is not; any other number says nothing.
+        last = self.children(seen, 'Interlaced')[-1:]
+        told = shown_number(last[0]) if last else None
+        self.same(what + ' interlaced by its row', self.whole_number(inside.get(0x9A)), told)
+        self.same(what + ' interlaced', got['interlaced'], {1: 'yes', 2: 'no'}.get(told, 'unset'))
+        if got['interlaced'] == 'no':
+            self.same(what + ' interlaced by ffprobe', 'progressive', stream.get('field_order'))
+        elif got['interlaced'] == 'yes':
+            self.same(what + ' interlaced by ffprobe', stream.get('field_order') != 'progressive', True)
+        last = self.children(seen, 'Stereo mode')[-1:]
+        mode = number(got['stereo'])
+        self.same(what + ' stereo by its row', mode, self.whole_number(inside.get(0x53B8)))
+        self.same(what + ' stereo by mkvinfo', mode, shown_number(last[0]) if last else None)
+        self.same(what + ' stereo', mode, properties.get('stereo_mode'))
+        self.same(what + ' stereo by ffprobe', None if mode is None else STEREO[mode],
+                  stream.get('tags', {}).get('stereo_mode'))
+        self.same(what + ' gamma', got['gamma'] != 'unset', 0x2FB523 in inside)
 
     def whole_number(self, row):
         if row is None:
@@ -814,7 +969,7 @@ class Comparison:
         words = answer.split(' ')
         if words[0] != 'rate':
             self.fail('%s audio: %s' % (what, answer[:60]))
-            return
+            return None
         inside = [r for r in part.rows if row.start() <= r.at < row.end()]
         self.same(what + ' audio: rows', ' '.join(words[6:]), 'rows %d rest 0' % len(inside))
         self.counts['audio settings'] += 1
@@ -836,6 +991,7 @@ class Comparison:
             else:
                 self.same('%s %s by ffprobe' % (what, name), value, float(probed))
         self.same(what + ' BitDepth', number(words[5]), properties.get('audio_bits_per_sample'))
+        return words
 
     # ---- All of it ----
 

@@ -364,6 +364,10 @@ class Maker:
                  '--chromaticity-coordinates', '0:0.7,0.3,0.2,0.8,0.1,0.05', '--white-colour-coordinates',
                  '0:0.31,0.33', '--max-content-light', '0:400', '--cropping', '0:1,2,3,4', '--stereo-mode', '0:1',
                  '--aspect-ratio', '0:16/9', '--field-order', '0:1', 'source.mkv')
+        ffmpeg('glimpse.mkv', *PICTURE, *MPEG4, *BITEXACT, '-t', '0.3')
+        mkvmerge(add('mm-stereo.mkv', 'fifteen pictures, one of each stereo mode; mkvmerge does not write mode 0'),
+                 *[word for mode in range(15) for word in ('--stereo-mode', '0:%d' % mode, '--track-name',
+                                                           '0:mode %d' % mode, 'glimpse.mkv')])
         mkvmerge(add('mm-marks.mkv', 'marks of tracks'), '--hearing-impaired-flag', '1:yes', '--visual-impaired-flag',
                  '1:yes', '--text-descriptions-flag', '0:yes', '--original-flag', '0:yes', '--commentary-flag', '1:yes',
                  '--forced-display-flag', '1:yes', '--track-enabled-flag', '1:no', 'source.mkv')
@@ -399,6 +403,12 @@ class Maker:
         name = 'a very long name for the camera over the bench, so that the track has no room where it was. '
         edit('ff-plain.mkv', 'pe-tracks.mkv', 'Tracks grown, and moved to the end', ['--edit', 'track:v1', '--set',
              'name=' + name * 3, '--edit', 'info', '--set', 'title=' + name * 2])
+        edit('ff-all.mkv', 'pe-settings.mkv', 'names of tracks and codecs, other flags and settings, no language',
+             ['--edit', 'track:1', '--set', 'name=Kamera über der Bank 配線', '--set', 'codec-name=MPEG-4, as filmed',
+              '--set', 'interlaced=1', '--set', 'stereo-mode=13', '--set', 'display-width=80', '--set',
+              'display-height=60', '--set', 'flag-enabled=0', '--delete', 'language', '--delete', 'language-ietf'],
+             ['--edit', 'track:2', '--set', 'name=', '--set', 'flag-forced=1', '--set', 'default-duration=128000000',
+              '--set', 'language-ietf=de-AT', '--delete', 'flag-default'])
         edit('mm-no-seek.mkv', 'pe-no-seek.mkv', 'edited though there was no seek head', ['--chapters', 'long.xml'])
         edit('mm-hidden.mkv', 'pe-hidden.mkv', 'chapters edited that no seek head named', ['--chapters', 'rich.xml'])
         edit('mm-cluster-seek.mkv', 'pe-cluster-seek.mkv', 'edited, with a second head', ['--chapters', 'long.xml'],

@@ -4,7 +4,8 @@
 import copy
 import re
 
-RECORDINGS = ['ff-all.mkv', 'mm-all.mkv', 'mm-ordered.mkv', 'mm-attachments.mkv', 'large-mm.mkv']
+RECORDINGS = ['ff-all.mkv', 'mm-all.mkv', 'mm-ordered.mkv', 'mm-attachments.mkv', 'mm-marks.mkv', 'pe-settings.mkv',
+              'large-mm.mkv']
 
 
 def number_changes(word):
@@ -16,7 +17,7 @@ def number_changes(word):
     if word in ('yes', 'no'):
         return ['no' if word == 'yes' else 'yes']
     if word == 'unset':
-        return ['1']
+        return ['1', 'no']
     if re.fullmatch(r'[0-9A-F]{16}', word):
         return ['%016X' % (int(word, 16) ^ 1 << 44)]
     if re.fullmatch(r'\d+', word):
@@ -28,7 +29,9 @@ def number_changes(word):
     if word in ('header', 'payload'):
         return ['payload' if word == 'header' else 'header']
     if word in ('video', 'audio', 'subtitle'):
-        return ['logo']
+        return ['logo', 'none']
+    if word == 'none':
+        return ['audio']
     return []
 
 
@@ -36,7 +39,8 @@ def word_changes(answer):
     words = answer.split(' ')
     for i, word in enumerate(words):
         for other in number_changes(word):
-            if words[i - 1:i] == ['language'] and other == '1' or words[i - 1:i] == ['value'] and word == 'unset':
+            # These words alone are no such answer.
+            if words[i - 1:i] == ['language'] and word == 'unset' or words[i - 1:i] == ['value'] and word == 'unset':
                 continue
             yield ' '.join(words[:i] + [other] + words[i + 1:])
 
@@ -210,6 +214,23 @@ def fact_changes(tools):
     def outside(said):
         first(said.info, 'Video projection').children[-1].at += 1000
 
+    def track(k, name, value):
+        """Another property of the k-th track."""
+        def change(said):
+            assert said.identified['tracks'][k]['properties'].get(name) != value
+            said.identified['tracks'][k]['properties'][name] = value
+        return change
+
+    def stream(k, name, value):
+        """Another fact of ffprobe's on the k-th track."""
+        def change(said):
+            about = said.probed['streams'][k]
+            for part in (about, about['disposition'], about['tags']):
+                if name in part:
+                    assert part[name] != value
+                    part[name] = value
+        return change
+
     def description(said):
         said.identified['attachments'][0]['description'] = 'x'
 
@@ -231,6 +252,26 @@ def fact_changes(tools):
         ('ffprobe: end', 'mm-all.mkv', end), ('ffprobe: uid', 'mm-all.mkv', uid),
         ('ffprobe: opus', 'webm-vp9.webm', opus), ('plain master', 'mm-picture.mkv', outside),
         ('a row of ours', 'mm-all.mkv', drop('Chapter UID', 'Chapter atom')),
+        *[('default', 'mm-all.mkv', child(label, 'Track')) for label in ('"Enabled" flag', '"Forced display" flag')],
+        *[('default', 'mm-plain.mkv', child(label, 'Video track')) for label in ('Display width', 'Display height')],
+        *[('default', 'pe-settings.mkv', change) for change in (
+            child('"Default track" flag', 'Track'), child('Language', 'Track'), track(0, 'language', 'ger'),
+            track(2, 'enabled_track', False), track(2, 'forced_track', True), track(1, 'default_track', False),
+            stream(0, 'language', 'ger'), stream(1, 'default', 0), stream(0, 'forced', 1))],
+        *[('marks', 'mm-marks.mkv', change) for change in (
+            track(1, 'flag_commentary', False), track(0, 'flag_commentary', True), track(0, 'flag_original', None),
+            drop('"Text descriptions" flag', 'Track'))],
+        ('languages', 'mm-all.mkv', track(1, 'language_ietf', 'fr')), ('empty name', 'pe-settings.mkv',
+                                                                      track(1, 'track_name', 'x')),
+        # Facts on a track that agree with ours without a reason.
+        *[('a fact of a track', 'pe-settings.mkv', change) for change in (
+            track(0, 'number', 2), track(0, 'uid', 2), track(0, 'track_name', 'x'), track(0, 'codec_name', 'x'),
+            track(0, 'codec_id', 'x'), track(0, 'codec_private_data', '00'), track(0, 'codec_private_length', 0),
+            track(0, 'default_duration', 1), track(0, 'pixel_dimensions', '64x47'), track(0, 'stereo_mode', 12),
+            track(0, 'display_dimensions', '80x61'), track(2, 'language', 'ger'), track(1, 'language_ietf', 'fr'),
+            stream(0, 'title', 'x'), stream(1, 'title', 'x'), stream(0, 'stereo_mode', 'block_rl'),
+            stream(0, 'width', 63), stream(2, 'language', 'ger'), drop('Interlaced', 'Video track'),
+            drop('Codec name', 'Track'), drop('"Lacing" flag', 'Track'), drop('Default duration', 'Track'))],
     ]
 
 
@@ -278,7 +319,7 @@ def run(folder, asker, run_rows, run_parts, Comparison, tools):
     for reason, name, change in fact_changes(tools):
         said = fresh(name, None).tools
         plain = fresh(name, said).all()
-        if plain.wrong or (reason != 'a row of ours' and reason not in {r for r, _ in plain.findings}):
+        if plain.wrong or (not reason.startswith('a ') and reason not in {r for r, _ in plain.findings}):
             print('selftest: %s has no finding %s as it is' % (name, reason))
             missed += 1
             continue

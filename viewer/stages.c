@@ -1,6 +1,7 @@
 // The boot stages of a recording: a small viewer on top of include/uzrafmed.h.
 //
-//   stages FILE           prints the address and the text of each chapter string, one a line
+//   stages FILE           prints which track is which, and the address and the text of each chapter
+//   string, one a line
 //   stages FILE ADDRESS   prints which row of which part holds a byte; decimal, or hexadecimal
 //   after 0x
 //
@@ -8,6 +9,9 @@
 // directly below a ChapterAtom (B6). The address is that of the text's first byte. Atoms may hold
 // atoms: their strings are listed too, and two spaces before the address stand for each atom that
 // holds the chapter's own.
+//
+// A track is a TrackEntry (AE) directly in Tracks. Its line has the address of its header, and the
+// number (D7), type (83) and name (536E) that its last such child holds; - stands for none.
 //
 // An address question is put to each of the four parts in turn. Each one whose payload holds the
 // byte is told in a line: the part, the row's number, header or payload, its id and kind, its two
@@ -17,9 +21,9 @@
 // shown as \xNN, each byte of them, so that a recording can't command a terminal, and a line is one
 // row. Names of files are shown so too, and what is not ASCII in them, since they may be any bytes.
 //
-// Status 0: answered; a recording without Chapters is told on standard error. Status 1: the file
-// can't be read, a part is refused, the address is past the end, or the answer can't be written.
-// Status 2: wrong arguments.
+// Status 0: answered; a recording without Tracks or Chapters is told on standard error. Status 1:
+// the file can't be read, a part is refused, the address is past the end, or the answer can't be
+// written. Status 2: wrong arguments.
 #define _POSIX_C_SOURCE 200809L
 #define _FILE_OFFSET_BITS 64
 #include "uzrafmed.h"
@@ -35,6 +39,10 @@
 #include <unistd.h>
 
 // The ids of the rows that are listed.
+#define TRACK_ENTRY 0xAE
+#define TRACK_NUMBER 0xD7
+#define TRACK_TYPE 0x83
+#define TRACK_NAME 0x536E
 #define CHAPTER_ATOM 0xB6
 #define CHAPTER_DISPLAY 0x80
 #define CHAP_STRING 0x85
@@ -59,6 +67,7 @@ static const part parts[] = {
     {"Tags", UZ_TAGS, UZ_UNDER_TAGS},
 };
 #define PARTS (sizeof parts / sizeof *parts)
+#define TRACKS_PART 0
 #define CHAPTERS_PART 2
 
 // The one table, as large as a table may be; too large for the stack.
@@ -173,7 +182,62 @@ static unsigned atoms_above(uint64_t row) {
     return atoms;
 }
 
-static int list(const recording *from) {
+// The last direct child of a row that has the id and kind, or 0, which is no row's child. What a
+// row holds stands right behind it, and deeper.
+static uint64_t child(uint64_t row, uint64_t rows, uint64_t id, uint64_t kind) {
+    uint64_t last = 0;
+    for (uint64_t at = row + 1; at < rows && cell(at, UZ_DEPTH) > cell(row, UZ_DEPTH); at++)
+        if (cell(at, UZ_PARENT) == row + 1 && cell(at, UZ_ID) == id && cell(at, UZ_KIND) == kind)
+            last = at;
+    return last;
+}
+
+static uint64_t number_in(const recording *from, uint64_t row) {
+    uz_range range = uz_row_payload(from->bytes, from->length, table, UZ_MOST_NUMBERS, row);
+    uint64_t number = 0;
+    for (uint64_t i = 0; i < range.length; i++)
+        number = number << 8 | from->bytes[range.at + i];
+    return number;
+}
+
+static const char *type_name(uint64_t type) {
+    static const char *const names[33] = {
+        [1] = "video",     [2] = "audio",    [3] = "complex", [16] = "logo",
+        [17] = "subtitle", [18] = "buttons", [32] = "control"};
+    return type < 33 && names[type] != NULL ? names[type] : "unknown";
+}
+
+static void tell_track(const recording *from, uint64_t row, uint64_t rows) {
+    uint64_t number = child(row, rows, TRACK_NUMBER, UZ_UNSIGNED);
+    uint64_t type = child(row, rows, TRACK_TYPE, UZ_UNSIGNED);
+    uint64_t name = child(row, rows, TRACK_NAME, UZ_UTF8);
+    printf("track %" PRIu64 " number ", cell(row, UZ_ADDRESS));
+    if (number != 0)
+        printf("%" PRIu64, number_in(from, number));
+    else
+        putchar('-');
+    printf(" type %s name %s", type != 0 ? type_name(number_in(from, type)) : "-",
+           name != 0 ? "\"" : "-\n");
+    if (name != 0) {
+        show_payload(from, name);
+        puts("\"");
+    }
+}
+
+static int list_tracks(const recording *from) {
+    const part *of = &parts[TRACKS_PART];
+    uz_part reply = uz_find_part(from->bytes, from->length, of->id, table, UZ_MOST_NUMBERS);
+    if (reply.refused != UZ_ACCEPTED)
+        return refused(from, of, reply.refused, reply.id);
+    for (uint64_t row = 0; row < reply.rows; row++)
+        if (cell(row, UZ_ID) == TRACK_ENTRY && cell(row, UZ_PARENT) == 0)
+            tell_track(from, row, reply.rows);
+    if (reply.found == 0)
+        fault(from->name, "no Tracks found");
+    return 0;
+}
+
+static int list_stages(const recording *from) {
     const part *of = &parts[CHAPTERS_PART];
     uz_part reply = uz_find_part(from->bytes, from->length, of->id, table, UZ_MOST_NUMBERS);
     if (reply.refused != UZ_ACCEPTED)
@@ -313,9 +377,12 @@ int main(int count, char **words) {
     if (open_recording(words[1], &from) != 0)
         return 1;
     int status = 0;
-    if (count == 2)
-        status = list(&from);
-    else if (address >= from.length)
+    if (count == 2) {
+        // A refused part leaves the other to be listed.
+        status = list_tracks(&from);
+        if (list_stages(&from) != 0)
+            status = 1;
+    } else if (address >= from.length)
         status = fault(from.name, "the address is past the last byte");
     else
         status = whose(&from, address);
