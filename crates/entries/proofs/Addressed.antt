@@ -1,7 +1,7 @@
 -- Every address in a track is the payload's place of a row of the table (`TrackAddressed`). Assumes nothing.
 use Prim.Native.Nat.{ℕ, suc, _≤_}
 use mathlib.Core.Path.{_≡_, refl, sym, _∙_}
-use mathlib.Core.List.{List}
+use mathlib.Core.List.{List, _∷_}
 use lib.ListN.{length}
 use Rattle.kinds.specs.declared.kind.Kind.the-variants.{Master}
 use Rattle.elements.specs.declared.row.Row.{Row}
@@ -28,7 +28,8 @@ module _ (s : List ℕ) (rs : List Row) (parent : ℕ) (l : parent ≤ length rs
   unfolding settingsOf AllPlaced
   settings-placed = go (decided (lastMaster s rs parent 0xE0) (lastMaster s rs parent 0xE1)) refl
     where
-      go : (d : Deciding) → decided (lastMaster s rs parent 0xE0) (lastMaster s rs parent 0xE1) ≡ d → AllPlaced rs (settingsIn s rs parent d)
+      go : (d : Deciding) → decided (lastMaster s rs parent 0xE0) (lastMaster s rs parent 0xE1) ≡ d
+          → AllPlaced rs (settingsIn s rs parent d)
       go None e = (tt, tt)
       go (Video n) e = (
         tt,
@@ -43,52 +44,23 @@ module _ (s : List ℕ) (rs : List Row) (parent : ℕ) (l : parent ≤ length rs
             (λ m r q. last-known rs parent 0xE1 Master l m r q) (sym e)),
       )
 
+  more : (v : Value) (vs : List Value) → Placed rs v → AllPlaced rs vs → AllPlaced rs (v ∷ vs)
+  unfolding AllPlaced
+  more v vs p q = (p, q)
+
   entry-placed : (vs : List Value) → AllPlaced rs vs → AllPlaced rs (entryOf s parent (subtree rs parent) vs)
-  unfolding entryOf AllPlaced
+  unfolding entryOf
   entry-placed vs p =
       let number = numbers s rs parent l in
       let flag = flags s rs parent l in
       let part = parts s rs parent l in
-      let type = said-placed rs typed (typed-placed rs) s parent (subtree rs parent) _ in (
-        number _,
-        (
-          number _,
-          (
-            type,
-            (
-              flag _,
-              (
-                flag _,
-                (
-                  flag _,
-                  (
-                    tt,
-                    (
-                      tt,
-                      (
-                        tt,
-                        (
-                          tt,
-                          (
-                            tt,
-                            (
-                              flag _,
-                              (
-                                number _,
-                                (part _ _, (languages s rs parent l _ _, (part _ _, (part _ _, (part _ _, p))))),
-                              ),
-                            ),
-                          ),
-                        ),
-                      ),
-                    ),
-                  ),
-                ),
-              ),
-            ),
-          ),
-        ),
-      )
+      let type = said-placed rs typed (typed-placed rs) s parent (subtree rs parent) _ in
+      more _ _ (number _) (more _ _ (number _) (more _ _ type
+      (more _ _ (flag _) (more _ _ (flag _) (more _ _ (flag _)
+      (more _ _ tt (more _ _ tt (more _ _ tt (more _ _ tt (more _ _ tt
+      (more _ _ (flag _) (more _ _ (number _)
+      (more _ _ (part _ _) (more _ _ (languages s rs parent l _ _)
+      (more _ _ (part _ _) (more _ _ (part _ _) (more _ _ (part _ _) p)))))))))))))))))
 
   track-placed : AllPlaced rs (trackOf s rs parent)
   unfolding trackOf

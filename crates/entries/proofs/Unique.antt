@@ -103,8 +103,8 @@ track-once a b q0 =
     (settings-once (a .settings) (b .settings) q18)
   where
     of :
-        Number → Number → Typed → Flag → Flag → Flag → Flag → Flag → Flag → Flag → Flag → Flag → Number → Part → Language
-        → Part → Part → Part → Settings → Track
+        Number → Number → Typed → Flag → Flag → Flag → Flag → Flag → Flag → Flag → Flag → Flag → Number → Part
+        → Language → Part → Part → Part → Settings → Track
     of x0 x1 x2 x3 x4 x5 x6 x7 x8 x9 x10 x11 x12 x13 x14 x15 x16 x17 x18 =
         record {
           number = x0;

@@ -11,8 +11,8 @@ use Rattle.entries.specs.declared.track.TrackReply.{TrackReply}
 
 -- ---- the question, with a table of so many numbers
 
--- It reads the payload under AE, the id that document 01, Kinds, gives for Tracks, so that the full set of masters holds
--- for its direct children; then goes to the k-th entry.
+-- It reads the payload under AE, the id that document 01, Kinds, gives for Tracks, so that the full set of masters
+-- holds for its direct children; then goes to the k-th entry.
 abbrev pub trackAsked : List ℕ → ℕ → ℕ → ℕ → ℕ → Asked
 trackAsked s start size k numbers = asked s start size 0xAE numbers (Nth 0xAE k) Here Here
 

@@ -65,35 +65,40 @@ language-field-requires c κs =
 
 part-field-requires-2 : tie.Need-part-field-requires-2
 part-field-requires-2 c κs =
-    let start = c .before .before .before .before .before .before .before .before .before .before .before .before .before in
+    let near = c .before .before .before .before .before .before in
+    let start = near .before .before .before .before .before .before .before in
     readable _ _ _ _ (start .pre)
 
 part-field-requires-3 : tie.Need-part-field-requires-3
 part-field-requires-3 c κs =
-    let start = c .before .before .before .before .before .before .before .before .before .before .before .before .before .before in
+    let near = c .before .before .before .before .before .before .before in
+    let start = near .before .before .before .before .before .before .before in
     readable _ _ _ _ (start .pre)
 
 part-field-requires-4 : tie.Need-part-field-requires-4
 part-field-requires-4 c κs =
-    let start = c .before .before .before .before .before .before .before .before .before .before .before .before .before .before .before in
+    let near = c .before .before .before .before .before .before .before in
+    let start = near .before .before .before .before .before .before .before .before in
     readable _ _ _ _ (start .pre)
 
 settings-in-requires : tie.Need-settings-in-requires
 settings-in-requires c κs =
-    let start = c .before .before .before .before .before .before .before .before .before .before .before .before .before .before .before .before in
+    let near = c .before .before .before .before .before .before .before .before in
+    let start = near .before .before .before .before .before .before .before .before in
     start .pre
 
 returns : tie.Need-returns
 unfolding entryOf
 returns c =
-    let start = c .before .before .before .before .before .before .before .before .before .before .before .before .before .before .before .before .before in
-    let number-field = c .before .before .before .before .before .before .before .before .before .before .before .before .before .before .number-field in
-    let number-field2 = c .before .before .before .before .before .before .before .before .before .before .before .before .before .number-field2 in
-    let number-field3 = c .before .before .before .before .before .before .before .before .before .before .before .before .number-field3 in
-    let typed-of = c .before .before .before .before .before .before .before .before .before .before .before .typed-of in
-    let flag-field = c .before .before .before .before .before .before .before .before .before .before .flag-field in
-    let flag-field2 = c .before .before .before .before .before .before .before .before .before .flag-field2 in
-    let flag-field3 = c .before .before .before .before .before .before .before .before .flag-field3 in
+    let near = c .before .before .before .before .before .before .before .before in
+    let start = near .before .before .before .before .before .before .before .before .before in
+    let number-field = near .before .before .before .before .before .before .number-field in
+    let number-field2 = near .before .before .before .before .before .number-field2 in
+    let number-field3 = near .before .before .before .before .number-field3 in
+    let typed-of = near .before .before .before .typed-of in
+    let flag-field = near .before .before .flag-field in
+    let flag-field2 = near .before .flag-field2 in
+    let flag-field3 = near .flag-field3 in
     let flag-field4 = c .before .before .before .before .before .before .before .flag-field4 in
     let number-field4 = c .before .before .before .before .before .before .number-field4 in
     let part-field = c .before .before .before .before .before .part-field in
