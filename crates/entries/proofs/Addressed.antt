@@ -1,6 +1,6 @@
 -- Every address in a track is the payload's place of a row of the table (`TrackAddressed`). Assumes nothing.
 use Prim.Native.Nat.{ℕ, suc, _≤_}
-use mathlib.Core.Path.{_≡_, refl, sym, _∙_}
+use mathlib.Core.Path.{_≡_, refl, sym}
 use mathlib.Core.List.{List, _∷_}
 use lib.ListN.{length}
 use Rattle.kinds.specs.declared.kind.Kind.the-variants.{Master}

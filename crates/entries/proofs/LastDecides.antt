@@ -14,7 +14,6 @@ use Rattle.fields.specs.declared.child.Child.the-variants.{At as ChildAt, Absen
 use Rattle.fields.proofs.LastOnes.{last-is-last}
 use Rattle.entries.specs.Settings.{decided}
 use Rattle.entries.specs.Theorems.{Decides, none as none-decides, video, audio, LastDecides}
-use Rattle.entries.specs.declared.settings.Deciding.the-variants.{None, Video, Audio}
 use Rattle.entries.proofs.Decided.{decided-by, audio-later, video-later}
 
 module _ (parent : ℕ) (below : List Row) where

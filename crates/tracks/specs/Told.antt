@@ -9,7 +9,6 @@ use Rattle.tracks.specs.declared.audio.AudioReply.{AudioReply}
 use Rattle.tracks.specs.declared.audio.AudioReply.the-variants.{Audio as IsAudio, Refused as NoAudio}
 use Rattle.tracks.specs.declared.stereo.EyeOrder.{EyeOrder}
 use Rattle.tracks.specs.declared.stereo.EyeOrder.the-variants.{LeftFirst, RightFirst}
-use Rattle.tracks.specs.declared.stereo.StereoColors.{StereoColors}
 use Rattle.tracks.specs.declared.stereo.StereoColors.the-variants.{CyanRed, GreenMagenta}
 use Rattle.tracks.specs.declared.stereo.StereoMode.{StereoMode}
 use Rattle.tracks.specs.declared.stereo.StereoMode.the-variants.{Mono, SideBySide, TopBottom, Checkboard}

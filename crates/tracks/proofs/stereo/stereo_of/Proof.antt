@@ -1,6 +1,5 @@
 -- `stereo_of` meets its contract: a set number by its mode. Assumes nothing.
 use mathlib.Core.Path.{ap, sym, _∙_}
-use Rattle.fields.specs.declared.field.Number.{Number}
 use Rattle.tracks.specs.Said.{said}
 use Rattle.tracks.specs.Video.{stereo}
 use borrow.Author.Needs.{needs}
