@@ -119,14 +119,19 @@ fn level(id: u32) -> &'static Level {
     found.expect("every record has a level")
 }
 
+/// A master of an id, or what may stand beside it, with so many levels in it.
+type Grown = fn(u32, u64, &mut Random) -> Node;
+
 /// The payload of a part whose records have that id, or of audio.
 pub fn payload(record: u32, random: &mut Random) -> Vec<Node> {
     if record == AUDIO {
         return children(AUDIO, 1, random);
     }
-    if record == TRACK {
-        return track::payload(random);
-    }
+    let (master, stray): (Grown, Grown) = if record == TRACK {
+        (track::master, track::stray)
+    } else {
+        (master, stray)
+    };
     let count = random.one_of(&[0, 1, 1, 1, 1, 2, 2, 3, 5]);
     let mut nodes = Vec::new();
     for _ in 0..count {

@@ -448,8 +448,8 @@ pub fn in_order(items: &[&[u8]; ITEMS], mut place: u64) -> Vec<u8> {
 }
 
 /// A payload with masters around some bytes, from the outside in.
-fn wrapped(path: &[u32], mut bytes: Vec<u8>) -> Vec<u8> {
-    for id in path.iter().rev().filter(|id| **id != AUDIO) {
+pub fn wrapped(path: &[u32], mut bytes: Vec<u8>) -> Vec<u8> {
+    for id in path.iter().rev() {
         let size = size_bytes(bytes.len() as u64, 1);
         bytes = [id_bytes(*id), size, bytes].concat();
     }
@@ -492,7 +492,9 @@ fn small(word: &Word, seed: u64, n: u64) -> Vec<u8> {
 fn order(place: u64) -> Vec<u8> {
     let (word, items) = &CHILDREN[(place / ONE_ORDER) as usize];
     let within = in_order(items, place % ONE_ORDER);
-    first(word, &[], &wrapped(word.path, within))
+    // An audio payload is the record itself, and stands in no master.
+    let path = word.path.strip_prefix(&[AUDIO]).unwrap_or(word.path);
+    first(word, &[], &wrapped(path, within))
 }
 
 /// Up to two children of a tag, each list and the first two members of it.
@@ -521,20 +523,26 @@ fn cut(place: u64) -> Vec<u8> {
     let word = WORDS[(place / CUT_AT % 8) as usize];
     loop {
         let nodes = payload(word.path[0], &mut random);
-        let (mut bytes, spots) = written(&nodes);
-        let size = bytes.len() as u64;
+        let size = written(&nodes).0.len() as u64;
         if there(&word, &nodes) && size > 0 && size < CUT_AT {
-            let indices = indices(&word, &nodes, &mut random);
-            bytes.truncate((place % CUT_AT) as usize);
-            let asked = Asked {
-                start: 0,
-                size,
-                parent: 0,
-                numbers: 7 * spots.len() as u64,
-                bytes,
-                spots,
-            };
-            return words(&word, &asked, &indices).join(" ").into_bytes();
+            return cut_off(&word, &nodes, place % CUT_AT, &mut random);
         }
     }
+}
+
+/// The question for a payload whose bytes end there, with a table that just fits.
+pub fn cut_off(word: &Word, nodes: &[Node], at: u64, random: &mut Random) -> Vec<u8> {
+    let (mut bytes, spots) = written(nodes);
+    let size = bytes.len() as u64;
+    let indices = indices(word, nodes, random);
+    bytes.truncate(at as usize);
+    let asked = Asked {
+        start: 0,
+        size,
+        parent: 0,
+        numbers: 7 * spots.len() as u64,
+        bytes,
+        spots,
+    };
+    words(word, &asked, &indices).join(" ").into_bytes()
 }

@@ -1,12 +1,11 @@
 //! Payloads of Tracks, with the fields of tracks, video and audio in any order and
 //! number, and a whole list of small questions about them.
 
-use crate::asked::Asked;
-use crate::fields::{self, masters_of};
+use crate::fields::{self, masters_of, payload};
 use crate::label::{type_at, TYPES};
 use crate::list::List;
 use crate::random::Random;
-use crate::record::{first, in_order, indices, words, ITEMS, ONE_ORDER, TRACK_WORD};
+use crate::record::{cut_off, first, in_order, wrapped, ITEMS, ONE_ORDER, TRACK_WORD};
 use crate::tree::{good_body, id_bytes, leaf, size_bytes, unknown_id, wide, written, Body, Node};
 use tools::ids::*;
 
@@ -77,22 +76,8 @@ fn fields_of(id: u32) -> &'static [u32] {
     }
 }
 
-/// Tracks: no, one or several, and others beside them.
-pub fn payload(random: &mut Random) -> Vec<Node> {
-    let mut nodes = Vec::new();
-    for _ in 0..random.one_of(&[0, 1, 1, 1, 1, 2, 2, 3, 5]) {
-        if random.once_in(8) {
-            nodes.push(stray(TRACK, 1, random));
-        }
-        nodes.push(master(TRACK, 2, random));
-        if random.once_in(8) {
-            nodes.push(stray(TRACK, 1, random));
-        }
-    }
-    nodes
-}
-
-fn master(id: u32, levels: u64, random: &mut Random) -> Node {
+/// A track, or the video or audio of one, with what stands in it.
+pub fn master(id: u32, levels: u64, random: &mut Random) -> Node {
     let within = children(id, levels, random);
     wide(id, Body::Master(within), random)
 }
@@ -141,7 +126,7 @@ fn put(nodes: &mut Vec<Node>, node: Node, random: &mut Random) {
 }
 
 /// Something that is no field of a level: a field of another one, or of none.
-fn stray(parent: u32, levels: u64, random: &mut Random) -> Node {
+pub fn stray(parent: u32, levels: u64, random: &mut Random) -> Node {
     match random.below(8) {
         0..=2 => {
             let level = random.one_of(&[TRACK, VIDEO, AUDIO]);
@@ -360,15 +345,6 @@ const CHILDREN: [(&[u32], [&[u8]; ITEMS]); 8] = [
     ),
 ];
 
-/// Masters around some bytes, from the outside in.
-fn wrapped(path: &[u32], mut bytes: Vec<u8>) -> Vec<u8> {
-    for id in path.iter().rev() {
-        let size = size_bytes(bytes.len() as u64, 1);
-        bytes = [id_bytes(*id), size, bytes].concat();
-    }
-    bytes
-}
-
 fn order(place: u64) -> Vec<u8> {
     let (path, items) = &CHILDREN[(place / ONE_ORDER) as usize];
     let within = in_order(items, place % ONE_ORDER);
@@ -385,24 +361,12 @@ const CUTS: u64 = 20 * CUT_AT;
 fn cut(place: u64) -> Vec<u8> {
     let mut random = Random::new(&[place / CUT_AT]);
     loop {
-        let nodes = payload(&mut random);
-        let (mut bytes, spots) = written(&nodes);
-        let size = bytes.len() as u64;
+        let nodes = payload(TRACK, &mut random);
+        let size = written(&nodes).0.len() as u64;
         let small = (CUT_AT / 2..CUT_AT).contains(&size);
-        if !small || masters_of(&nodes, TRACK).is_empty() {
-            continue;
+        if small && !masters_of(&nodes, TRACK).is_empty() {
+            return cut_off(&TRACK_WORD, &nodes, place % CUT_AT, &mut random);
         }
-        let indices = indices(&TRACK_WORD, &nodes, &mut random);
-        bytes.truncate((place % CUT_AT) as usize);
-        let asked = Asked {
-            start: 0,
-            size,
-            parent: 0,
-            numbers: 7 * spots.len() as u64,
-            bytes,
-            spots,
-        };
-        return words(&TRACK_WORD, &asked, &indices).join(" ").into_bytes();
     }
 }
 
