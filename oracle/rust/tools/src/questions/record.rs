@@ -340,6 +340,18 @@ pub const ONE_ORDER: u64 = 1 + 8 + 8 * 8 + 8 * 8 * 8;
 
 const ORDERS: u64 = 7 * ONE_ORDER;
 
+/// Children of audio, in a track and as a payload of their own.
+pub const AUDIO_ITEMS: [&[u8]; ITEMS] = [
+    b"\xB5\x84\x47\x2C\x44\x00",
+    b"\xB5\x88\x40\xE7\x70\x00\x00\x00\x00\x00",
+    b"\xB5\x84\x7F\xC0\x00\x00",
+    b"\xB5\x84\x80\x00\x00\x00",
+    b"\x9F\x80",
+    b"\x9F\x81\x02",
+    b"\x62\x64\x81\x10",
+    b"\xE1\x83\x9F\x81\x06",
+];
+
 /// The children of each record, as bytes: fields set and empty, a master nested in
 /// its own sort with a field in it, and others.
 const CHILDREN: [(Word, [&[u8]; ITEMS]); 7] = [
@@ -421,19 +433,7 @@ const CHILDREN: [(Word, [&[u8]; ITEMS]); 7] = [
             b"\x67\xC8\x87\x45\xA3\x81C\x44\x87\x80",
         ],
     ),
-    (
-        AUDIO_WORD,
-        [
-            b"\xB5\x84\x47\x2C\x44\x00",
-            b"\xB5\x88\x40\xE7\x70\x00\x00\x00\x00\x00",
-            b"\xB5\x84\x7F\xC0\x00\x00",
-            b"\xB5\x84\x80\x00\x00\x00",
-            b"\x9F\x80",
-            b"\x9F\x81\x02",
-            b"\x62\x64\x81\x10",
-            b"\xE1\x83\x9F\x81\x06",
-        ],
-    ),
+    (AUDIO_WORD, AUDIO_ITEMS),
 ];
 
 /// The n-th order of up to three of some children.

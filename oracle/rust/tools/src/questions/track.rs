@@ -5,7 +5,8 @@ use crate::fields::{self, masters_of, payload};
 use crate::label::{type_at, TYPES};
 use crate::list::List;
 use crate::random::Random;
-use crate::record::{cut_off, first, in_order, wrapped, ITEMS, ONE_ORDER, TRACK_WORD};
+use crate::record::{cut_off, first, in_order, wrapped};
+use crate::record::{AUDIO_ITEMS, ITEMS, ONE_ORDER, TRACK_WORD};
 use crate::tree::{good_body, id_bytes, leaf, size_bytes, unknown_id, wide, written, Body, Node};
 use tools::ids::*;
 
@@ -330,19 +331,7 @@ const CHILDREN: [(&[u32], [&[u8]; ITEMS]); 8] = [
             b"\x55\xB0\x84\x53\xB8\x81\x03",
         ],
     ),
-    (
-        &[TRACK, AUDIO],
-        [
-            b"\xB5\x84\x47\x2C\x44\x00",
-            b"\xB5\x88\x40\xE7\x70\x00\x00\x00\x00\x00",
-            b"\xB5\x84\x7F\xC0\x00\x00",
-            b"\xB5\x84\x80\x00\x00\x00",
-            b"\x9F\x80",
-            b"\x9F\x81\x02",
-            b"\x62\x64\x81\x10",
-            b"\xE1\x83\x9F\x81\x06",
-        ],
-    ),
+    (&[TRACK, AUDIO], AUDIO_ITEMS),
 ];
 
 fn order(place: u64) -> Vec<u8> {
