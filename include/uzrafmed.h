@@ -7,39 +7,49 @@
   from document 01. docs/TRUSTED.md lists what has to be believed; this header, which is written by hand, is in it.
   What is asked of the caller is in "What every call asks and promises" below.
 
-  The archive is libviewer.a, for x86-64 programs under System V's calling convention. Of the C library it needs
-  memset and its like (memcpy, memmove, memcmp) and nothing else. `rt staticlib viewer` writes it to
-  target/staticlib:
+  The library is for x86-64 programs under System V's calling convention. Of the C library it needs memset and its
+  like (memcpy, memmove, memcmp) and nothing else. `tools/install PREFIX` installs it as libuzrafmed.a and
+  libuzrafmed.so, with a pkg-config file:
 
-      cc -std=c99 -I include example.c target/staticlib/libviewer.a -o example
+      cc -std=c99 example.c $(pkg-config --cflags --libs uzrafmed) -o example
 
-  There are three calls:
+  Without installing: `rt staticlib viewer` writes the proved calls to target/staticlib/libviewer.a, and
+  viewer/refusals.c has the words.
 
-      uz_find_part     finds Tracks, Attachments, Chapters or Tags, and reads it into a table of rows
-      uz_row_payload   tells where in the recording the payload of a row is
-      uz_whose_byte    reads a payload into a table, and names the row that holds an address
+  There are three proved calls, and a table of words:
+
+      uz_find_part       finds Tracks, Attachments, Chapters or Tags, and reads it into a table of rows
+      uz_row_payload     tells where in the recording the payload of a row is
+      uz_whose_byte      reads a payload into a table, and names the row that holds an address
+      uz_refusal_words   tells what a refusal means and what to do; plain C, not proved
 
   A whole program, which prints the address and the text of every chapter string of a recording. It shows texts
-  as they are; a program that writes to a terminal has to escape control characters (viewer/stages.c does).
+  as they are; a program that writes to a terminal has to escape control characters (viewer/stages/show.c does).
 
 --- example.c
+#define _POSIX_C_SOURCE 200809L
+#define _FILE_OFFSET_BITS 64
 #include "uzrafmed.h"
+#include <fcntl.h>
 #include <stdio.h>
-#include <stdlib.h>
+#include <sys/mman.h>
+#include <sys/stat.h>
 
 static uint64_t table[UZ_MOST_NUMBERS];
 
 int main(int count, char **words) {
-    FILE *file = count == 2 ? fopen(words[1], "rb") : NULL;
-    long end = file != NULL && fseek(file, 0, SEEK_END) == 0 ? ftell(file) : -1;
-    size_t length = end > 0 ? (size_t)end : 0;
-    uint8_t *recording = malloc(length + 1); // never NULL for a call, not even if it is empty
-    if (end < 0 || recording == NULL || fseek(file, 0, SEEK_SET) != 0) return 2;
-    if (fread(recording, 1, length, file) != length) return 2;
-    fclose(file);
+    struct stat about;
+    int file = count == 2 ? open(words[1], O_RDONLY) : -1;
+    if (file < 0 || fstat(file, &about) != 0) return 2;
+    if (about.st_size <= 0 || (uint64_t)about.st_size > UZ_MOST_BYTES) return 2; // look at the length first
+    size_t length = (size_t)about.st_size;
+    void *mapped = mmap(NULL, length, PROT_READ, MAP_PRIVATE, file, 0);
+    if (mapped == MAP_FAILED) return 2;
+    const uint8_t *recording = mapped;
 
     uz_part part = uz_find_part(recording, length, UZ_CHAPTERS, table, UZ_MOST_NUMBERS);
-    if (part.refused != 0) fprintf(stderr, "refused %u\n", (unsigned)part.refused);
+    if (part.refused != 0)
+        fprintf(stderr, "refused %u: %s\n", (unsigned)part.refused, uz_refusal_words(part.refused).meaning);
     for (uint64_t row = 0; row < part.rows; row++) {
         if (table[row * UZ_WIDTH + UZ_ID] != 0x85) continue; // the id of a ChapString
         uz_range text = uz_row_payload(recording, length, table, UZ_MOST_NUMBERS, row);
@@ -47,7 +57,6 @@ int main(int count, char **words) {
         fwrite(recording + text.at, 1, (size_t)text.length, stdout);
         putchar('\n');
     }
-    free(recording);
     return part.refused != 0;
 }
 --- end of example.c
@@ -138,23 +147,32 @@ extern "C" {
 #define UZ_FLOAT 7    /* a float, big-endian, 4 or 8 bytes */
 #define UZ_DATE 8     /* a signed integer of 8 bytes: nanoseconds from 2001-01-01 */
 
-/* Refusals: one number for each broken rule. */
+/* Refusals: one number for each broken rule, with what uz_refusal_words says of it. docs/REFUSALS.md has the rules
+   whole, and what to do. */
 #define UZ_ACCEPTED 0          /* no refusal */
-#define UZ_PAST_END 1          /* a byte needed lies beyond the recording */
+#define UZ_PAST_END 1          /* a byte needed lies beyond the end of the file */
 #define UZ_INVALID_ID 2        /* an id has more than four bytes */
 #define UZ_INVALID_SIZE 3      /* a size has more than eight bytes, or an element is larger than what holds it */
-#define UZ_INVALID_INTEGER 4   /* an integer, signed or not, has more than eight bytes */
+#define UZ_INVALID_INTEGER 4   /* an integer has more than eight bytes */
 #define UZ_INVALID_FLOAT 5     /* a float has other than 4 or 8 bytes */
 #define UZ_INVALID_DATE 6      /* a date has other than 8 bytes */
 #define UZ_NOT_UTF8 7          /* a text is not UTF-8 */
-#define UZ_INVALID_SEEK_HEAD 8 /* segment start plus an entry's position exceeds 2^64-1; the reply has its id */
-#define UZ_STALE_ENTRY 9       /* a seek entry is stale: its address holds a header with another id */
-#define UZ_HEAD_AGAIN 10       /* a seek head is reached at an address already read as one */
-#define UZ_TOO_MANY_HEADS 11   /* a 65th seek head would be read */
-#define UZ_TOO_DEEP 12         /* an element would lie at depth 16 */
-#define UZ_NO_FREE_ROW 13      /* the table has no free row */
+#define UZ_INVALID_SEEK_HEAD 8 /* a seek entry has no usable position: it was never filled in, or is too large */
+#define UZ_STALE_ENTRY 9       /* a seek entry is stale: another element stands at its address */
+#define UZ_HEAD_AGAIN 10       /* seek heads lead back to one that was read */
+#define UZ_TOO_MANY_HEADS 11   /* 64 linked seek heads were read, and the last names one more */
+#define UZ_TOO_DEEP 12         /* elements are nested more than 16 deep */
+#define UZ_NO_FREE_ROW 13      /* the part has more elements than the table has rows, 4096 at most */
 #define UZ_BAD_ARGUMENT 14     /* a length, part, start or row that the caller gave is out of bounds */
 #define UZ_OUTSIDE 15          /* the address is outside the payload */
+
+/* What a refusal means. The texts are constants of the library. */
+typedef struct uz_words {
+    const char *name;    /* its name here, without UZ_ */
+    const char *rule;    /* when exactly it is given */
+    const char *meaning; /* the same in plain words, short enough for a line */
+    const char *next;    /* what to do next; FILE stands for the recording, NEW.mkv for a new one */
+} uz_words;
 
 /* The reply of uz_find_part. */
 typedef struct uz_part {
@@ -267,6 +285,12 @@ uz_range uz_row_payload(const uint8_t *recording, size_t length, const uint64_t 
 */
 uz_place uz_whose_byte(const uint8_t *recording, size_t length, uint64_t start, uint64_t size, uint32_t parent,
                        uint64_t address, uint64_t *table, size_t numbers);
+
+/*
+  Tells what the number of a refusal means, in words for a person. Every number has an answer: 0 is 'no refusal', and
+  one over 15 'an unknown number'. It is plain C (viewer/refusals.c), not proved, and docs/REFUSALS.md is made from it.
+*/
+uz_words uz_refusal_words(uint64_t refused);
 
 #ifdef __cplusplus
 }

@@ -1,0 +1,19 @@
+// A recording: its name as it was given, and its bytes, mapped read-only.
+#ifndef RECORDING_H
+#define RECORDING_H
+
+#include <stdint.h>
+
+typedef struct {
+    const char *name;
+    const uint8_t *bytes;
+    uint64_t length;
+} recording;
+
+// Maps a file of 1 to UZ_MOST_BYTES bytes. Answers status 0, or 1 after a line on standard error.
+// A file that another program cuts short while it is mapped ends the viewer with SIGBUS.
+int recording_open(const char *name, recording *to);
+
+void recording_close(const recording *from);
+
+#endif

@@ -1,0 +1,21 @@
+// What both ways of asking tell: a row, and a refusal.
+#ifndef TELL_H
+#define TELL_H
+
+#include "parts.h"
+
+// ' WORD ADDRESS+LENGTH'.
+void tell_place(const char *word, uint64_t at, uint64_t length);
+
+// A line on standard output: the part, the row, header or payload, its id with Matroska's name, its
+// kind, its two ranges, and the text if it is one.
+void tell_row(const part *in, uz_place place);
+
+// A line on standard error: the part, the number and its meaning; for 8 the id of the entry too.
+// Answers status 1.
+int tell_refused(const part *of, uint64_t number, uint64_t id);
+
+// A line on standard error with what to do next. Answers status 1.
+int tell_next(const recording *from, const char *next);
+
+#endif

@@ -1,0 +1,138 @@
+// Rows and headers, worked out in C: see unproved.h. Nothing here is proved.
+#include "unproved.h"
+
+#include "ids.h"
+
+uint64_t row_after(const part *in, uint64_t row) {
+    uint64_t after = row + 1;
+    while (after < in->reply.rows && cell(in, after, UZ_DEPTH) > cell(in, row, UZ_DEPTH))
+        after++;
+    return after;
+}
+
+uint64_t first_row(uint64_t parent) {
+    return parent == NO_ROW ? 0 : parent + 1;
+}
+
+// What a row holds stands right behind it, and deeper. A direct child names its parent's number
+// plus 1, which for NO_ROW is 0.
+uint64_t next_child(const part *in, uint64_t parent, uint64_t from, uint64_t id, uint64_t kind) {
+    uint64_t above = parent == NO_ROW ? 0 : cell(in, parent, UZ_DEPTH) + 1;
+    for (uint64_t row = from; row < in->reply.rows && cell(in, row, UZ_DEPTH) >= above; row++)
+        if (cell(in, row, UZ_PARENT) == first_row(parent) && cell(in, row, UZ_ID) == id &&
+            cell(in, row, UZ_KIND) == kind)
+            return row;
+    return NO_ROW;
+}
+
+uint64_t last_child(const part *in, uint64_t parent, uint64_t id, uint64_t kind) {
+    uint64_t last = NO_ROW;
+    uint64_t row = next_child(in, parent, first_row(parent), id, kind);
+    for (; row != NO_ROW; row = next_child(in, parent, row + 1, id, kind))
+        last = row;
+    return last;
+}
+
+unsigned level_below(const part *in, uint64_t ancestor, uint64_t row, uint64_t id) {
+    unsigned level = 0;
+    for (;; level++) {
+        if (cell(in, row, UZ_ID) != id || cell(in, row, UZ_KIND) != UZ_MASTER ||
+            cell(in, row, UZ_PARENT) == 0)
+            return NO_LEVEL;
+        row = cell(in, row, UZ_PARENT) - 1;
+        if (row == ancestor)
+            return level;
+    }
+}
+
+uint64_t language_of(const part *in, uint64_t row, uint64_t ietf, uint64_t iso) {
+    uint64_t language = last_child(in, row, ietf, UZ_STRING);
+    return language != NO_ROW ? language : last_child(in, row, iso, UZ_STRING);
+}
+
+uint64_t tag_value(const part *in, uint64_t simple) {
+    uint64_t string = last_child(in, simple, TAG_STRING, UZ_UTF8);
+    uint64_t binary = last_child(in, simple, TAG_BINARY, UZ_BINARY);
+    if (string == NO_ROW || binary == NO_ROW)
+        return string != NO_ROW ? string : binary;
+    return string > binary ? string : binary;
+}
+
+uint64_t number_in(const part *in, uint64_t row) {
+    uz_range range = payload_of(in, row);
+    uint64_t number = 0;
+    for (uint64_t i = 0; i < range.length; i++)
+        number = number << 8 | in->from->bytes[range.at + i];
+    return number;
+}
+
+bool flag_in(const part *in, uint64_t row, bool unset) {
+    return row == NO_ROW ? unset : number_in(in, row) != 0;
+}
+
+uint64_t next_string(const part *in, uint64_t atom, uint64_t from, uint64_t *display) {
+    uint64_t row = next_child(in, atom, from, CHAPTER_DISPLAY, UZ_MASTER);
+    for (; row != NO_ROW; row = next_child(in, atom, row + 1, CHAPTER_DISPLAY, UZ_MASTER)) {
+        uint64_t string = last_child(in, row, CHAP_STRING, UZ_UTF8);
+        *display = row;
+        if (string != NO_ROW)
+            return string;
+    }
+    return NO_ROW;
+}
+
+// A number of document 01's headers: zero bits tell how many bytes it has, at most `most`. The
+// marker stays in an id and is taken off a size. Answers a refusal's number.
+static uint64_t read_number(const recording *from, uint64_t *at, unsigned most, uint64_t *number) {
+    uint64_t zeros = 0;
+    uint64_t byte = *at;
+    while (byte < from->length && from->bytes[byte] == 0) {
+        byte++;
+        zeros += 8;
+    }
+    if (byte >= from->length)
+        return UZ_PAST_END;
+    for (unsigned first = from->bytes[byte]; first < 0x80; first <<= 1)
+        zeros++;
+    if (zeros >= most)
+        return most == 4 ? UZ_INVALID_ID : UZ_INVALID_SIZE;
+    if (from->length - *at <= zeros)
+        return UZ_PAST_END;
+    *number = 0;
+    for (uint64_t end = *at + zeros + 1; *at < end; (*at)++)
+        *number = *number << 8 | from->bytes[*at];
+    return UZ_ACCEPTED;
+}
+
+uint64_t read_header(const recording *from, uint64_t at, header *to) {
+    to->at = at;
+    to->payload = at;
+    if (at > from->length)
+        return UZ_PAST_END;
+    uint64_t refused = read_number(from, &to->payload, 4, &to->id);
+    uint64_t before = to->payload;
+    if (refused == UZ_ACCEPTED)
+        refused = read_number(from, &to->payload, 8, &to->size);
+    if (refused != UZ_ACCEPTED)
+        return refused;
+    uint64_t marker = UINT64_C(1) << 7 * (to->payload - before);
+    to->size -= marker;
+    to->unknown = to->size == marker - 1;
+    return UZ_ACCEPTED;
+}
+
+bool find_segment(const recording *from, header *segment) {
+    for (uint64_t at = 0; read_header(from, at, segment) == UZ_ACCEPTED;
+         at = segment->payload + segment->size)
+        if (segment->id == SEGMENT)
+            return true;
+    return false;
+}
+
+bool next_in_segment(const recording *from, const header *segment, header *child) {
+    bool first = child->payload == 0;
+    if (!first && child->unknown)
+        return false;
+    uint64_t at = first ? segment->payload : child->payload + child->size;
+    return at < segment->payload + segment->size && read_header(from, at, child) == UZ_ACCEPTED;
+}

@@ -1,0 +1,65 @@
+// What the viewer works out itself because the C face has no call for it yet: the children of a
+// row, the number in a row, a chapter's first display, a header, and the walk over the segment's
+// children. None of this is proved. The reader has a proved form of each, and this file goes when
+// the C face has it too.
+#ifndef UNPROVED_H
+#define UNPROVED_H
+
+#include "parts.h"
+
+#include <limits.h>
+#include <stdbool.h>
+
+// No row: what is not set.
+#define NO_ROW UINT64_MAX
+
+// The first row behind a row and all that it holds.
+uint64_t row_after(const part *in, uint64_t row);
+
+// The first direct child of that id and kind from row `from` on, and the last one; NO_ROW if there
+// is none. The parent NO_ROW stands for the payload of the part itself.
+uint64_t next_child(const part *in, uint64_t parent, uint64_t from, uint64_t id, uint64_t kind);
+uint64_t last_child(const part *in, uint64_t parent, uint64_t id, uint64_t kind);
+
+// Where the children of a row begin; for NO_ROW, row 0.
+uint64_t first_row(uint64_t parent);
+
+// How many rows of that id stand between a row and its ancestor, one inside the other, with nothing
+// else between; NO_LEVEL if something else is. Both are masters.
+#define NO_LEVEL UINT_MAX
+unsigned level_below(const part *in, uint64_t ancestor, uint64_t row, uint64_t id);
+
+// The language that counts: the last IETF one, else the last ISO 639 one.
+uint64_t language_of(const part *in, uint64_t row, uint64_t ietf, uint64_t iso);
+
+// The value of a simple tag: the later of its last string and its last bytes.
+uint64_t tag_value(const part *in, uint64_t simple);
+
+// The unsigned number in a row of up to eight bytes; a flag is set if it is not 0.
+uint64_t number_in(const part *in, uint64_t row);
+bool flag_in(const part *in, uint64_t row, bool unset);
+
+// The string of a chapter's first display that has one, from row `from` on, and the display itself.
+uint64_t next_string(const part *in, uint64_t atom, uint64_t from, uint64_t *display);
+
+// A header of the recording: its id and size, and where its payload begins. `unknown`: the size is
+// all ones.
+typedef struct {
+    uint64_t at;
+    uint64_t id;
+    uint64_t size;
+    uint64_t payload;
+    bool unknown;
+} header;
+
+// Reads the header at an address; the answer is 0 or the refusal's number.
+uint64_t read_header(const recording *from, uint64_t at, header *to);
+
+// Finds the first segment; false if the elements before it lead to none.
+bool find_segment(const recording *from, header *segment);
+
+// Steps over the segment's children. Begin with `child` all zeros. False at the segment's end, at a
+// header that can't be read, and behind a child of unknown size.
+bool next_in_segment(const recording *from, const header *segment, header *child);
+
+#endif

@@ -1,0 +1,11 @@
+// Whose byte an address is.
+#ifndef WHOSE_H
+#define WHOSE_H
+
+#include "recording.h"
+
+// Tells each row of a part or of a seek head that holds the byte, a line each. Answers the status:
+// 1 if a part is refused.
+int tell_whose(const recording *from, uint64_t address);
+
+#endif
