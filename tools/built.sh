@@ -102,7 +102,7 @@ prove() {
         IFS= read -r -t 2 -u 3 piece || ended=$?
         line+=$piece
         if [ $ended -gt 128 ] || [[ $line =~ ^rt:\ ([a-z0-9_]+\ proved\ \([0-9]+\ s\))$ ]]; then
-            [ $told = yes ] || echo "$me: proving and building $what; this takes some minutes the first time" >&2
+            [ $told = yes ] || echo "$me: proving and building $what; the first time this takes some minutes" >&2
             told=yes
         fi
         [ $ended -le 128 ] || continue
