@@ -1,9 +1,12 @@
 #!/usr/bin/env python3
-# Makes the real recordings: real/make.py FOLDER. Every recording is written by ffmpeg, mkvmerge or mkvpropedit; those
-# whose name begins with 'hand-' are such recordings of which a few bytes were changed here, and say so. The theme is
-# the product's: boot stages as chapters, bench settings as tags, the serial console as an attachment and as subtitles.
-# FOLDER/list has one line for each recording: its name, a tab, and what it shows.
+# Makes the real recordings: real/make.py FOLDER. Every recording is written by ffmpeg, mkvmerge or mkvpropedit, and
+# where gst-launch-1.0 is on the machine some by GStreamer; those whose name begins with 'hand-' are such recordings of
+# which a few bytes were changed here, and say so. The theme is the product's: boot stages as chapters, bench settings
+# as tags, the serial console as an attachment and as subtitles. FOLDER/list has one line for each recording: its name,
+# a tab, and what it shows.
 import os
+import resource
+import shutil
 import subprocess
 import sys
 import time
@@ -45,10 +48,8 @@ def piped(out, *words, form='matroska'):
     write(out, done.stdout)
 
 
-def killed(out, size, *words):
-    """A recorder that writes at the pace of the picture, and is killed when the file has so many bytes."""
-    command = ['ffmpeg', '-hide_banner', '-loglevel', 'error', '-nostdin', '-y', '-re', '-stream_loop', '99', *words,
-               '-cluster_time_limit', '200', '-flush_packets', '1', '-f', 'matroska', out]
+def kill_at(out, size, command):
+    """Runs a recorder that writes at the pace of the picture, and kills it when the file has so many bytes."""
     if os.path.exists(out):
         os.remove(out)
     recorder = subprocess.Popen(command, stdin=subprocess.DEVNULL)
@@ -60,8 +61,37 @@ def killed(out, size, *words):
     recorder.wait()
 
 
+def killed(out, size, *words):
+    kill_at(out, size, ['ffmpeg', '-hide_banner', '-loglevel', 'error', '-nostdin', '-y', '-re', '-stream_loop', '99',
+                        *words, '-cluster_time_limit', '200', '-flush_packets', '1', '-f', 'matroska', out])
+
+
 def mkvmerge(out, *words):
     run('mkvmerge', '-q', '--deterministic', out, '-o', out, *words)
+
+
+def killed_mkvmerge(out, size, *words):
+    """mkvmerge, killed by the system when the file has so many bytes. It writes a mebibyte at a time, and faster than
+    one can look; a limit on the size of its files ends it by a signal in the middle of the first one."""
+    done = subprocess.run(['mkvmerge', '-q', '--deterministic', out, '-o', out, *words], stdin=subprocess.DEVNULL,
+                          stdout=subprocess.DEVNULL,
+                          preexec_fn=lambda: resource.setrlimit(resource.RLIMIT_FSIZE, (size, size)))
+    if done.returncode >= 0 or os.path.getsize(out) != size:
+        sys.exit('make.py: %s: mkvmerge was not killed at %d bytes' % (out, size))
+
+
+GST_NEEDS = ('videotestsrc', 'jpegenc', 'taginject', 'matroskamux')
+
+
+def has_gstreamer():
+    return all(map(shutil.which, ('gst-launch-1.0', 'gst-inspect-1.0'))) and all(
+        subprocess.run(['gst-inspect-1.0', '--exists', name]).returncode == 0 for name in GST_NEEDS)
+
+
+def gstreamer(out, source, *words):
+    """The words of a pipeline from a small picture into the file."""
+    return ['gst-launch-1.0', '-q', 'videotestsrc', source, '!', 'video/x-raw,width=64,height=48,framerate=10/1', '!',
+            'jpegenc', 'quality=20', '!', *words, '!', 'filesink', 'buffer-mode=unbuffered', 'location=' + out]
 
 
 def mkvpropedit(file, *words):
@@ -178,6 +208,37 @@ def rich_chapters():
                     edition(*second, uid=902, default=0, hidden=1))
 
 
+def shown_chapters():
+    """What a viewer has to put in order: stages out of time order, an atom's own atoms before its names, names with
+    signs of their own, hidden and disabled stages, one without a name, and times of hours, not whole milliseconds."""
+    hour = 3600 * 1000 * MILLION
+    first = [
+        atom(600 * MILLION, display('Kernel', ['eng'], ['en']), uid=61, end=900 * MILLION),
+        atom(0, atom(300 * MILLION, atom(310 * MILLION, uid=6221), display('DRAM', ['eng']), uid=622),
+             atom(50 * MILLION, display('Mask ROM', ['eng']), uid=621, hidden=1),
+             display('ROM', ['eng'], ['en']), display('ROM-Lader', ['ger'], ['de']), display('ブートロム', ['jpn']),
+             uid=62),
+        atom(300 * MILLION, display('SPL', ['eng']), uid=63, hidden=1, enabled=0),
+        atom(300 * MILLION, uid=64),
+        atom(299999999, display('a "quoted" \\ name,\ta tab and \x85', ['eng']), display('', ['ger']), uid=65,
+             enabled=0),
+    ]
+    second = [atom(27 * hour + 59999999999, display('the day after', ['eng']), uid=66),
+              atom(hour + 62003 * MILLION + 999999, display('an hour', ['eng']), uid=67, end=2 * hour),
+              atom(0, display('power', ['eng']), uid=68)]
+    return chapters(edition(*first, uid=960, default=1), edition(*second, uid=961, hidden=1))
+
+
+def target_tags():
+    """Tags for a uid of each kind that the recording has, for one that it has not, and simple tags in simple tags."""
+    def about(what):
+        return simple(what, 'set', None, simple('BY', 'bench 7', None, simple('AT', '09:30')), simple('NOTE', 'ü "x"'))
+    return tags(tag(about('TRACK'), uids=[('TrackUID', 71)]), tag(about('EDITION'), uids=[('EditionUID', 960)]),
+                tag(about('CHAPTER'), value=30, uids=[('ChapterUID', 62), ('ChapterUID', 621), ('ChapterUID', 64)]),
+                tag(about('ATTACHMENT'), uids=[('AttachmentUID', 31)]), tag(about('NOBODY'), uids=[('TrackUID', 99)]),
+                tag(simple('EMPTY', ''), simple('BYTES', None, '00 ff'), value=70, kind='COLLECTION'))
+
+
 def rich_tags():
     return tags(
         tag(simple('TITLE', 'Boot repair, lesson 7'), simple('BENCH', '7', None, language='eng', default=1),
@@ -240,6 +301,10 @@ class Maker:
             edition(*stage_chapters(), uid=904)))
         write('simple.txt', ''.join('CHAPTER%02d=00:00:00.%03d\nCHAPTER%02dNAME=%s\n' % (i + 1, i * 150, i + 1, s)
                                     for i, s in enumerate(STAGES)))
+        write('shown.xml', shown_chapters())
+        write('target-tags.xml', target_tags())
+        write('nameless.ffmeta', ff_chapters(['ROM', '', 'SPL'], 200).replace('title=\n', '') +
+              '[CHAPTER]\nTIMEBASE=1/1000\nSTART=100\nEND=150\ntitle=early\n')
         write('rich-tags.xml', rich_tags())
         write('one-tag.xml', tags(tag(simple('RAIL', '5V'))))
         write('many-tags.xml', tags(*[tag(*[simple('SETTING_%d_%d' % (i, j), 'value %d' % (i * j)) for j in range(6)],
@@ -259,6 +324,8 @@ class Maker:
         ffmpeg(add('ff-no-crc.mkv', 'without CRC-32'), *src, *COPY, '-write_crc32', '0')
         ffmpeg(add('ff-chapters.mkv', 'six chapters from a metadata file'), *src, '-i', 'stages.ffmeta', *COPY,
                '-map_metadata', '1', '-map_chapters', '1')
+        ffmpeg(add('ff-nameless.mkv', 'a chapter without a name, and one out of time order'), *src, '-i',
+               'nameless.ffmeta', *COPY, '-map_metadata', '1', '-map_chapters', '1')
         ffmpeg(add('ff-tags.mkv', 'tags of the file, of tracks and of chapters; texts of many languages'),
                *src, '-i', 'rich.ffmeta', *COPY, '-map_metadata', '1', '-metadata:s:v', 'title=Board camera',
                '-metadata:s:v', 'LENS=4 mm', '-metadata:s:a', 'language=ger', '-metadata:s:a', 'NOTE-eng=mono',
@@ -321,6 +388,8 @@ class Maker:
         mkvmerge(add('mm-plain.mkv', 'mkvmerge as it comes'), 'source.mkv')
         mkvmerge(add('mm-chapters.mkv', 'two editions, nested atoms, displays of many languages'), '--chapters',
                  'rich.xml', 'source.mkv')
+        mkvmerge(add('mm-shown.mkv', 'two editions, atoms out of time order, an atom\'s own atoms before its names'),
+                 '--chapters', 'shown.xml', '--attach-file', 'short.txt', 'source.mkv')
         mkvmerge(add('mm-ordered.mkv', 'an ordered edition that borrows from another segment'), '--chapters',
                  'ordered.xml', 'source.mkv')
         mkvmerge(add('mm-simple-chapters.mkv', 'chapters from the plain text form'), '--chapter-language', 'de',
@@ -418,6 +487,9 @@ class Maker:
         edit('ff-all.mkv', 'pe-often.mkv', 'edited twelve times over', *[step for i in range(3) for step in
              (['--chapters', ['one.xml', 'long.xml', 'rich.xml'][i]], ['--tags', 'global:' + ['many-tags.xml',
               'one-tag.xml', 'rich-tags.xml'][i]], attach, ['--edit', 'info', '--set', 'title=' + name[:30 * i + 5]])])
+        edit('mm-shown.mkv', 'pe-targets.mkv', 'tags for a track, an edition, chapters and an attachment; simple tags '
+             'nested', ['--edit', 'track:1', '--set', 'track-uid=71', '--set', 'name=Board camera'],
+             ['--attachment-uid', '31', *attach], ['--tags', 'all:target-tags.xml'])
         edit('ff-plain.mkv', 'pe-statistics.mkv', 'statistics added as tags', ['--add-track-statistics-tags'])
 
     def by_hand(self):
@@ -451,6 +523,11 @@ class Maker:
         false = bytes.fromhex('1043A7708F' '45B98C' 'B68A' '8088' '8586') + b'Login?'
         write(add('hand-live-false.mkv', 'hand-live-1.mkv, with bytes in a frame that look like Chapters'),
               data[:at] + false + data[at + len(false):])
+        # Tracks twice, and the one that the seek head does not name says that the first track is laced.
+        data = read('mm-twice.mkv')
+        at = data.index(b'\x9c\x81\x00', data.index(b'\x16\x54\xae\x6b', data.index(b'\x15\x49\xa9\x66', 4000)))
+        write(add('hand-twice.mkv', 'mm-twice.mkv, and the two Tracks differ in a byte'),
+              data[:at + 2] + b'\x01' + data[at + 3:])
         # A Void put in behind the seek head by a program that leaves the entries as they were. The segment's size, of 8
         # bytes, is set right.
         data = read('ff-all.mkv')
@@ -459,6 +536,19 @@ class Maker:
         size = int.from_bytes(data[at - 7:at], 'big') + 20
         write(add('hand-stale.mkv', 'ff-all.mkv with 20 bytes put in, and all seek entries left as they were'),
               data[:at - 7] + size.to_bytes(7, 'big') + data[at:end] + b'\xec\x92' + bytes(18) + data[end:])
+
+    def by_gstreamer(self):
+        add = self.add
+        if not has_gstreamer():
+            print('make.py: without GStreamer (gst-launch-1.0 with %s): its three recordings are left out' %
+                  ', '.join(GST_NEEDS))
+            return
+        run(*gstreamer(add('gst-tags.mkv', 'GStreamer, with tags'), 'num-buffers=10', 'taginject',
+                       'tags=artist=Bench,comment=5V', '!', 'matroskamux'))
+        run(*gstreamer(add('gst-live.mkv', 'GStreamer, live: segment and Clusters of unknown size, no seek head'),
+                       'num-buffers=10', 'matroskamux', 'streamable=true'))
+        out = add('gst-killed.mkv', 'GStreamer, killed: seek positions of all ones')
+        kill_at(out, 12000, gstreamer(out, 'is-live=true', 'matroskamux'))
 
     def large(self):
         add = self.add
@@ -478,6 +568,9 @@ class Maker:
         mkvpropedit('large-edited.mkv', '--attachment-name', 'dump.bin', '--add-attachment', 'dump.bin')
         piped(add('large-live.mkv', 'large, through a pipe'), '-i', 'large-source.mkv', '-i', 'large.ffmeta', *COPY,
               '-map_metadata', '1', '-attach', 'console.txt', '-metadata:s:t:0', 'mimetype=text/plain')
+        killed_mkvmerge(add('killed-mkvmerge.mkv', 'mkvmerge was killed: the segment has no size yet'), 40000,
+                        '--chapters', 'rich.xml', '--global-tags', 'rich-tags.xml', '--attach-file', 'console.txt',
+                        'large-source.mkv')
         # A chapter has seven elements, and the edition two more: 4,090 and 4,097 of them.
         for name, count in (('fill.xml', 584), ('over.xml', 585)):
             write(name, chapters(edition(*[atom(i * MILLION, display('Step %d' % i, ['eng']), uid=1 + i)
@@ -495,6 +588,7 @@ class Maker:
         self.by_mkvmerge()
         self.edited()
         self.by_hand()
+        self.by_gstreamer()
         self.large()
         write('list', ''.join(self.listed))
 

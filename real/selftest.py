@@ -1,7 +1,10 @@
-# Sees that the comparison can fail: real/run --selftest. One of our answers is changed, or one fact of the tools, and
+# Sees that the comparisons can fail: real/run --selftest. One of our answers is changed, or one fact of the tools, and
 # the comparison has to call something unexplained. Answers are changed number by number: an address off by one, a row
-# left out, a name moved by a byte. Facts are changed so that the condition of a finding's reason no longer holds.
+# left out, a name moved by a byte; of the viewer each value of its JSON, and lines swapped, set in, or without a mark.
+# Facts are changed so that the condition of a finding's reason no longer holds. run() is for compare.py, run_viewer()
+# for stages.py.
 import copy
+import json
 import re
 
 RECORDINGS = ['ff-all.mkv', 'mm-all.mkv', 'mm-ordered.mkv', 'mm-attachments.mkv', 'mm-marks.mkv', 'pe-settings.mkv',
@@ -131,6 +134,12 @@ def entry(info, number, where):
     head.children.append(seek)
 
 
+def filled(said):
+    """The second entry of the seek head leads to Tracks."""
+    fields = [e for e in said.info.segment.below() if e.label == 'Seek position']
+    fields[1].value = str(said.info.level1('Tracks')[0].at - said.info.start())
+
+
 def first(info, label):
     return [e for e in info.segment.below() if e.label == label][0]
 
@@ -190,6 +199,9 @@ def fact_changes(tools):
     def ending(said):
         said.info.segment.size, said.info.segment.data = 5000, 4988
 
+    def some_bytes(said):
+        said.info.segment.size, said.info.segment.data = 17, 5
+
     def met(said):
         tracks = said.info.level1('Tracks')[0]
         said.info.segment.children.append(copy.deepcopy(tracks))
@@ -239,7 +251,8 @@ def fact_changes(tools):
         ('hidden', 'pe-no-seek.mkv', position('Tags', 0x1254C367)),
         ('written twice', 'mm-twice.mkv', swap_entries), ('unknown size', 'hand-live.mkv', known),
         ('unknown size', 'hand-live-4.mkv', lambda said: (known(said), ending(said))),
-        ('unknown size, short', 'hand-live-1.mkv', known), ('unknown size, short', 'hand-live-false.mkv', known),
+        *[('unknown size, short', name, lambda said: (known(said), ending(said)))
+          for name in ('hand-live-1.mkv', 'hand-live-false.mkv')],
         ('open end', 'killed-plain.mkv', ending), ('open end', 'killed-plain.mkv', met),
         ('open end', 'hand-cut-no-seek.mkv', ending), ('rows', 'large-over.mkv', small_part),
         ('stale', 'hand-stale.mkv', position('Chapters', 0x1043A770)),
@@ -250,6 +263,7 @@ def fact_changes(tools):
         ('description', 'mm-all.mkv', description), ('ffprobe: editions', 'mm-all.mkv', fewer),
         ('ffprobe: editions', 'mm-all.mkv', more), ('ffprobe: name', 'mm-all.mkv', title),
         ('ffprobe: end', 'mm-all.mkv', end), ('ffprobe: uid', 'mm-all.mkv', uid),
+        ('no size', 'killed-mkvmerge.mkv', some_bytes), ('unfilled', 'gst-killed.mkv', filled),
         ('ffprobe: opus', 'webm-vp9.webm', opus), ('plain master', 'mm-picture.mkv', outside),
         ('a row of ours', 'mm-all.mkv', drop('Chapter UID', 'Chapter atom')),
         *[('default', 'mm-all.mkv', child(label, 'Track')) for label in ('"Enabled" flag', '"Forced display" flag')],
@@ -273,6 +287,12 @@ def fact_changes(tools):
             stream(0, 'width', 63), stream(2, 'language', 'ger'), drop('Interlaced', 'Video track'),
             drop('Codec name', 'Track'), drop('"Lacing" flag', 'Track'), drop('Default duration', 'Track'))],
     ]
+
+
+def is_made(folder, name):
+    """Those of GStreamer may not be there."""
+    with open(folder + '/list', encoding='utf-8') as file:
+        return not name.startswith('gst-') or any(line.startswith(name + '\t') for line in file)
 
 
 def once(call):
@@ -317,6 +337,8 @@ def run(folder, asker, run_rows, run_parts, Comparison, tools):
         tried += count
     facts = 0
     for reason, name, change in fact_changes(tools):
+        if not is_made(folder, name):
+            continue
         said = fresh(name, None).tools
         plain = fresh(name, said).all()
         if plain.wrong or (not reason.startswith('a ') and reason not in {r for r, _ in plain.findings}):
@@ -338,4 +360,257 @@ def run(folder, asker, run_rows, run_parts, Comparison, tools):
         missed += 1
         print('selftest: not noticed: a wrong checksum')
     print('selftest: %d changed answers and %d changed facts, %d not noticed' % (tried, facts, missed))
+    return 1 if missed else 0
+
+
+# ---- The viewer ----
+
+# Recordings of which every answer of the viewer is changed: with everything, and the odd ones.
+VIEWED = ['mm-shown.mkv', 'pe-targets.mkv', 'ff-all.mkv', 'mm-picture.mkv', 'mm-no-seek.mkv', 'pe-hidden.mkv',
+          'mm-hidden.mkv', 'hand-stale.mkv', 'hand-cut-end.mkv', 'hand-live.mkv', 'hand-twice.mkv',
+          'killed-mkvmerge.mkv', 'killed-plain.mkv']
+
+
+def value_changes(value):
+    """A value of the JSON, changed once; of a list one left out, and the first two swapped."""
+    if value is None:
+        return [7]
+    if isinstance(value, bool):
+        return [not value]
+    if isinstance(value, int):
+        return [value + 1, None]
+    if isinstance(value, str):
+        return [value + 'x', value[1:]] if value else ['x']
+    if isinstance(value, list):
+        return ([value[:-1]] if value else []) + ([value[1::-1] + value[2:]] if len(value) > 1 else [])
+    # An object that is not there.
+    return [None]
+
+
+def json_changes(value, where=''):
+    """The same JSON with one thing changed, for each thing in it, and where that is."""
+    yield from ((where, change) for change in value_changes(value))
+    inner = value.items() if isinstance(value, dict) else enumerate(value) if isinstance(value, list) else []
+    for key, member in inner:
+        for place, change in json_changes(member, '%s/%s' % (where, key)):
+            other = copy.copy(value)
+            other[key] = change
+            yield place, other
+    if isinstance(value, dict):
+        yield where, {**value, 'more': None}
+
+
+def line_changes(text):
+    """Lines swapped, left out, told twice, set in by two spaces more or less, without a mark, or with another number.
+    A number in the name of an element is left alone: the tools have other names."""
+    lines = text.split('\n')
+    for k, line in enumerate(lines[:-1]):
+        others = [[], [line, line], ['  ' + line]] + ([[line[2:]]] if line.startswith('  ') else [])
+        others += [[line.replace(mark, '', 1)] for mark in (' hidden', ' disabled', ' default', ': the entry is stale')
+                   if mark in line]
+        others += [[line + mark] for mark in (' hidden', ' disabled')]
+        others += [[line[:m.start()] + str(int(m.group()) + 1) + line[m.end():]]
+                   for m in re.finditer(r'(?<![A-Za-z0-9-])\d+', line)]
+        others += [[line.replace(old, new, 1)] for old, new in
+                   (('header id', 'payload id'), ('payload id', 'header id'), ('stands', 'stands: the entry is stale'))
+                   if old in line]
+        for other in others:
+            yield '\n'.join(lines[:k] + other + lines[k + 1:])
+        if k + 2 < len(lines) and line != lines[k + 1]:
+            yield '\n'.join(lines[:k] + [lines[k + 1], line] + lines[k + 2:])
+
+
+def error_changes(text):
+    """Standard error: a line left out, one more, and each number changed."""
+    lines = text.split('\n')
+    yield text + 'stages: one more\n'
+    for k, line in enumerate(lines[:-1]):
+        yield '\n'.join(lines[:k] + lines[k + 1:])
+        for m in re.finditer(r'\d+', line):
+            yield '\n'.join(lines[:k] + [line[:m.start()] + str(int(m.group()) + 1) + line[m.end():]] + lines[k + 1:])
+
+
+def viewer_changes(words, answer):
+    """What is changed, in words, and the changed answer: status, standard output and standard error."""
+    status, out, err = answer
+    yield 'status', (1 - status, out, err)
+    yield from (('standard error as ' + change, (status, out, change)) for change in error_changes(err))
+    if words == ('--json',):
+        yield 'cut short', (status, out[:-3], err)
+        yield 'a key twice', (status, out.replace('"level": 0', '"level": 0, "level": 0', 1)
+                              if '"level": 0' in out else out.replace('{', '{"length": 0, ', 1), err)
+        yield from ((place, (status, json.dumps(change), err)) for place, change in json_changes(json.loads(out)))
+    else:
+        yield from (('as ' + change, (status, change, err)) for change in line_changes(out))
+
+
+def nth(root, name, k=0):
+    return list(root.iter(name))[k]
+
+
+def viewer_facts(tools):
+    """Reason or fact, recording, and what to change in the tools' facts so that the comparison has to notice it."""
+    def chapter(name, text, k=0):
+        return lambda said: setattr(nth(said.chapters, name, k), 'text', text)
+
+    def tag(name, text, k=0):
+        return lambda said: setattr(nth(said.tags, name, k), 'text', text)
+
+    def shown(label, field, value, k=0):
+        """Another fact of mkvinfo's k-th element of that label, not counting those of Segment itself."""
+        return lambda said: setattr([e for e in said.info.segment.below() if e.label == label][k], field, value)
+
+    def lift(name):
+        """The first nested one stands in its parent's parent."""
+        def change(said):
+            root = said.chapters if name == 'ChapterAtom' else said.tags
+            for upper in root.iter():
+                for lower in upper.findall(name):
+                    if lower.find(name) is not None:
+                        upper.append(lower.find(name))
+                        lower.remove(lower.find(name))
+                        return
+        return change
+
+    def fewer(kind, name):
+        """One of that name less; the first of those in it."""
+        def change(said):
+            root = getattr(said, kind)
+            above = [e for e in root.iter() if e.find(name) is not None][0]
+            above.remove(above.find(name))
+        return change
+
+    def track(name, value):
+        return lambda said: said.identified['tracks'][0]['properties'].update({name: value})
+
+    def file(name, value):
+        return lambda said: said.identified['attachments'][-1].update({name: value})
+
+    def uid(said):
+        said.identified['attachments'][-1]['properties']['uid'] += 1
+
+    def data(said):
+        said.attached[0] += b'x'
+
+    def position(label, ident):
+        return lambda said: entry(said.info, ident, said.info.level1(label)[0].at)
+
+    def drop_head(said):
+        said.info.segment.children = [e for e in said.info.segment.children if e.label != 'Seek head']
+
+    def known(said):
+        for e in said.info.level1('Cluster'):
+            e.size, e.data = 100, 90
+
+    def size(data):
+        return lambda said: vars(said.info.segment).update(size=data + 12, data=data)
+
+    def small_part(said):
+        del first(said.info, 'Edition entry').children[9:]
+
+    def same_twice(said):
+        # The other Tracks stands where the shown one is, so that nothing differs.
+        one, two = said.info.level1('Tracks')
+        one.at, one.size, one.data = two.at, two.size, two.data
+
+    out = [('a name', 'mm-shown.mkv', chapter('ChapterString', 'x')),
+           ('a nested name', 'mm-shown.mkv', chapter('ChapterString', 'x', 1)),
+           ('a start', 'mm-shown.mkv', chapter('ChapterTimeStart', '00:00:00.600000001')),
+           ('an end', 'mm-shown.mkv', chapter('ChapterTimeEnd', '00:00:00.900000001')),
+           ('a uid', 'mm-shown.mkv', chapter('ChapterUID', '1')),
+           ('an edition\'s uid', 'mm-shown.mkv', chapter('EditionUID', '1')),
+           ('hidden', 'mm-shown.mkv', chapter('ChapterFlagHidden', '0')),
+           ('enabled', 'mm-shown.mkv', chapter('ChapterFlagEnabled', '1')),
+           ('a language', 'mm-shown.mkv', chapter('ChapLanguageIETF', 'fr')),
+           ('nesting', 'mm-shown.mkv', lift('ChapterAtom')), ('nesting', 'pe-targets.mkv', lift('Simple'))]
+    out += [('one less', 'mm-shown.mkv', fewer('chapters', name)) for name in
+            ('EditionEntry', 'ChapterAtom', 'ChapterDisplay', 'ChapterString', 'ChapterTimeStart')]
+    out += [('one less', 'pe-targets.mkv', fewer('tags', name)) for name in
+            ('Tag', 'Targets', 'Simple', 'Name', 'String', 'Binary', 'TargetType', 'TargetTypeValue', 'ChapterUID')]
+    out += [('a tag', 'pe-targets.mkv', tag(name, text)) for name, text in
+            (('TrackUID', '72'), ('EditionUID', '1'), ('ChapterUID', '1'), ('AttachmentUID', '1'),
+             ('TargetTypeValue', '40'), ('TargetType', 'x'), ('Name', 'x'), ('String', 'x'), ('Binary', '00fe'))]
+    out += [('mkvinfo', 'pe-targets.mkv', shown(label, 'at', 7)) for label in
+            ('Chapters', 'Edition entry', 'Chapter atom', 'Chapter display', 'Chapter string', 'Chapter time start',
+             'Chapter UID', 'Chapter language (IETF BCP 47)', 'Tags', 'Tag', 'Targets', 'Simple', 'String', 'Binary',
+             'Target type', 'Track', 'Track UID', 'Track number', 'Codec ID', 'Attached', 'File name', 'File data',
+             'MIME type', 'File UID', 'Edition UID', 'Edition flag default', 'Seek head', 'Seek entry')]
+    out += [('mkvinfo', 'pe-targets.mkv', shown(label, 'value', value)) for label, value in
+            (('Chapter time start', '00:00:07.000000000'), ('Chapter UID', '7'), ('Track UID', '7'), ('File UID', '7'),
+             ('Track number', '7'), ('Track type', 'audio'), ('Target type value', '7'), ('Seek position', '7'),
+             ('Chapter flag hidden', '0'), ('Edition flag default', '0'), ('Edition UID', '7'))]
+    out += [('mkvinfo', 'pe-targets.mkv', shown('Seek ID', 'value', '0x12 0x34 0x56 0x78'))]
+    out += [('a track', 'pe-targets.mkv', track(name, value)) for name, value in
+            (('number', 7), ('uid', 7), ('track_name', 'x'), ('codec_id', 'x'), ('language', 'x'),
+             ('language_ietf', 'x'))]
+    out += [('an attachment', 'pe-targets.mkv', file(name, value)) for name, value in
+            (('file_name', 'x'), ('content_type', 'x'), ('description', 'x'))]
+    out += [('an attachment', 'pe-targets.mkv', uid), ('an attachment', 'pe-targets.mkv', data),
+            ('hidden', 'mm-hidden.mkv', position('Chapters', 0x1043A770)), ('hidden', 'mm-hidden.mkv', drop_head),
+            ('stale', 'hand-stale.mkv', position('Chapters', 0x1043A770)),
+            ('cut off', 'hand-cut-end.mkv', lambda said: entry(said.info, 0x1254C367, 100)),
+            ('cut off', 'hand-cut-end.mkv', size(1000)), ('open end', 'killed-plain.mkv', size(1000)),
+            ('unknown size', 'hand-live.mkv', known), ('no size', 'killed-mkvmerge.mkv', size(5)),
+            ('written twice', 'hand-twice.mkv', same_twice),
+            ('rows', 'large-over.mkv', small_part),
+            ('unfilled', 'gst-killed.mkv', filled),
+            ('zero bytes', 'ff-all.mkv', lambda said: setattr([e for e in said.tags.iter('String') if (e.text or '')
+                                                               .startswith('00:')][0], 'text', '00:00')),
+            ('languages', 'mm-shown.mkv', chapter('ChapLanguageIETF', 'fr', -1)),
+            ('description', 'mm-shown.mkv', file('description', 'x')),
+            ('default', 'pe-settings.mkv', track('language', 'ger')),
+            ('empty name', 'pe-settings.mkv', lambda said: said.identified['tracks'][1]['properties'].update(
+                track_name='x'))]
+    return out
+
+
+def run_viewer(folder, view, Viewed, tools):
+    view = once(view)
+    told, missed, tried, facts = {}, 0, 0, 0
+
+    def fresh(name, said=None):
+        if name not in told:
+            told[name] = Viewed(name, folder, view).tools
+        return Viewed(name, folder, view, said or told[name])
+
+    def noticed(one):
+        try:
+            return bool(one.all().wrong)
+        except (ValueError, IndexError, KeyError, TypeError, AttributeError):
+            # An answer that makes no sense stops the comparison, which is noticed too.
+            return True
+
+    for name in VIEWED:
+        seen = {}
+        plain = fresh(name)
+        plain.change = lambda words, answer: seen.setdefault(words, answer)
+        if plain.all().wrong:
+            print('selftest: %s is not explained as it is' % name)
+            return 1
+        count = 0
+        for words, answer in seen.items():
+            for what, change in viewer_changes(words, answer):
+                one = fresh(name)
+                one.change = lambda asked, said: change if asked == words else said
+                count += 1
+                if not noticed(one):
+                    missed += 1
+                    print('selftest: %s: not noticed: %s %s' % (name, ' '.join(words) or 'plain', what[:400]))
+        print('%s: %d changed answers of the viewer' % (name, count), flush=True)
+        tried += count
+    for reason, name, change in viewer_facts(tools):
+        if not is_made(folder, name):
+            continue
+        plain = fresh(name).all()
+        if plain.wrong:
+            print('selftest: %s is not explained as it is' % name)
+            missed += 1
+            continue
+        said = copy.deepcopy(told[name])
+        change(said)
+        facts += 1
+        if not noticed(fresh(name, said)):
+            missed += 1
+            print('selftest: %s: not noticed: a changed fact on %s' % (name, reason))
+    print('selftest: %d changed answers of the viewer and %d changed facts, %d not noticed' % (tried, facts, missed))
     return 1 if missed else 0

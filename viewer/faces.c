@@ -202,6 +202,13 @@ static void put_tag(written *to, const char *name, const char *value) {
     close_master(to, tag);
 }
 
+static void put_tags(written *to) {
+    size_t tags = open_master(to, UZ_TAGS);
+    put_tag(to, "rail", "5V");
+    put_tag(to, "baud", "115200");
+    close_master(to, tags);
+}
+
 // A recording like the bench kit's: two linked seek heads, tracks, an attachment, nested chapters,
 // tags, and some elements of each kind.
 static void put_sample(written *to) {
@@ -257,10 +264,7 @@ static void put_sample(written *to) {
     close_master(to, second);
 
     positions[3] = to->length;
-    size_t tags = open_master(to, UZ_TAGS);
-    put_tag(to, "rail", "5V");
-    put_tag(to, "baud", "115200");
-    close_master(to, tags);
+    put_tags(to);
     close_master(to, segment);
     for (size_t i = 0; i < 5; i++)
         set_position(to, places[i], positions[i] - segment);

@@ -10,11 +10,11 @@
 
 static const uz_words table[] = {
     [UZ_ACCEPTED] = {"ACCEPTED", "no refusal", "no refusal", "nothing"},
-    [UZ_PAST_END] =
-        {"PAST_END", "a byte needed lies beyond the recording",
-         "a byte needed lies beyond the end of the file",
-         "the file was cut off or not finished: copy it again; what is left of it becomes a "
-         "whole file by mkvmerge -o NEW.mkv FILE"},
+    [UZ_PAST_END] = {"PAST_END", "a byte needed lies beyond the recording",
+                     "a byte needed lies beyond the end of the file",
+                     "copy the file again; of what is left, take the chapters out: mkvextract FILE "
+                     "chapters C.xml; write the rest anew: mkvmerge -o NEW.mkv --no-chapters "
+                     "--chapters C.xml FILE; where there is no C.xml, without --chapters"},
     [UZ_INVALID_ID] = {"INVALID_ID", "the id has more than four bytes",
                        "an id has more than four bytes",
                        "the bytes are damaged there: copy the file again, or " REMUX},
@@ -43,9 +43,10 @@ static const uz_words table[] = {
     [UZ_STALE_ENTRY] =
         {"STALE_ENTRY", "a sought address holds a header with another id: the entry is stale",
          "a seek entry is stale: another element stands at its address",
-         "take chapters and tags out: mkvextract FILE --parse-fully chapters C.xml tags "
-         "T.xml; " REMUX "; "
-         "what NEW.mkv lacks then, mkvmerge adds by --chapters C.xml and --global-tags T.xml"},
+         "take chapters and tags out: mkvextract FILE --parse-fully chapters C.xml tags T.xml; "
+         "write the recording anew: mkvmerge -o NEW.mkv --no-chapters --no-global-tags "
+         "--no-track-tags --chapters C.xml --global-tags T.xml FILE; where there is no C.xml or no "
+         "T.xml, without --chapters or --global-tags"},
     [UZ_HEAD_AGAIN] = {"HEAD_AGAIN", "a seek head is reached at an address already read as one",
                        "seek heads lead back to one that was read", REMUX},
     [UZ_TOO_MANY_HEADS] = {"TOO_MANY_HEADS", "a 65th seek head would be read",

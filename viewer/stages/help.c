@@ -4,7 +4,7 @@
 
 // clang-format off
 const char help_text[] =
-    "usage: stages [--hex] [--json] FILE [ADDRESS]\n"
+    "usage: stages [--hex] FILE [ADDRESS], or stages --json FILE\n"
     "\n"
     "Shows the boot stages, bench settings, tracks and attached files of a Matroska recording,\n"
     "each with its address: the number of bytes before it in the file.\n"

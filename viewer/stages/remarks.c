@@ -7,30 +7,51 @@
 #include "unproved.h"
 
 #include <inttypes.h>
+#include <stdarg.h>
 #include <stdio.h>
 #include <string.h>
 
 static const char remux[] = "write the recording anew: mkvmerge -o NEW.mkv FILE";
+static const char remux_live[] =
+    "mkvmerge -o NEW.mkv FILE writes it anew; tags behind the Clusters may be lost, and "
+    "mkvinfo -a FILE shows them";
 
-static remark *add(remarks *to, const char *next) {
-    remark *last = &to->all[to->count < MOST_REMARKS ? to->count++ : MOST_REMARKS - 1];
+// Adds a remark, unless it was made already.
+__attribute__((format(printf, 3, 4))) static void add(remarks *to, const char *next,
+                                                      const char *format, ...) {
+    if (to->count == MOST_REMARKS)
+        return;
+    remark *last = &to->all[to->count];
+    va_list words;
+    va_start(words, format);
+    vsnprintf(last->words, sizeof last->words, format, words);
+    va_end(words);
     last->next = next;
-    return last;
+    for (unsigned i = 0; i < to->count; i++)
+        if (strcmp(to->all[i].words, last->words) == 0)
+            return;
+    to->count++;
 }
-#define ADD(to, next, ...) snprintf(add(to, next)->words, sizeof(to)->all->words, __VA_ARGS__)
 
 // Whether the reader came to bytes that it could not read: what sizes that are not known lead to.
 static bool is_astray(const part *of) {
     return of->reply.refused >= UZ_PAST_END && of->reply.refused <= UZ_INVALID_SIZE;
 }
 
+// Whether a file begins with the bytes of an id of four bytes, or is cut off within them.
+static bool begins(const recording *from, uint32_t id) {
+    bool same = true;
+    for (uint64_t i = 0; i < 4 && i < from->length; i++)
+        same = same && from->bytes[i] == (uint8_t)(id >> (24 - 8 * i));
+    return same;
+}
+
 static void on_no_segment(const recording *from, remarks *to) {
-    header first;
-    if (read_header(from, 0, &first) == UZ_ACCEPTED && first.id == EBML)
-        ADD(to, "copy the file again, or record again",
+    if (begins(from, EBML) || begins(from, SEGMENT))
+        add(to, "copy the file again, or record again",
             "it begins as a Matroska file, but has no segment: it was cut off, or never written");
     else
-        ADD(to, "check that this is the right file",
+        add(to, "check that this is the right file",
             "this is no Matroska file: it begins neither with an EBML header nor with a segment");
 }
 
@@ -39,104 +60,142 @@ static void on_segment(const recording *from, const header *segment, bool astray
     if (segment->unknown) {
         if (!astray)
             return;
-        ADD(to, remux,
+        add(to, remux_live,
             "the size of the segment is not known: a live recording, or its recorder was stopped");
         to->explained[UZ_PAST_END] = true;
     } else if (segment->size == 0 && segment->payload < from->length) {
-        ADD(to,
-            "ffmpeg -i FILE -map 0 -c copy NEW.mkv saves the film; chapters and tags that the "
-            "recorder writes at its end are lost",
+        add(to,
+            "ffmpeg -i FILE -map 0 -c copy NEW.mkv saves film and attached files; chapters and "
+            "tags "
+            "that the recorder writes at its end are lost",
             "the segment says that it has no bytes, though %" PRIu64
             " follow: the recorder was stopped before it wrote the size",
             from->length - segment->payload);
         to->unfinished = true;
     } else if (end > from->length) {
-        ADD(to,
-            "copy the file again; what is left of it becomes a whole file by mkvmerge -o NEW.mkv "
-            "FILE",
+        add(to, uz_refusal_words(UZ_PAST_END).next,
             "the file was cut off: its segment would end at %" PRIu64
             ", and the file ends at %" PRIu64,
             end, from->length);
-        to->explained[UZ_PAST_END] = true;
     }
 }
 
-// A child of the segment whose size is not known.
-static void on_open_end(const header *child, remarks *to) {
-    ADD(to, remux,
-        "the size of the %s at %" PRIu64
-        " is not known: a live recording; what stands behind it can't be told",
-        child->id == CLUSTER ? "Cluster" : "element", child->at);
-    to->explained[UZ_PAST_END] = true;
-    to->explained[UZ_INVALID_ID] = true;
-    to->explained[UZ_INVALID_SIZE] = true;
+// A child of the segment whose size is not known: the search takes that as a number, and either
+// goes astray or comes out among the child's own bytes.
+static void on_open_end(const part all[PARTS], const header *child, bool astray, remarks *to) {
+    const char *what = child->id == CLUSTER ? "Cluster" : "element";
+    if (astray) {
+        add(to, remux_live,
+            "the size of the %s at %" PRIu64
+            " is not known: a live recording; what stands behind it can't be told",
+            what, child->at);
+        to->explained[UZ_PAST_END] = true;
+        to->explained[UZ_INVALID_ID] = true;
+        to->explained[UZ_INVALID_SIZE] = true;
+    }
+    for (unsigned i = 0; i < PARTS; i++)
+        if (all[i].reply.found != 0 && all[i].reply.heads == 0 && all[i].reply.at > child->payload)
+            add(to, remux_live,
+                "%s at %" PRIu64 " was found behind the start of the %s at %" PRIu64
+                ", whose size is not known: it may be bytes of a frame",
+                all[i].name, all[i].reply.at, what, child->at);
 }
 
-// A part that stands in the segment beside the one that is shown. Matroska lets a recorder write a
+// Whether a child holds the same bytes as a part that is shown. Matroska lets a recorder write a
 // copy, which tells nothing new.
-static void on_another(const recording *from, const part *shown, const header *child, remarks *to) {
-    const uz_part *reply = &shown->reply;
-    if (child->payload == reply->at ||
-        (child->size == reply->size && child->size <= from->length - child->payload &&
-         memcmp(from->bytes + child->payload, from->bytes + reply->at, (size_t)child->size) == 0))
-        return;
-    ADD(to, "mkvinfo -a FILE shows both; write the recording anew with the right one",
-        "%s is there more than once: the one with its payload at %" PRIu64
-        " is shown, that at %" PRIu64 " is not",
-        shown->name, reply->at, child->at);
+static bool is_copy(const recording *from, const part *shown, const header *child) {
+    return child->size == shown->reply.size && child->size <= from->length - child->payload &&
+           memcmp(from->bytes + child->payload, from->bytes + shown->reply.at,
+                  (size_t)child->size) == 0;
 }
 
-// The parts that stand in the segment, and an element whose size is not known, behind which nothing
-// is looked for. Of further parts of one name the first is told.
+// Where parts stand in the segment: the first that is not shown, and the one that is; 0 for none.
+typedef struct {
+    uint64_t hidden;
+    uint64_t shown;
+} standing;
+
+// Goes over the children of the segment, up to one whose size is not known.
 static void walk(const recording *from, const header *segment, const part all[PARTS], bool astray,
-                 remarks *to) {
+                 standing stand[PARTS], remarks *to) {
     header child = {0, 0, 0, 0, false};
-    bool another[PARTS] = {false, false, false, false};
     while (next_in_segment(from, segment, &child)) {
         for (unsigned i = 0; i < PARTS; i++) {
             if (child.id != all[i].id)
                 continue;
-            if (all[i].reply.found == 0 && to->stands[i] == 0)
-                to->stands[i] = child.at;
-            unsigned before = to->count;
-            if (all[i].reply.found != 0 && !another[i])
-                on_another(from, &all[i], &child, to);
-            another[i] = another[i] || to->count > before;
+            bool found = all[i].reply.found != 0;
+            if (found && child.payload == all[i].reply.at)
+                stand[i].shown = child.at;
+            else if (stand[i].hidden == 0 && !(found && is_copy(from, &all[i], &child)))
+                stand[i].hidden = child.at;
         }
-        if (child.unknown && astray)
-            on_open_end(&child, to);
+        if (child.unknown)
+            on_open_end(all, &child, astray, to);
     }
 }
 
-// The seek entry that a refusal is about was reserved, and never filled in.
+// Whether the seek entry that a refusal is about, that of a part or of the next seek head, was
+// reserved and never filled in.
 static void on_unfilled(const recording *from, const header *segment, const part *of, remarks *to) {
     uint64_t number = of->reply.refused;
-    seek_entry entry;
-    if ((number != UZ_INVALID_SEEK_HEAD && number != UZ_PAST_END) ||
-        !find_entry(from, segment, number == UZ_PAST_END ? of->id : of->reply.id, &entry) ||
-        !is_unfilled(&entry))
-        return;
-    ADD(to, remux,
-        "the seek entry for %s was never filled in: the recorder was stopped before it could",
-        entry.id == of->id ? of->name : "the next seek head");
-    to->explained[number] = true;
+    const uint64_t ids[2] = {SEEK_HEAD, of->id};
+    for (unsigned i = 0; i < 2; i++) {
+        seek_entry entry;
+        if ((number != UZ_INVALID_SEEK_HEAD || of->reply.id != ids[i]) && number != UZ_PAST_END)
+            continue;
+        if (!find_entry(from, segment, ids[i], &entry) || !is_unfilled(&entry))
+            continue;
+        add(to, remux,
+            "the seek entry for %s was never filled in: the recorder was stopped before it could",
+            ids[i] == of->id ? of->name : "the next seek head");
+        to->explained[number] = true;
+    }
 }
 
-// A part that stands in the segment, and to which the seek head does not lead.
-static void on_elsewhere(const part *of, uint64_t stands, remarks *to) {
+// A part that stands in the segment beside the one that is shown.
+static void on_another(const part *of, const standing *stand, remarks *to) {
+    static const char next[] =
+        "mkvinfo -a FILE shows both; mkvmerge -o NEW.mkv FILE keeps the last";
+    if (stand->shown != 0)
+        add(to, next,
+            "%s is there more than once: the one at %" PRIu64 " is shown, that at %" PRIu64
+            " is not",
+            of->name, stand->shown, stand->hidden);
+    else
+        add(to, next, "another %s stands at %" PRIu64 ", and is not shown", of->name,
+            stand->hidden);
+}
+
+// A part that stands in the segment, and that the search did not come to.
+static void on_elsewhere(const recording *from, const header *segment, const part *of,
+                         uint64_t stands, remarks *to) {
+    seek_entry entry;
+    const char *stale = uz_refusal_words(UZ_STALE_ENTRY).next;
     uint64_t number = of->reply.refused;
-    if (number == UZ_ACCEPTED)
-        ADD(to, uz_refusal_words(UZ_STALE_ENTRY).next,
-            "%s stands at %" PRIu64 "; it is not shown, since no seek head names it", of->name,
-            stands);
-    else if (number >= UZ_INVALID_SEEK_HEAD && number <= UZ_TOO_MANY_HEADS)
-        ADD(to, NULL,
+    if (number == UZ_ACCEPTED && to->unfinished) {
+        add(to, NULL, "%s stands at %" PRIu64 "; it is not shown, being outside the segment",
+            of->name, stands);
+    } else if (number == UZ_ACCEPTED) {
+        add(to, stale,
+            "%s stands at %" PRIu64
+            "; it is not shown, since no seek head that is reached names it",
+            of->name, stands);
+    } else if (number >= UZ_INVALID_SEEK_HEAD && number <= UZ_TOO_MANY_HEADS) {
+        add(to, NULL,
             "%s stands at %" PRIu64 "; it is not shown, since the seek heads can't be trusted",
             of->name, stands);
+    } else if (is_astray(of) && find_entry(from, segment, of->id, &entry) &&
+               entry.position != stands - segment->payload) {
+        add(to, stale,
+            "%s stands at %" PRIu64 "; it is not shown, since its seek entry leads elsewhere",
+            of->name, stands);
+        to->explained[number] = true;
+    }
 }
 
 void find_remarks(const recording *from, const part all[PARTS], remarks *to) {
     header segment;
+    standing stand[PARTS] = {{0, 0}, {0, 0}, {0, 0}, {0, 0}};
     memset(to, 0, sizeof *to);
     to->segment = find_segment(from, &segment);
     if (!to->segment) {
@@ -147,10 +206,17 @@ void find_remarks(const recording *from, const part all[PARTS], remarks *to) {
     for (unsigned i = 0; i < PARTS; i++)
         astray = astray || is_astray(&all[i]);
     on_segment(from, &segment, astray, to);
-    walk(from, &segment, all, astray, to);
+    // A segment that was never given its size is gone over up to the end of the file.
+    if (to->unfinished)
+        segment.size = from->length - segment.payload;
+    walk(from, &segment, all, astray, stand, to);
     for (unsigned i = 0; i < PARTS; i++) {
         on_unfilled(from, &segment, &all[i], to);
-        if (to->stands[i] != 0)
-            on_elsewhere(&all[i], to->stands[i], to);
+        if (stand[i].hidden != 0 && all[i].reply.found != 0)
+            on_another(&all[i], &stand[i], to);
+        else if (stand[i].hidden != 0)
+            on_elsewhere(from, &segment, &all[i], stand[i].hidden, to);
+        if (all[i].reply.found == 0)
+            to->stands[i] = stand[i].hidden;
     }
 }

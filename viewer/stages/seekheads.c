@@ -10,15 +10,12 @@
 #include <inttypes.h>
 
 // Reads the head into rows and looks for an address in it. The reply's rows are those of the table.
-// An element has two bytes or more, so a small head gets a small table: a recording may hold
-// millions of heads, and a call goes over its whole table.
 static uz_place read_head(const recording *from, const header *head, uint64_t address, part *to) {
     static uint64_t table[UZ_MOST_NUMBERS];
     *to = (part){
         .name = "SeekHead", .id = SEEK_HEAD, .parent = SEGMENT, .from = from, .table = table};
-    uint64_t rows = head->size / 2 + 1 < UZ_MOST_ROWS ? head->size / 2 + 1 : UZ_MOST_ROWS;
     uz_place place = uz_whose_byte(from->bytes, (size_t)from->length, head->payload, head->size,
-                                   SEGMENT, address, table, (size_t)(rows * UZ_WIDTH));
+                                   SEGMENT, address, table, UZ_MOST_NUMBERS);
     to->reply.rows = place.rows;
     return place;
 }
@@ -37,22 +34,47 @@ static seek_entry entry_in(const part *head, uint64_t seek) {
     return entry;
 }
 
+// The last entry for an id directly in a head; false if there is none.
+static bool entry_for(const part *head, uint64_t id, seek_entry *to) {
+    bool found = false;
+    uint64_t row = next_child(head, NO_ROW, 0, SEEK, UZ_MASTER);
+    for (; row != NO_ROW; row = next_child(head, NO_ROW, row + 1, SEEK, UZ_MASTER)) {
+        seek_entry entry = entry_in(head, row);
+        if (entry.id != id)
+            continue;
+        *to = entry;
+        found = true;
+    }
+    return found;
+}
+
+// The first seek head of the segment; false if there is none, or if an element of that id stands
+// before it, which the search then takes.
+static bool first_head(const recording *from, const header *segment, uint64_t id, header *head) {
+    *head = (header){0, 0, 0, 0, false};
+    while (next_in_segment(from, segment, head)) {
+        if (head->id == SEEK_HEAD)
+            return true;
+        if (head->id == id)
+            return false;
+    }
+    return false;
+}
+
 bool find_entry(const recording *from, const header *segment, uint64_t id, seek_entry *to) {
     bool found = false;
-    header child = {0, 0, 0, 0, false};
-    while (next_in_segment(from, segment, &child)) {
-        part head;
-        if (child.id != SEEK_HEAD ||
-            read_head(from, &child, child.payload, &head).refused != UZ_ACCEPTED)
-            continue;
-        uint64_t row = next_child(&head, NO_ROW, 0, SEEK, UZ_MASTER);
-        for (; row != NO_ROW; row = next_child(&head, NO_ROW, row + 1, SEEK, UZ_MASTER)) {
-            seek_entry entry = entry_in(&head, row);
-            if (entry.id != id)
-                continue;
-            *to = entry;
-            found = true;
-        }
+    header head;
+    if (!first_head(from, segment, id, &head))
+        return false;
+    for (unsigned heads = 0; heads < UZ_MOST_HEADS && head.id == SEEK_HEAD; heads++) {
+        part rows;
+        seek_entry link;
+        if (read_head(from, &head, head.payload, &rows).refused != UZ_ACCEPTED)
+            break;
+        found = entry_for(&rows, id, to) || found;
+        if (!entry_for(&rows, SEEK_HEAD, &link) || link.position > from->length ||
+            read_header(from, segment->payload + link.position, &head) != UZ_ACCEPTED)
+            break;
     }
     return found;
 }

@@ -13,7 +13,9 @@ typedef struct {
     uint64_t width;
 } seek_entry;
 
-// The last entry for an id in the seek heads that stand in the segment; false if there is none.
+// The entry for an id that counts: the last in the seek heads that the search reads, which are the
+// first in the segment and those that are linked from it. False if there is none, or if the search
+// meets an element of that id before any head.
 bool find_entry(const recording *from, const header *segment, uint64_t id, seek_entry *to);
 
 // Whether the position is all ones in four bytes or more: a recorder reserves such an entry, and

@@ -3,52 +3,18 @@
 #include "arguments.h"
 #include "attachments.h"
 #include "chapters.h"
+#include "faults.h"
 #include "help.h"
 #include "json.h"
 #include "parts.h"
 #include "remarks.h"
 #include "show.h"
 #include "tags.h"
-#include "tell.h"
 #include "tracks.h"
 #include "whose.h"
 
 #include <inttypes.h>
 #include <string.h>
-
-// What to do next: each advice once, first those of the remarks.
-static void tell_nexts(const part all[PARTS], const remarks *odd) {
-    const char *told[MOST_REMARKS + PARTS];
-    unsigned count = 0;
-    for (unsigned i = 0; i < odd->count + PARTS; i++) {
-        const char *next = NULL;
-        uint64_t number = i < odd->count ? UZ_ACCEPTED : all[i - odd->count].reply.refused;
-        if (i < odd->count)
-            next = odd->all[i].next;
-        else if (odd->segment && number != UZ_ACCEPTED && !odd->explained[number])
-            next = uz_refusal_words(number).next;
-        bool again = next == NULL;
-        for (unsigned k = 0; !again && k < count; k++)
-            again = strcmp(told[k], next) == 0;
-        if (again)
-            continue;
-        told[count++] = next;
-        tell_next(all->from, next);
-    }
-}
-
-// Refused parts, remarks on the file, and what to do. Where there is no segment the remark says all
-// there is to say.
-static int tell_faults(const part all[PARTS], const remarks *odd) {
-    int status = odd->count > 0;
-    for (unsigned i = 0; odd->segment && i < PARTS; i++)
-        if (all[i].reply.refused != UZ_ACCEPTED)
-            status = tell_refused(&all[i], all[i].reply.refused, all[i].reply.id);
-    for (unsigned i = 0; i < odd->count; i++)
-        fault(all->from->name, odd->all[i].words);
-    tell_nexts(all, odd);
-    return status;
-}
 
 // The parts that are not there, in one line on standard error. That is no fault.
 static void tell_absent(const part all[PARTS], const remarks *odd) {

@@ -35,11 +35,24 @@ static uint64_t tag_at(const part *in, uint64_t from) {
 
 // ---- As text ----
 
-// The first master of that id whose uid is the number. Each master is looked at once, however many
-// uids it has.
+// Whether a row is a record that is listed: a track, edition or file directly in its part, and an
+// atom by atoms alone in an edition.
+static bool is_listed(const part *in, const uid_list *list, uint64_t row) {
+    if (cell(in, row, UZ_ID) != list->master || cell(in, row, UZ_KIND) != UZ_MASTER)
+        return false;
+    if (list->master != CHAPTER_ATOM || cell(in, row, UZ_PARENT) == 0)
+        return list->master != CHAPTER_ATOM && cell(in, row, UZ_PARENT) == 0;
+    uint64_t edition = row;
+    while (cell(in, edition, UZ_PARENT) != 0)
+        edition = cell(in, edition, UZ_PARENT) - 1;
+    return cell(in, edition, UZ_ID) == EDITION_ENTRY && cell(in, edition, UZ_KIND) == UZ_MASTER &&
+           level_below(in, edition, row, CHAPTER_ATOM) != NO_LEVEL;
+}
+
+// The first record whose uid is the number. Each is looked at once, however many uids it has.
 static uint64_t having_uid(const part *in, const uid_list *list, uint64_t number) {
     for (uint64_t row = 0; row < in->reply.rows; row++) {
-        if (cell(in, row, UZ_ID) != list->master || cell(in, row, UZ_KIND) != UZ_MASTER)
+        if (!is_listed(in, list, row))
             continue;
         uint64_t uid = last_child(in, row, list->uid, UZ_UNSIGNED);
         if (uid != NO_ROW && number_in(in, uid) == number)

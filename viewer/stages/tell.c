@@ -38,9 +38,8 @@ int tell_refused(const part *of, uint64_t number, uint64_t id) {
     return 1;
 }
 
-int tell_next(const recording *from, const char *next) {
+void tell_next(const recording *from, const char *next) {
     fputs("stages: ", stderr);
     show_word(stderr, from->name);
     fprintf(stderr, ": what to do: %s\n", next);
-    return 1;
 }

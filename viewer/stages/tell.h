@@ -15,7 +15,7 @@ void tell_row(const part *in, uz_place place);
 // Answers status 1.
 int tell_refused(const part *of, uint64_t number, uint64_t id);
 
-// A line on standard error with what to do next. Answers status 1.
-int tell_next(const recording *from, const char *next);
+// A line on standard error with what to do next.
+void tell_next(const recording *from, const char *next);
 
 #endif

@@ -4,8 +4,8 @@
 
 #include "recording.h"
 
-// Tells each row of a part or of a seek head that holds the byte, a line each. Answers the status:
-// 1 if a part is refused.
+// Tells each row of a part or of a seek head that holds the byte, a line each, and what is wrong
+// with the recording. Answers the status.
 int tell_whose(const recording *from, uint64_t address);
 
 #endif
