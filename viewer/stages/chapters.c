@@ -92,9 +92,11 @@ static void tell_atoms(const part *in, uint64_t parent, unsigned level, sibling 
         tell_time(in, field(in, atom, CHAPTER_TIME_END));
         show_address(header_of(in, atom));
         tell_name(in, atom);
-        puts(is_hidden(in, atom)    ? is_enabled(in, atom) ? " hidden" : " hidden disabled"
-             : is_enabled(in, atom) ? ""
-                                    : " disabled");
+        if (is_hidden(in, atom))
+            fputs(" hidden", stdout);
+        if (!is_enabled(in, atom))
+            fputs(" disabled", stdout);
+        putchar('\n');
         tell_atoms(in, atom, level + 1, room + count);
     }
 }
@@ -131,11 +133,7 @@ static void json_display(const part *in, uint64_t display) {
 static void json_atom(const part *in, uint64_t atom, unsigned level) {
     json_open(NULL, '{', true);
     json_number("at", header_of(in, atom));
-    if (level == 0)
-        json_null("parent");
-    else
-        json_number("parent", header_of(in, cell(in, atom, UZ_PARENT) - 1));
-    json_number("level", level);
+    json_nested(in, atom, level);
     json_field("uid", in, field(in, atom, CHAPTER_UID));
     json_field("start", in, field(in, atom, CHAPTER_TIME_START));
     json_field("end", in, field(in, atom, CHAPTER_TIME_END));

@@ -97,6 +97,14 @@ void json_flag(const char *key, const part *in, uint64_t row) {
     field(key, in, row, true);
 }
 
+void json_nested(const part *in, uint64_t row, unsigned level) {
+    if (level == 0)
+        json_null("parent");
+    else
+        json_number("parent", header_of(in, cell(in, row, UZ_PARENT) - 1));
+    json_number("level", level);
+}
+
 void json_end(void) {
     json_close('}');
     putchar('\n');

@@ -21,6 +21,10 @@ void json_null(const char *key);
 void json_field(const char *key, const part *in, uint64_t row);
 void json_flag(const char *key, const part *in, uint64_t row);
 
+// How an atom or a simple tag is nested: the address of the one that holds it, null on level 0, and
+// the level.
+void json_nested(const part *in, uint64_t row, unsigned level);
+
 // The end of the outermost object.
 void json_end(void);
 

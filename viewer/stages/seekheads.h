@@ -1,22 +1,8 @@
-// Seek heads: their entries, where these lead, and what stands there.
+// What is told of seek heads: an entry, where it leads, and what stands there.
 #ifndef SEEKHEADS_H
 #define SEEKHEADS_H
 
 #include "unproved.h"
-
-// An entry of a seek head: the address of its header, the id that it names, and its position in so
-// many bytes.
-typedef struct {
-    uint64_t at;
-    uint64_t id;
-    uint64_t position;
-    uint64_t width;
-} seek_entry;
-
-// The entry for an id that counts: the last in the seek heads that the search reads, which are the
-// first in the segment and those that are linked from it. False if there is none, or if the search
-// meets an element of that id before any head.
-bool find_entry(const recording *from, const header *segment, uint64_t id, seek_entry *to);
 
 // Whether the position is all ones in four bytes or more: a recorder reserves such an entry, and
 // fills it in at its end.

@@ -174,11 +174,7 @@ static void json_simple(const part *in, uint64_t simple, unsigned level) {
     bool binary = value != NO_ROW && cell(in, value, UZ_KIND) == UZ_BINARY;
     json_open(NULL, '{', true);
     json_number("at", header_of(in, simple));
-    if (level == 0)
-        json_null("parent");
-    else
-        json_number("parent", header_of(in, cell(in, simple, UZ_PARENT) - 1));
-    json_number("level", level);
+    json_nested(in, simple, level);
     json_field("name", in, last_child(in, simple, TAG_NAME, UZ_UTF8));
     json_field("language", in, language_of(in, simple, TAG_LANGUAGE_IETF, TAG_LANGUAGE));
     json_flag("default", in, last_child(in, simple, TAG_DEFAULT, UZ_UNSIGNED));

@@ -14,13 +14,6 @@ static uint64_t track_at(const part *in, uint64_t from) {
     return next_child(in, NO_ROW, from, TRACK_ENTRY, UZ_MASTER);
 }
 
-static const char *type_name(uint64_t type) {
-    static const char *const names[33] = {
-        [1] = "video",     [2] = "audio",    [3] = "complex", [16] = "logo",
-        [17] = "subtitle", [18] = "buttons", [32] = "control"};
-    return type < 33 && names[type] != NULL ? names[type] : "unknown";
-}
-
 void tell_tracks(const part *in) {
     for (uint64_t row = track_at(in, 0); row != NO_ROW; row = track_at(in, row + 1)) {
         uint64_t type = last_child(in, row, TRACK_TYPE, UZ_UNSIGNED);
@@ -28,7 +21,7 @@ void tell_tracks(const part *in) {
         show_address(header_of(in, row));
         fputs(" number ", stdout);
         show_field(in, last_child(in, row, TRACK_NUMBER, UZ_UNSIGNED));
-        printf(" type %s name ", type != NO_ROW ? type_name(number_in(in, type)) : "-");
+        printf(" type %s name ", type != NO_ROW ? track_type(number_in(in, type)) : "-");
         show_field(in, last_child(in, row, TRACK_NAME, UZ_UTF8));
         putchar('\n');
     }
@@ -46,7 +39,7 @@ void json_tracks(const part *in) {
         if (type == NO_ROW)
             json_null("kind");
         else
-            json_word("kind", type_name(number_in(in, type)));
+            json_word("kind", track_type(number_in(in, type)));
         json_field("name", in, last_child(in, row, TRACK_NAME, UZ_UTF8));
         json_field("language", in, language_of(in, row, TRACK_LANGUAGE_IETF, TRACK_LANGUAGE));
         json_field("codec", in, last_child(in, row, CODEC_ID, UZ_STRING));

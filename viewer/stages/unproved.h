@@ -1,7 +1,7 @@
 // What the viewer works out itself because the C face has no call for it yet: the children of a
-// row, the number in a row, a chapter's first display, a header, and the walk over the segment's
-// children. None of this is proved. The reader has a proved form of each, and this file goes when
-// the C face has it too.
+// row, the number in a row, a chapter's first display, a tag's value, a track's type, a header, the
+// walk over the segment's children, and the entries of seek heads. None of this is proved. The
+// reader has a proved form of each, and this file goes when the C face has it too.
 #ifndef UNPROVED_H
 #define UNPROVED_H
 
@@ -42,6 +42,9 @@ bool flag_in(const part *in, uint64_t row, bool unset);
 // The string of a chapter's first display that has one, from row `from` on, and the display itself.
 uint64_t next_string(const part *in, uint64_t atom, uint64_t from, uint64_t *display);
 
+// The word for a track's type; "unknown" for a number that is none.
+const char *track_type(uint64_t type);
+
 // A header of the recording: its id and size, and where its payload begins. `unknown`: the size is
 // all ones.
 typedef struct {
@@ -61,5 +64,25 @@ bool find_segment(const recording *from, header *segment);
 // Steps over the segment's children. Begin with `child` all zeros. False at the segment's end, at a
 // header that can't be read, and behind a child of unknown size.
 bool next_in_segment(const recording *from, const header *segment, header *child);
+
+// An entry of a seek head: the address of its header, the id that it names, and its position in so
+// many bytes.
+typedef struct {
+    uint64_t at;
+    uint64_t id;
+    uint64_t position;
+    uint64_t width;
+} seek_entry;
+
+// Reads a head into rows and looks for an address in it. The rows of `to` are those of the head.
+uz_place read_head(const recording *from, const header *head, uint64_t address, part *to);
+
+// The entry in a Seek, by its row in a head.
+seek_entry entry_in(const part *head, uint64_t seek);
+
+// The entry for an id that counts: the last in the seek heads that the search reads, which are the
+// first in the segment and those that are linked from it. False if there is none, or if the search
+// meets an element of that id before any head.
+bool find_entry(const recording *from, const header *segment, uint64_t id, seek_entry *to);
 
 #endif
