@@ -14,7 +14,7 @@ use Rattle.elements.proofs.Forests.{length-rows}
 use Rattle.elements.proofs.Standing.{read-stands}
 use Rattle.elements.proofs.Readback.{accepted-read}
 
-nth-before : (rs ss : List Row) (k : ℕ) → k < length rs → nth (rs ++ ss) k ≡ nth rs k
+pub nth-before : (rs ss : List Row) (k : ℕ) → k < length rs → nth (rs ++ ss) k ≡ nth rs k
 unfolding nth
 nth-before [] ss k l = absurd (omega arith)
 nth-before (r ∷ rs) ss zero l = refl
@@ -42,11 +42,11 @@ module _ (parent : ℕ) where
       let m = length-append before more in
       among p (omega arith) a (b ∙ ap (λ (r : Row). suc (r .depth)) e) (c ∙ ap (λ (r : Row). r .id) e)
 
-  under : (before : List Row) (row depth id at : ℕ) (e : Element) → e .kind ≡ kindUnder id (e .header .id)
-      → Parent parent before row depth id → Under parent before (rowOf e row depth at)
-  under before row depth id at e k (caller a b c) =
+  under : (before : List Row) (row depth id at after : ℕ) (e : Element) → e .kind ≡ kindUnder id (e .header .id)
+      → Parent parent before row depth id → Under parent before (rowOf e row depth at after)
+  under before row depth id at after e k (caller a b c) =
       direct a b (ap numberOf k ∙ ap (λ (i : ℕ). numberOf (kindUnder i (e .header .id))) c)
-  under before row depth id at e k (among p l a b c) =
+  under before row depth id at after e k (among p l a b c) =
       below p l a b (ap numberOf k ∙ ap (λ (i : ℕ). numberOf (kindUnder i (e .header .id))) c)
 
   family-append : (before rs ss : List Row) → Family parent before rs → Family parent (before ++ rs) ss
@@ -62,7 +62,7 @@ module _ (parent : ℕ) where
   unfolding Family rows Stands
   family s before id row depth at n none l p i = tt
   family s before id row depth at n (node e kids rest) l p i =
-      let r = rowOf e row depth at in
+      let r = rowOf e row depth at (n + 1 + count kids) in
       let with-row = before ++ (r ∷ []) in
       let seam : nth with-row n ≡ r = ap (nth with-row) (sym l) ∙ nth-seam before r [] in
       let m : length with-row ≡ n + 1 = length-append before (r ∷ []) ∙ (omega arith) in
@@ -73,7 +73,7 @@ module _ (parent : ℕ) where
       = among n (omega arith) (omega arith)
       (sym (ap (λ (x : Row). suc (x .depth)) seam ∙ (omega arith)))
       (sym (ap (λ (x : Row). x .id) seam)) in (
-        under before row depth id at e (i .0 .kind) p,
+        under before row depth id at (n + 1 + count kids) e (i .0 .kind) p,
         family-append with-row inner _
             (family s with-row (e .header .id) (n + 1) (depth + 1) (at + e .header .length) (n + 1) kids m here (i .1))
             (family s (with-row ++ inner) id row depth (at + whole e) (n + 1 + count kids) rest u

@@ -52,7 +52,8 @@ length-rows parent depth at n (node e kids rest) =
 -- The rows of an element alone: its own, and then its children's.
 pub rows-node : (parent depth at n : ℕ) (e : Element) (kids : Forest)
     → rows parent depth at n (node e kids none)
-    ≡ (rowOf e parent depth at ∷ []) ++ rows (n + 1) (depth + 1) (at + e .header .length) (n + 1) kids
+    ≡ (rowOf e parent depth at (n + 1 + count kids) ∷ [])
+    ++ rows (n + 1) (depth + 1) (at + e .header .length) (n + 1) kids
 unfolding rows
 rows-node parent depth at n e kids = rw (append-nil (rows (n + 1) (depth + 1) (at + e .header .length) (n + 1) kids))
 

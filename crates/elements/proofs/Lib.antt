@@ -19,4 +19,5 @@ pub mod Family
 pub mod Lossless
 pub mod Cases
 pub mod Useless
+pub mod Jumps
 pub mod Depths

@@ -33,7 +33,7 @@ module _ (s : List ℕ) (start numbers : ℕ) where
   -- What arguments that are allowed keep to.
   pub record Within : Type 0 where
     pub bytes : length s ≤ mostBytes
-    pub sevens : numbers % width ≡ 0
+    pub multiple : numbers % width ≡ 0
     pub few : numbers ≤ mostRows * width
     pub inside : start ≤ length s
 
@@ -47,7 +47,7 @@ module _ (s : List ℕ) (start numbers : ℕ) where
           → (a && ((b && c) && d)) ≡ true → Within
       go true e true f true g true h w = record {
         bytes = leb-true _ _ e;
-        sevens = eqb-true _ _ f;
+        multiple = eqb-true _ _ f;
         few = leb-true _ _ g;
         inside = leb-true _ _ h;
       }

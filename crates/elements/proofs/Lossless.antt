@@ -62,11 +62,11 @@ module _ (s s′ : List ℕ) (o : Octets s) (o′ : Octets s′) where
       header-determined s s′ o o′ at at h (record { at = at + h .length }) (record { at = at + h .length })
       (header-there s at h q) r
 
-  same-payload : (id parent depth at n : ℕ) (e : Element) (kids : Forest) → StandsAt s id at e kids
-      → SameLeaf s s′ (rowOf e parent depth at)
+  same-payload : (id parent depth at after : ℕ) (e : Element) (kids : Forest) → StandsAt s id at e kids
+      → SameLeaf s s′ (rowOf e parent depth at after)
       → part s (at + e .header .length) (span kids) ≡ part s′ (at + e .header .length) (span kids)
       → part s (at + e .header .length) (e .header .size) ≡ part s′ (at + e .header .length) (e .header .size)
-  same-payload id parent depth at n e kids i leaf k = go (eqb (numberOf (e .kind)) 1) refl
+  same-payload id parent depth at after e kids i leaf k = go (eqb (numberOf (e .kind)) 1) refl
     where
       go : (b : Bool) → eqb (numberOf (e .kind)) 1 ≡ b
           → part s (at + e .header .length) (e .header .size) ≡ part s′ (at + e .header .length) (e .header .size)
@@ -85,7 +85,7 @@ module _ (s s′ : List ℕ) (o : Octets s) (o′ : Octets s′) where
       let head = same-header at (e .header) (i .0 .head) (a .0 .head) in
       let k = same-span (e .header .id) (n + 1) (depth + 1) (at + h) (n + 1) kids (i .1)
       (each-left (Sound s′) inner others (a .1)) (each-left (SameLeaf s s′) inner others (b .1)) in
-      let p = same-payload id parent depth at n e kids (i .0) (b .0) k in
+      let p = same-payload id parent depth at (n + 1 + count kids) e kids (i .0) (b .0) k in
       let r = same-span id parent depth (at + whole e) (n + 1 + count kids) rest (i .2)
       (each-right (Sound s′) inner others (a .1)) (each-right (SameLeaf s s′) inner others (b .1)) in
       same-join s s′ at (whole e) (span rest) (same-join s s′ at h (e .header .size) head p) r

@@ -11,7 +11,7 @@ use lib.Dec.{ltb, leb, eqb}
 use borrow.Author.Tests.{leb-true, leb-false, ltb-true, ltb-false, le-leb, lt-leb, le-ltb, lt-ltb, eq-eqb, ne-eqb}
 use borrow.Author.Tests.{eqb-true, eqb-false}
 use Rattle.kinds.specs.Kinds.{numberOf}
-use Rattle.elements.specs.Forest.{Element, Forest, none, node, whole, span}
+use Rattle.elements.specs.Forest.{Element, Forest, none, node, whole, span, count}
 use Rattle.elements.specs.Reading.{done}
 use Rattle.elements.specs.Rows.{rowOf, rows, rowsOf}
 use Rattle.elements.specs.Stands.{IsMaster, Stands}
@@ -63,9 +63,10 @@ unfolding holders
 holders-append [] ss x = sym (zero-add (holders ss x))
 holders-append (r ∷ rs) ss x = let h = holders-append rs ss x in omega arith
 
-module _ (parent depth at x : ℕ) (e : Element) where
+module _ (parent depth at after x : ℕ) (e : Element) where
   abbrev row-holds : ℕ
-  row-holds = one (inHeader (rowOf e parent depth at) x) + one (inLeaf (rowOf e parent depth at) x)
+  row-holds =
+      one (inHeader (rowOf e parent depth at after) x) + one (inLeaf (rowOf e parent depth at after) x)
 
   leaf-holds : (IsMaster e → ⊥) → row-holds ≡ one (within at (whole e) x)
   leaf-holds m = rw (ne-eqb (numberOf (e .kind)) 1 m) (span-join at (e .header .length) (e .header .size) x)
@@ -93,14 +94,14 @@ covers s id parent depth at n (node e kids rest) i x =
         → one (within at (whole e) x) + one (within (at + whole e) (span rest) x)
         ≡ one (within at (whole e + span rest) x)
         → both ≡ inner + others
-        → row-holds parent depth at x e + both ≡ one (within at (whole e + span rest) x)
+        → row-holds parent depth at (n + 1 + count kids) x e + both ≡ one (within at (whole e + span rest) x)
     go true m k r j a =
-        let w = master-holds parent depth at x e (eqb-true _ _ m) in
+        let w = master-holds parent depth at (n + 1 + count kids) x e (eqb-true _ _ m) in
         let v = ap (λ (z : ℕ). one (within (at + e .header .length) z x)) (i .0 .taken (eqb-true _ _ m)) in
         let u = span-join at (e .header .length) (e .header .size) x in
         omega arith
     go false m k r j a =
-        let w = leaf-holds parent depth at x e (eqb-false _ _ m) in
+        let w = leaf-holds parent depth at (n + 1 + count kids) x e (eqb-false _ _ m) in
         let c = i .0 .childless (eqb-false _ _ m) in
         let v = ap (λ (f : Forest). one (within (at + e .header .length) (span f) x)) c in
         let u = span-none (at + e .header .length) x in

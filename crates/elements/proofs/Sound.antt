@@ -16,7 +16,7 @@ use Rattle.kinds.specs.Kinds.{numberOf}
 use Rattle.kinds.specs.declared.kind.Kind.{Kind}
 use Rattle.kinds.proofs.Numbers.{kind-back}
 use Rattle.bodies.specs.Bodies.{bodyOf}
-use Rattle.elements.specs.Forest.{Element, Forest, none, node, whole}
+use Rattle.elements.specs.Forest.{Element, Forest, none, node, whole, count}
 use Rattle.elements.specs.Rows.{rowOf, rows}
 use Rattle.elements.specs.Stands.{IsValue, StandsAt, Stands}
 use Rattle.elements.specs.Theorems.{Each, Sound, RowsSound, ReadsATree}
@@ -42,9 +42,9 @@ module _ (s : List ℕ) where
   unfolding headerAt headerRead
   header-there at h q = rw q
 
-  row-sound : (id parent depth at : ℕ) (e : Element) (kids : Forest) → StandsAt s id at e kids
-      → at + whole e ≤ length s → Sound s (rowOf e parent depth at)
-  row-sound id parent depth at e kids i l = record {
+  row-sound : (id parent depth at after : ℕ) (e : Element) (kids : Forest) → StandsAt s id at e kids
+      → at + whole e ≤ length s → Sound s (rowOf e parent depth at after)
+  row-sound id parent depth at after e kids i l = record {
     head = header-there at (e .header) (i .head);
     inside = omega arith;
     value = λ leaf.
@@ -59,7 +59,7 @@ module _ (s : List ℕ) where
   rows-sound-of id parent depth at n none i = tt
   rows-sound-of id parent depth at n (node e kids rest) i =
       let l = stands-inside s id (at + whole e) rest (i .2) in (
-        row-sound id parent depth at e kids (i .0) (omega arith),
+        row-sound id parent depth at (n + 1 + count kids) e kids (i .0) (omega arith),
         each-append (Sound s) (rows (n + 1) (depth + 1) (at + e .header .length) (n + 1) kids) _
             (rows-sound-of (e .header .id) (n + 1) (depth + 1) (at + e .header .length) (n + 1) kids (i .1))
             (rows-sound-of id parent depth (at + whole e) _ rest (i .2)),

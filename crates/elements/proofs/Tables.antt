@@ -6,18 +6,32 @@ use mathlib.Core.Bool.{Bool, true, false, cond, not}
 use native.Mathlib.Nat.{add-zero, add-suc, suc-add, sub-zero}
 use native.Mathlib.Omega.{arith}
 use lib.ListN.{length, getD, drop, set, drop-of-length-le}
-use lib.Seq.{sets, length-sets, drop-nil, getD-drop}
+use lib.Seq.{sets, length-sets, drop-nil, getD-drop, set-comm, set-set}
 use borrow.Author.Tests.{leb-false, le-leb, lt-leb}
+use Rattle.kinds.specs.Kinds.{numberOf}
 use Rattle.elements.specs.Reading.{full}
-use Rattle.elements.specs.Rows.{width, flat, flatten, firstRow, rowAt}
+use Rattle.elements.specs.Forest.{Element}
+use Rattle.elements.specs.Rows.{rowOf, width, afterColumn, flat, flatten, firstRow, rowAt}
 use Rattle.elements.specs.Promise.{zeros}
-use Rattle.elements.specs.Contract.{written, Room}
+use Rattle.elements.specs.Contract.{written, closed, Room}
 use Rattle.elements.specs.declared.row.Row.{Row}
 use Rattle.elements.specs.declared.row.Mode.{Mode}
 
 sets-append : (xs ys t : List ℕ) (i : ℕ) → sets t i (xs ++ ys) ≡ sets (sets t i xs) (i + length xs) ys
 sets-append [] ys t i = rw add-zero
 sets-append (x ∷ xs) ys t i = sets-append xs ys (set t i x) (suc i) ∙ simp (add-suc, suc-add)
+
+-- A number stored before the numbers that were written, and one among them that is stored anew.
+set-sets : (vs t : List ℕ) (i j y : ℕ) → j < i → set (sets t i vs) j y ≡ sets (set t j y) i vs
+set-sets [] t i j y l = refl
+set-sets (v ∷ vs) t i j y l =
+    let ne : i ≡ j → ⊥ = λ z. omega arith in
+    set-sets vs (set t i v) (suc i) j y (omega arith) ∙ ap (λ (x : List ℕ). sets x (suc i) vs) (set-comm t i j v y ne)
+
+patched : (xs ys t : List ℕ) (i x y : ℕ)
+    → set (sets t i (xs ++ (x ∷ ys))) (i + length xs) y ≡ sets t i (xs ++ (y ∷ ys))
+patched [] ys t i x y = rw (add-zero i) (set-sets ys (set t i x) (suc i) i y (omega arith) ∙ rw (set-set t i x y))
+patched (v ∷ xs) ys t i x y = simp (add-suc, ← suc-add) (patched xs ys (set t i v) (suc i) x y)
 
 pub length-flatten : (rs : List Row) → length (flatten rs) ≡ length rs * width
 unfolding flatten flat
@@ -77,6 +91,27 @@ module _ (mode : Mode) (t : List ℕ) (n : ℕ) where
   pub written-one : (r : Row) → mode .keep ≡ true → written mode t n (r ∷ []) ≡ sets t (n * width) (flat r)
   unfolding written flatten flat
   written-one r k = rw k
+
+  -- A row's last number, stored when the rows behind it are written.
+  pub closed-row : (e : Element) (parent depth at x after : ℕ) (rs : List Row)
+      → closed mode (written mode t n (rowOf e parent depth at x ∷ rs)) n after
+      ≡ written mode t n (rowOf e parent depth at after ∷ rs)
+  unfolding closed written flatten flat
+  closed-row e parent depth at x after rs = go (mode .keep)
+    where
+      all : ℕ → List ℕ
+      all y = flatten (rowOf e parent depth at y ∷ rs)
+
+      first : List ℕ
+      first =
+          e .header .id ∷ parent ∷ at ∷ e .header .length ∷ e .header .size ∷ numberOf (e .kind) ∷ depth ∷ []
+
+      go : (b : Bool)
+          → cond b (set (cond b (sets t (n * width) (all x)) t) (n * width + afterColumn) after)
+          (cond b (sets t (n * width) (all x)) t)
+          ≡ cond b (sets t (n * width) (all after)) t
+      go true = patched first (flatten rs) t (n * width) x after
+      go false = refl
 
   pub written-unkept : (rs : List Row) → mode .keep ≡ false → written mode t n rs ≡ t
   unfolding written
@@ -149,9 +184,10 @@ pub row-there : (t : List ℕ) (k : ℕ)
       payload = getD t (k * width + 4) 0;
       kind = getD t (k * width + 5) 0;
       depth = getD t (k * width + 6) 0;
+      after = getD t (k * width + afterColumn) 0;
     } ≡ rowAt t k
 unfolding rowAt firstRow
 row-there t k =
     let g : (i : ℕ) → getD (drop (k * width) t) i 0 ≡ getD t (k * width + i) 0 = λ i. getD-drop (k * width) t i 0 in
     let z : k * width + 0 ≡ k * width = omega arith in
-    rw (g 0, g 1, g 2, g 3, g 4, g 5, g 6, z)
+    rw (g 0, g 1, g 2, g 3, g 4, g 5, g 6, g afterColumn, z)

@@ -28,8 +28,8 @@ use Rattle.elements.proofs.Readback.{accepted-read}
 unfoldable computed : Type 0
 computed =
     (replyOf (readOf trackEntry 0 2 0 (2 * width)) ≡ accepted (1 ∷ []))
-    × (tableOf 0 (2 * width) (readOf trackEntry 0 2 0 (2 * width)) ≡ 0xAE ∷ 0 ∷ 0 ∷ 2 ∷ 0 ∷ 1 ∷ 0 ∷ zeros width)
-    × (tableOf 0 (2 * width) (readOf blockGroup 0 2 0 (2 * width)) ≡ 0xA0 ∷ 0 ∷ 0 ∷ 2 ∷ 0 ∷ 1 ∷ 0 ∷ zeros width)
+    × (tableOf 0 (2 * width) (readOf trackEntry 0 2 0 (2 * width)) ≡ 0xAE ∷ 0 ∷ 0 ∷ 2 ∷ 0 ∷ 1 ∷ 0 ∷ 1 ∷ zeros width)
+    × (tableOf 0 (2 * width) (readOf blockGroup 0 2 0 (2 * width)) ≡ 0xA0 ∷ 0 ∷ 0 ∷ 2 ∷ 0 ∷ 1 ∷ 0 ∷ 1 ∷ zeros width)
 
 both-read : computed
 unfolding computed octetBits bits oneMore widthOf bigEndianFrom bigEndian ofWidth vintOf sized named headerOf
@@ -37,16 +37,16 @@ unfolding computed octetBits bits oneMore widthOf bigEndianFrom bigEndian ofWidt
     isTable allowed filled readOf tableOf
 both-read = (refl, refl, refl)
 
-one-row : (r : ReadReply) → told r ≡ accepted (1 ∷ []) → r ≡ Rows 1
-one-row (Rows n) q = cc
-one-row (Refused e) q = let z : _≡_ {A = ℕ} 0 1 = cc in absurd (omega arith)
+pub rows-told : (r : ReadReply) (n : ℕ) → told r ≡ accepted (n ∷ []) → r ≡ Rows n
+rows-told (Rows m) n q = cc
+rows-told (Refused e) n q = let z : _≡_ {A = ℕ} 0 1 = cc in absurd (omega arith)
 
 pub not-all-refused : NotAllRefused
 unfolding computed
 not-all-refused t r t′ l p =
     let a = ap (λ (n : ℕ). replyOf (readOf trackEntry 0 2 0 n)) l in
     let b = ap (λ (n : ℕ). tableOf 0 n (readOf trackEntry 0 2 0 n)) l in
-    (one-row r (p .reply ∙ a ∙ both-read .0), p .table ∙ b ∙ both-read .1)
+    (rows-told r 1 (p .reply ∙ a ∙ both-read .0), p .table ∙ b ∙ both-read .1)
 
 pub not-one-table : NotOneTable
 unfolding computed

@@ -1,6 +1,6 @@
 -- Document 01's cases that are to be proved, as one table (Cases, P1 to P12): what is asked of the bytes, and the
 -- reply.
-use Prim.Native.Nat.{ℕ, _^_, _-_}
+use Prim.Native.Nat.{ℕ, _^_, _-_, _*_}
 use mathlib.Core.Path.{_≡_}
 use mathlib.Core.List.{List, [], _∷_}
 use lib.IntN.{pos, negsuc}
@@ -9,6 +9,7 @@ use Rattle.header.specs.Reply.{Reply, accepted, refusal}
 use Rattle.header.specs.Promise.{headerReply}
 use Rattle.bodies.specs.Bodies.{Told, integer, refusal as refusedBody, refuses}
 use Rattle.bodies.specs.Promise.{bodyReply}
+use Rattle.elements.specs.Rows.{width}
 use Rattle.elements.specs.Promise.{readOf, replyOf, zeros, tableOf}
 
 -- Each case has the number behind its P.
@@ -22,7 +23,7 @@ pub data Case : Type 0 where
 
 -- Two rows.
 abbrev pub numbers : ℕ
-numbers = 14
+numbers = 2 * width
 
 abbrev pub cases : List Case
 cases =
@@ -46,7 +47,7 @@ cases =
     ∷ read 11 (0x67 ∷ 0xC8 ∷ 0x84 ∷ 0x45 ∷ 0xA3 ∷ 0x82 ∷ 0x41 ∷ 0x42 ∷ []) 7 0 (refusal 3 0) (zeros numbers)
     ∷ read 11 (0x67 ∷ 0xC8 ∷ 0x84 ∷ 0x45 ∷ 0xA3 ∷ 0x82 ∷ 0x41 ∷ []) 7 0 (refusal 1 0) (zeros numbers)
     ∷ read 12 (0x16 ∷ 0x54 ∷ 0xAE ∷ 0x6B ∷ 0x82 ∷ 0xE0 ∷ 0x80 ∷ []) 7 0x18538067 (accepted (2 ∷ []))
-    (0x1654AE6B ∷ 0 ∷ 0 ∷ 5 ∷ 2 ∷ 1 ∷ 0 ∷ 0xE0 ∷ 1 ∷ 5 ∷ 2 ∷ 0 ∷ 6 ∷ 1 ∷ [])
+    (0x1654AE6B ∷ 0 ∷ 0 ∷ 5 ∷ 2 ∷ 1 ∷ 0 ∷ 2 ∷ 0xE0 ∷ 1 ∷ 5 ∷ 2 ∷ 0 ∷ 6 ∷ 1 ∷ 2 ∷ [])
     ∷ []
 
 -- The body behind a header that was read at 0.

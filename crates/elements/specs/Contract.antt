@@ -3,7 +3,7 @@ use Prim.Native.Nat.{ℕ, _+_, _-_, _*_, _/_, _≤_}
 use mathlib.Core.Path.{_≡_}
 use mathlib.Core.List.{List}
 use mathlib.Core.Bool.{true, cond}
-use lib.ListN.{length}
+use lib.ListN.{length, set}
 use lib.Seq.{sets}
 use Rattle.header.specs.Promise.{mostBytes}
 use Rattle.header.specs.declared.cursor.Cursor.{Cursor}
@@ -11,7 +11,7 @@ use Rattle.kinds.specs.Elements.{elements}
 use Rattle.kinds.specs.Entries.{entries}
 use Rattle.elements.specs.Forest.{Forest, span, count}
 use Rattle.elements.specs.Reading.{Outcome, done, refused, depths, element, masterBody}
-use Rattle.elements.specs.Rows.{rows, width, flatten}
+use Rattle.elements.specs.Rows.{rows, width, afterColumn, flatten}
 use Rattle.elements.specs.declared.row.Row.{Row}
 use Rattle.elements.specs.declared.row.Mode.{Mode}
 use Rattle.elements.specs.declared.element.Above.{Above}
@@ -26,6 +26,11 @@ stepOf at n (refused e) = Refused e
 -- The table t with those rows from row n on, where rows are kept.
 unfoldable pub written : Mode → List ℕ → ℕ → List Row → List ℕ
 written mode t n rs = cond (mode .keep) (sets t (n * width) (flatten rs)) t
+
+-- The table t with the last number of row n set, where rows are kept: what is known of a master once its children are
+-- read.
+unfoldable pub closed : Mode → List ℕ → ℕ → ℕ → List ℕ
+closed mode t n after = cond (mode .keep) (set t (n * width + afterColumn) after) t
 
 -- Rows are kept only up to the table's end.
 abbrev pub Room : Mode → List ℕ → ℕ → Type 0

@@ -9,3 +9,4 @@ pub mod Contract
 pub mod Theorems
 pub mod Cases
 pub mod Useless
+pub mod Jumps

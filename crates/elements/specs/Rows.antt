@@ -6,9 +6,10 @@ use Rattle.kinds.specs.Kinds.{numberOf}
 use Rattle.elements.specs.Forest.{Element, Forest, none, node, whole, count}
 use Rattle.elements.specs.declared.row.Row.{Row}
 
--- The row of an element at an address: under row number plus 1 of its parent (0 for none), at a depth.
-abbrev pub rowOf : Element → ℕ → ℕ → ℕ → Row
-rowOf e parent depth at =
+-- The row of an element at an address: under row number plus 1 of its parent (0 for none), at a depth; `after` is the
+-- first row behind it that is no descendant of it.
+abbrev pub rowOf : Element → ℕ → ℕ → ℕ → ℕ → Row
+rowOf e parent depth at after =
     record {
       id = e .header .id;
       parent = parent;
@@ -17,23 +18,28 @@ rowOf e parent depth at =
       payload = e .header .size;
       kind = numberOf (e .kind);
       depth = depth;
+      after = after;
     }
 
 -- The rows of elements that begin at an address, the first of them row n.
 unfoldable pub rows : ℕ → ℕ → ℕ → ℕ → Forest → List Row
 rows parent depth at n none = []
 rows parent depth at n (node e kids rest) =
-    rowOf e parent depth at
+    rowOf e parent depth at (n + 1 + count kids)
     ∷ (rows (n + 1) (depth + 1) (at + e .header .length) (n + 1) kids
     ++ rows parent depth (at + whole e) (n + 1 + count kids) rest)
 
 -- How many numbers a row has.
 abbrev pub width : ℕ
-width = 7
+width = 8
+
+-- Which of a row's numbers is `after`, counted from 0.
+abbrev pub afterColumn : ℕ
+afterColumn = 7
 
 -- A row's numbers, in their order.
 unfoldable pub flat : Row → List ℕ
-flat r = r .id ∷ r .parent ∷ r .address ∷ r .header ∷ r .payload ∷ r .kind ∷ r .depth ∷ []
+flat r = r .id ∷ r .parent ∷ r .address ∷ r .header ∷ r .payload ∷ r .kind ∷ r .depth ∷ r .after ∷ []
 
 unfoldable pub flatten : List Row → List ℕ
 flatten [] = []
@@ -50,6 +56,7 @@ firstRow t =
       payload = getD t 4 0;
       kind = getD t 5 0;
       depth = getD t 6 0;
+      after = getD t afterColumn 0;
     }
 
 -- Row k of a table.

@@ -79,7 +79,7 @@ ReadsATree =
 
 -- The row of a place in a list; a row of zeros past its end.
 unfoldable pub nth : List Row → ℕ → Row
-nth [] k = record { id = 0; parent = 0; address = 0; header = 0; payload = 0; kind = 0; depth = 0 }
+nth [] k = record { id = 0; parent = 0; address = 0; header = 0; payload = 0; kind = 0; depth = 0; after = 0 }
 nth (r ∷ rs) zero = r
 nth (r ∷ rs) (suc k) = nth rs k
 

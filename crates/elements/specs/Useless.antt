@@ -22,7 +22,7 @@ blockGroup = 0xA0 ∷ 0x80 ∷ []
 abbrev pub NotAllRefused : Type 0
 NotAllRefused =
     (t : List ℕ) (r : ReadReply) (t′ : List ℕ) → length t ≡ 2 * width → ReadPromise trackEntry 0 2 0 t r t′
-    → (r ≡ Rows 1) × (t′ ≡ 0xAE ∷ 0 ∷ 0 ∷ 2 ∷ 0 ∷ 1 ∷ 0 ∷ zeros width)
+    → (r ≡ Rows 1) × (t′ ≡ 0xAE ∷ 0 ∷ 0 ∷ 2 ∷ 0 ∷ 1 ∷ 0 ∷ 1 ∷ zeros width)
 
 -- Not one that gives the same table for all bytes: these two payloads have no leaf, so that no leaf bytes could tell
 -- them apart. Where two rows are lent, no table at exit is permitted for both.

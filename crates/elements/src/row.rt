@@ -2,15 +2,18 @@
 ghost use mathlib.Core.Path.{_≡_};
 ghost use mathlib.Core.Bool.{true, not};
 ghost use mathlib.Core.List.{[], _∷_};
-ghost use Prim.Native.Nat.{_*_, _/_, _<_};
+ghost use Prim.Native.Nat.{_+_, _*_, _/_, _<_};
 ghost use lib.ListN.{length};
 ghost use lib.Seq.{sets};
 ghost use Rattle.elements.specs.Reading.{full};
 ghost use Rattle.elements.specs.Rows.{width, flat, rowAt};
-ghost use Rattle.elements.specs.Contract.{written};
+ghost use Rattle.elements.specs.Contract.{written, closed, Room};
 
 // How many numbers a row has.
-pub const WIDTH: usize = 7;
+pub const WIDTH: usize = 8;
+
+// Which of a row's numbers is `after`, counted from 0.
+const AFTER: usize = 7;
 
 // The most rows of a table.
 pub const MOST_ROWS: usize = 4096;
@@ -31,6 +34,8 @@ pub struct Row {
     // 1 to 8 in document 01's order; 1 is a master.
     pub kind: u64,
     pub depth: u64,
+    // The first row behind this one that is no descendant of it; the row count where there is none.
+    pub after: u64,
 }
 
 // How elements are read: with rows, or without.
@@ -50,6 +55,7 @@ fn put_row(table: &mut [u64], n: usize, row: Row)
     table[first + 4] = row.payload;
     table[first + 5] = row.kind;
     table[first + 6] = row.depth;
+    table[first + AFTER] = row.after;
 }
 
 // Keeps a row as row n where rows are kept. Answers false where none is free.
@@ -67,6 +73,17 @@ pub fn keep_row(table: &mut [u64], mode: Mode, n: usize, row: Row) -> bool
     true
 }
 
+// Sets row n's `after` where rows are kept: a master's is known once its children are read.
+pub fn close_row(table: &mut [u64], mode: Mode, n: usize, after: usize)
+    requires { ⌜ Room mode (now table) (n + 1) ⌝ }
+    ensures { λ _. ⌜ now (table .exit) ≡ closed mode (now (table .entry)) n after ⌝ }
+{
+    if mode.keep {
+        let last = n * WIDTH + AFTER;
+        table[last] = after as u64;
+    }
+}
+
 // Row n of a table.
 pub fn row_at(table: &[u64], n: usize) -> Row
     requires { ⌜ n < length (now table) / width ⌝ }
@@ -81,5 +98,6 @@ pub fn row_at(table: &[u64], n: usize) -> Row
         payload: table[first + 4],
         kind: table[first + 5],
         depth: table[first + 6],
+        after: table[first + AFTER],
     }
 }

@@ -1,33 +1,27 @@
 -- All direct children of a master stand among the rows below it (`SubtreeIsEnough`). Assumes nothing.
 use Prim.Native.Nat.{ℕ, zero, suc, _+_, _≤_, _<_}
-use mathlib.Core.Path.{_≡_, refl, sym, ap, _∙_}
+use mathlib.Core.Path.{_≡_, refl, sym, ap, _∙_, subst}
 use mathlib.Core.List.{List, [], _∷_, _++_, append-assoc}
 use mathlib.Core.Bool.{Bool, true, false, cond}
 use native.Mathlib.Omega.{arith}
 use native.Mathlib.Nat.{add-zero}
 use lib.ListN.{length, drop, length-append}
 use lib.Dec.{ltb}
-use borrow.Author.Tests.{lt-ltb, le-ltb, ltb-true, ltb-false}
+use borrow.Author.Tests.{lt-ltb, le-ltb}
 use Rattle.kinds.specs.declared.kind.Kind.{Kind}
 use Rattle.elements.specs.Forest.{Element, Forest, none, node, whole, count}
-use Rattle.elements.specs.Rows.{rowOf, rows}
-use Rattle.elements.specs.Theorems.{Each}
+use Rattle.elements.specs.Rows.{rowOf, rows, rowsOf}
+use Rattle.elements.specs.Theorems.{nth, Each}
 use Rattle.elements.specs.declared.row.Row.{Row}
 use Rattle.elements.proofs.Family.{nth-seam}
 use Rattle.elements.proofs.Forests.{length-rows}
+use Rattle.elements.proofs.Jumps.{jumps-over}
 use Rattle.elements.proofs.Sound.{each-append, reads-a-tree}
 use Rattle.fields.specs.Children.{deeper, subtree, fits, childrenFrom, children}
-use Rattle.fields.specs.Theorems.{SubtreeIsEnough}
+use Rattle.fields.specs.Theorems.{SubtreeIsEnough, AllJumpAfterRead}
 use Rattle.fields.specs.declared.child.Child.{Child}
 use Rattle.fields.specs.declared.child.Child.the-variants.{At}
-use Rattle.fields.proofs.Rest.{other-parent}
-
-either : {A : Type 0} (a b : ℕ) → (a < b → A) → (b ≤ a → A) → A
-either {A = A} a b f g = go (ltb a b) refl
-  where
-    go : (c : Bool) → ltb a b ≡ c → A
-    go true e = f (ltb-true a b e)
-    go false e = g (ltb-false a b e)
+use Rattle.fields.proofs.Rest.{either, other-parent}
 
 -- ---- what holds of the rows of elements
 
@@ -105,6 +99,7 @@ record Parted (d n k : ℕ) (rs : List Row) : Type 0 where
   are : rs ≡ before ++ (master ∷ (inner ++ after))
   place : n + length before ≡ k
   floor : d ≤ master .depth
+  jump : master .after ≡ k + 1 + length inner
   others-before : Each (Other (suc k)) before
   other : Other (suc k) master
   others-after : Each (Other (suc k)) after
@@ -119,7 +114,7 @@ join-after before master inner after more =
 
 module _ (p d at n : ℕ) (e : Element) (kids rest : Forest) (low : p ≤ n) where
   abbrev own : Row
-  own = rowOf e p d at
+  own = rowOf e p d at (n + 1 + count kids)
 
   abbrev below : List Row
   below = rows (n + 1) (d + 1) (at + e .header .length) (n + 1) kids
@@ -137,6 +132,7 @@ module _ (p d at n : ℕ) (e : Element) (kids rest : Forest) (low : p ≤ n) whe
     are = refl;
     place = omega arith;
     floor = omega arith;
+    jump = omega (arith, length-rows (n + 1) (d + 1) (at + e .header .length) (n + 1) kids);
     others-before = tt;
     other = λ z. omega arith;
     others-after = rows-later (suc k) p d (at + whole e) (n + 1 + count kids) rest (λ z. omega arith) (omega arith);
@@ -157,6 +153,7 @@ module _ (p d at n : ℕ) (e : Element) (kids rest : Forest) (low : p ≤ n) whe
         ∙ ap (λ (y : List Row). own ∷ y) (join-after (i .before) (i .master) (i .inner) (i .after) behind);
     place = omega (arith, i .place);
     floor = omega (arith, i .floor);
+    jump = i .jump;
     others-before = ((λ z. omega arith), i .others-before);
     other = i .other;
     others-after =
@@ -184,6 +181,7 @@ module _ (p d at n : ℕ) (e : Element) (kids rest : Forest) (low : p ≤ n) whe
             ∙ ap (λ (y : List Row). own ∷ y) (sym (append-assoc below (i .before) _));
         place = omega (arith, i .place, c, m);
         floor = i .floor;
+        jump = i .jump;
         others-before = (
           (λ z. omega arith),
           each-append (Other (suc k)) below (i .before)
@@ -244,7 +242,7 @@ drop-seam : (rs : List Row) (r : Row) (ss : List Row) → drop (suc (length rs))
 drop-seam [] r ss = refl
 drop-seam (q ∷ rs) r ss = drop-seam rs r ss
 
-module _ (id : ℕ) (kind : Kind) (k : ℕ) (rs : List Row) (i : Parted 0 0 k rs) where
+module _ (k : ℕ) (rs : List Row) (i : Parted 0 0 k rs) where
   below-is : subtree rs (suc k) ≡ i .inner
   unfolding subtree
   below-is =
@@ -253,8 +251,8 @@ module _ (id : ℕ) (kind : Kind) (k : ℕ) (rs : List Row) (i : Parted 0 0 k rs
       rw (i .are, m, nth-seam (i .before) (i .master) tail, drop-seam (i .before) (i .master) tail)
       (deeper-just (i .master .depth) (i .inner) (i .after) (i .deep) (i .stop))
 
-  all-are : childrenFrom 0 (suc k) id kind rs ≡ children (suc k) id kind (i .inner)
-  all-are =
+  all-are : (id : ℕ) (kind : Kind) → childrenFrom 0 (suc k) id kind rs ≡ children (suc k) id kind (i .inner)
+  all-are id kind =
       let tail = i .inner ++ i .after in
       let m : 0 + length (i .before) + 1 ≡ suc k = omega (arith, i .place) in
       ap (childrenFrom 0 (suc k) id kind) (i .are)
@@ -270,10 +268,28 @@ unfolding subtree
 enough start f zero id kind l = refl
 enough start f (suc k) id kind l =
     let i = parted 0 0 start 0 f k (omega arith) (omega arith) (omega arith) in
-    ap (children (suc k) id kind) (below-is id kind k (rows 0 0 start 0 f) i)
-    ∙ sym (all-are id kind k (rows 0 0 start 0 f) i)
+    ap (children (suc k) id kind) (below-is k (rows 0 0 start 0 f) i)
+    ∙ sym (all-are k (rows 0 0 start 0 f) i id kind)
 
 pub subtree-is-enough : SubtreeIsEnough
 subtree-is-enough s start size under t n t′ p parent id kind l =
     let a = reads-a-tree s start size under t n t′ p in
     rw (a .preorder) (enough start (a .forest) parent id kind (omega (arith, a .number)))
+
+-- ---- each row jumps over the rows below it
+
+pub all-jump : AllJumpAfterRead
+all-jump s start size under t n t′ p k l =
+    let a = reads-a-tree s start size under t n t′ p in
+    let c = length-rows 0 0 start 0 (a .forest) in
+    let i = subst (Parted 0 0 k) (sym (a .preorder))
+    (parted 0 0 start 0 (a .forest) k (omega arith) (omega arith) (omega (arith, a .number))) in
+    let m : k ≡ length (i .before) = omega (arith, i .place) in
+    let r : nth (rowsOf t′ n) k ≡ i .master
+    = ap (λ (x : List Row). nth x k) (i .are) ∙ ap (nth (i .before ++ (i .master ∷ (i .inner ++ i .after)))) m
+    ∙ nth-seam (i .before) (i .master) (i .inner ++ i .after) in
+    let b = below-is k (rowsOf t′ n) i in
+    record {
+      jump = jumps-over s start size under t n t′ p .1 k l;
+      below = ap (λ (x : Row). x .after) r ∙ (omega (arith, i .jump, ap length b));
+    }

@@ -7,6 +7,7 @@ ghost use Rattle.rowtext.specs.Room.{lineRoom};
 ghost use Rattle.listing.specs.Listing.{partPlace, partLines, allParts, tableNumbers};
 ghost use Rattle.listing.specs.Room.{partRoom};
 ghost use Rattle.listing.specs.Promise.{ListingPromise};
+use elements::WIDTH;
 use kinds::ids;
 use pages::put;
 use pages::put_decimal;
@@ -19,7 +20,7 @@ use search::find_part;
 const MOST_LISTED: usize = 65536;
 
 // The numbers of the table that the parts are read into: 1,024 rows.
-const TABLE: usize = 7168;
+const TABLE: usize = 1024 * WIDTH;
 
 // How many bytes the page has: room for the longest listing.
 pub const PAGE: usize = 524928;

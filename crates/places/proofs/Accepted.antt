@@ -36,7 +36,7 @@ ranged s t k a l i =
 from-zero : (s : List ℕ) (start numbers : ℕ) → allowed s start numbers ≡ true → allowed s 0 numbers ≡ true
 from-zero s start numbers q =
     let w = within s start numbers q in
-    sym (by-start s 0 numbers (w .bytes) (w .sevens) (w .few)) ∙ le-leb 0 (length s) (omega arith)
+    sym (by-start s 0 numbers (w .bytes) (w .multiple) (w .few)) ∙ le-leb 0 (length s) (omega arith)
 
 was-allowed : (s : List ℕ) (start size parent numbers : ℕ) {f : Forest}
     → readOf s start size parent numbers ≡ done f

@@ -7,6 +7,7 @@ ghost use Rattle.lines.specs.Bounds.{Few};
 ghost use Rattle.questions.specs.Bounds.{InTable, Lent};
 use crate::table;
 use crate::table::Given;
+use crate::table::MOST_NUMBERS;
 use lines::words;
 use lines::words::Count;
 use lines::words::Named;
@@ -35,7 +36,7 @@ pub fn asked_of(
     line: &[u8],
     form: &[u8],
     recording: &mut [u8; 65536],
-    table: &mut [u64; 30000],
+    table: &mut [u64; MOST_NUMBERS],
 ) -> Asked
     ensures { λ r. ⌜ Lent r ⌝ }
 {
@@ -81,7 +82,7 @@ fn with_word(
     letter: u8,
     word: &[u8],
     recording: &mut [u8; 65536],
-    table: &mut [u64; 30000],
+    table: &mut [u64; MOST_NUMBERS],
 ) -> Asked
     requires { ⌜ Lent asked ⌝ }
     ensures { λ r. ⌜ Lent r ⌝ }

@@ -1,6 +1,7 @@
 // The table of a question: its numbers as the line gives them, and as the answer tells them.
 ghost use Prim.Native.Nat.{_+_, _*_, _≤_};
 ghost use lib.ListN.{length};
+ghost use Rattle.elements.specs.Rows.{width};
 ghost use Rattle.questions.specs.Bounds.{InTable};
 use crate::told::refused;
 use elements::WIDTH;
@@ -11,7 +12,7 @@ use lines::words;
 use lines::words::Count;
 
 // A question's table has at most so many numbers.
-const MOST: usize = 30_000;
+pub const MOST_NUMBERS: usize = 36_000;
 
 // How many numbers the table has, where the word tells it.
 pub enum Given {
@@ -20,13 +21,13 @@ pub enum Given {
 }
 
 // NUMBERS: so many numbers, each 2^64-1.
-pub fn filled(word: &[u8], table: &mut [u64; 30000]) -> Given
+pub fn filled(word: &[u8], table: &mut [u64; MOST_NUMBERS]) -> Given
     ensures { λ r. ⌜ InTable r ⌝ }
 {
     let Count::Is(count) = words::decimal(word) else {
         return Given::Bad;
     };
-    if (MOST as u64) < count {
+    if (MOST_NUMBERS as u64) < count {
         return Given::Bad;
     }
     let n = count as usize;
@@ -39,7 +40,7 @@ pub fn filled(word: &[u8], table: &mut [u64; 30000]) -> Given
 }
 
 // `N,N,..`: the numbers themselves, or `-` for none.
-pub fn listed(word: &[u8], table: &mut [u64; 30000]) -> Given
+pub fn listed(word: &[u8], table: &mut [u64; MOST_NUMBERS]) -> Given
     ensures { λ r. ⌜ InTable r ⌝ }
 {
     if words::same(word, b"-") {
@@ -47,7 +48,7 @@ pub fn listed(word: &[u8], table: &mut [u64; 30000]) -> Given
     }
     let mut n: usize = 0;
     let mut at: usize = 0;
-    while n < MOST {
+    while n < MOST_NUMBERS {
         let end = words::find(word, at, b',');
         let Count::Is(value) = words::decimal(&word[at..end]) else {
             return Given::Bad;
@@ -83,7 +84,7 @@ pub fn rest_told(rows: u64, table: &[u64], out: &mut [u8; 65536], held: usize) -
 
 // How many of the rows lie in the table.
 fn rows_within(rows: u64, table: &[u64]) -> usize
-    ensures { λ r. ⌜ 7 * r ≤ length (now (table .entry)) ⌝ }
+    ensures { λ r. ⌜ width * r ≤ length (now (table .entry)) ⌝ }
 {
     let room = table.len() / WIDTH;
     if rows < room as u64 {
@@ -92,9 +93,9 @@ fn rows_within(rows: u64, table: &[u64]) -> usize
     room
 }
 
-// ` / id parent address header payload kind depth`, the id in hexadecimal digits.
+// ` / id parent address header payload kind depth after`, the id in hexadecimal digits.
 fn row_told(table: &[u64], at: usize, out: &mut [u8; 65536], held: usize) -> usize
-    requires { ⌜ at + 7 ≤ length (now table) ⌝ }
+    requires { ⌜ at + width ≤ length (now table) ⌝ }
 {
     let mut now = numbers::put_hex(out, held, b" / ", table[at], 1);
     let mut k: usize = 1;

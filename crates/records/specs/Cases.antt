@@ -1,12 +1,13 @@
 -- Worked records: what a question is answered, beside the answer that is due. The crates of the parts have the tables.
-use Prim.Native.Nat.{ℕ}
+use Prim.Native.Nat.{ℕ, _*_}
 use mathlib.Core.Path.{_≡_}
 use mathlib.Core.List.{List, [], _∷_}
+use Rattle.elements.specs.Rows.{width}
 use Rattle.records.specs.Told.{Answer}
 
 -- The numbers of the lent table: sixteen rows.
 abbrev pub numbers : ℕ
-numbers = 112
+numbers = 16 * width
 
 pub record Case : Type 0 where
   pub given : Answer

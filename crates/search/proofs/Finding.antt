@@ -55,7 +55,7 @@ pub allowed-at : (s : List ℕ) (at numbers : ℕ) → allowed s 0 numbers ≡ t
     → allowed s at numbers ≡ true
 allowed-at s at numbers a l =
     let w = within s 0 numbers a in
-    sym (by-start s at numbers (w .bytes) (w .sevens) (w .few)) ∙ le-leb at (length s) l
+    sym (by-start s at numbers (w .bytes) (w .multiple) (w .few)) ∙ le-leb at (length s) l
 
 pub found-allowed : (s : List ℕ) (part numbers at size n : ℕ) → allowed s 0 numbers ≡ true
     → PlaceFound at size n ≡ placeTold (placeOf s part) → allowed s at numbers ≡ true

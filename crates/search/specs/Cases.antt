@@ -1,8 +1,9 @@
 -- The worked segments of document 01 (Cases) and a small input for each of several rules of the search, as one table:
 -- the bytes, the part that is searched for with a table of three rows, and the reply.
-use Prim.Native.Nat.{ℕ}
+use Prim.Native.Nat.{ℕ, _*_}
 use mathlib.Core.Path.{_≡_}
 use mathlib.Core.List.{List, [], _∷_, _++_}
+use Rattle.elements.specs.Rows.{width}
 use Rattle.header.specs.Reply.{Reply, accepted, refusal}
 use Rattle.search.specs.Part.{searchOf, replyOf}
 
@@ -11,7 +12,7 @@ pub data Case : Type 0 where
 
 -- Three rows.
 abbrev pub numbers : ℕ
-numbers = 21
+numbers = 3 * width
 
 abbrev tracks : ℕ
 tracks = 0x1654AE6B

@@ -1,4 +1,4 @@
--- `put_row` meets its contract: seven numbers, one after another. Assumes nothing.
+-- `put_row` meets its contract: eight numbers, one after another. Assumes nothing.
 use native.Mathlib.Omega.{arith}
 use lib.ListN.{length-set}
 use native.Mathlib.Numerals.{towards-suc}
@@ -70,6 +70,15 @@ mul-table-7 c = search needs
 slice-write-table-7 : tie.Need-slice-write-table-7
 slice-write-table-7 c = simp length-set (omega arith)
 
+add-table-7 : tie.Need-add-table-7
+add-table-7 c = search needs
+
+mul-table-8 : tie.Need-mul-table-8
+mul-table-8 c = search needs
+
+slice-write-table-8 : tie.Need-slice-write-table-8
+slice-write-table-8 c = simp length-set (omega arith)
+
 same-length : tie.Need-same-length
 same-length c = search needs
 
@@ -102,5 +111,8 @@ put-row-spec =
     add-table-6
     mul-table-7
     slice-write-table-7
+    add-table-7
+    mul-table-8
+    slice-write-table-8
     same-length
     returns)

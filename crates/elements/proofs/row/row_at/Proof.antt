@@ -1,4 +1,4 @@
--- `row_at` meets its contract: seven numbers, one after another. Assumes nothing.
+-- `row_at` meets its contract: eight numbers, one after another. Assumes nothing.
 use Rattle.elements.proofs.Tables.{row-there}
 use borrow.Author.Needs.{needs}
 use Rattle.elements.proofs.row.row_at.Statement.{statement}
@@ -67,6 +67,15 @@ mul-t28 c = search needs
 shared-slice-read-t30 : tie.Need-shared-slice-read-t30
 shared-slice-read-t30 c = search needs
 
+add-t31 : tie.Need-add-t31
+add-t31 c = search needs
+
+mul-t32 : tie.Need-mul-t32
+mul-t32 c = search needs
+
+shared-slice-read-t34 : tie.Need-shared-slice-read-t34
+shared-slice-read-t34 c = search needs
+
 returns : tie.Need-returns
 returns c = row-there _ _
 
@@ -95,4 +104,7 @@ row-at-spec =
     add-t27
     mul-t28
     shared-slice-read-t30
+    add-t31
+    mul-t32
+    shared-slice-read-t34
     returns)

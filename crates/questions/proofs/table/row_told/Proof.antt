@@ -1,14 +1,15 @@
 -- `row_told` is safe and ends: its numbers lie in the table. Assumes nothing.
 use borrow.Author.Needs.{needs}
 use Prim.Native.Nat.{_-_, _≤_}
+use Rattle.elements.specs.Rows.{width}
 use Rattle.questions.proofs.table.row_told.Statement.{statement}
 use Rattle.questions.proofs.table.row_told.Tie as tie
 
 abbrev Inv-loop : tie.InvT-loop
-Inv-loop table at out₀ held now₀ k₀ t8 out now k = k ≤ 7
+Inv-loop table at out₀ held now₀ k₀ t8 out now k = k ≤ width
 
 abbrev μ-loop : tie.MeasureT-loop
-μ-loop table at out₀ held now₀ k₀ t8 out now k = 7 - k
+μ-loop table at out₀ held now₀ k₀ t8 out now k = width - k
 
 slice-aggregate-put-hex : tie.Need-slice-aggregate-put-hex Inv-loop μ-loop
 slice-aggregate-put-hex c = search needs
