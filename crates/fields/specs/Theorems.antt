@@ -11,6 +11,7 @@ use Rattle.elements.specs.Theorems.{nth}
 use Rattle.elements.specs.declared.row.Row.{Row}
 use Rattle.elements.specs.declared.reply.ReadReply.the-variants.{Rows}
 use Rattle.fields.specs.Children.{subtree, fits, childrenFrom, children, lastOf}
+use Rattle.fields.specs.Contract.{AllJump}
 use Rattle.fields.specs.declared.child.Child.{Child}
 use Rattle.fields.specs.declared.child.Child.the-variants.{Absent, At}
 
@@ -38,3 +39,9 @@ SubtreeIsEnough =
     → ReadPromise s start size under t (Rows n) t′
     → (parent id : ℕ) (kind : Kind) → parent ≤ n
     → children parent id kind (subtree (rowsOf t′ n) parent) ≡ childrenFrom 0 parent id kind (rowsOf t′ n)
+
+-- After an accepted read each row jumps over the rows below it.
+abbrev pub AllJumpAfterRead : Type 0
+AllJumpAfterRead =
+    (s : List ℕ) (start size under : ℕ) (t : List ℕ) (n : ℕ) (t′ : List ℕ)
+    → ReadPromise s start size under t (Rows n) t′ → AllJump t′ n

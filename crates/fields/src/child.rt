@@ -4,7 +4,7 @@ ghost use Prim.Native.Nat.{_/_, _≤_};
 ghost use lib.ListN.{length};
 ghost use Rattle.elements.specs.Rows.{width};
 ghost use Rattle.fields.specs.Children.{rowsIn, fits, children, lastOf, nthOf};
-ghost use Rattle.fields.specs.Contract.{Within, BelowIs};
+ghost use Rattle.fields.specs.Contract.{Within, BelowIs, AllJump};
 use elements::Row;
 use elements::row_at;
 use kinds::Kind;
@@ -22,24 +22,19 @@ pub enum Child {
     At { number: usize, row: Row },
 }
 
-// The rows that follow a master's row while they are deeper; all rows for the payload that was read.
+// The rows that a master's row jumps over; all rows for the payload that was read.
 pub fn rows_below(table: &[u64], rows: usize, parent: usize) -> Below
-    requires { ⌜ (rows ≤ length (now table) / width) × (parent ≤ rows) ⌝ }
+    requires { ⌜ (rows ≤ length (now table) / width) × (parent ≤ rows) × AllJump (now table) rows ⌝ }
     ensures { λ r. ⌜ BelowIs (now (table .entry)) rows parent r ⌝ }
 {
     if parent == 0 {
         return Below { parent, end: rows };
     }
     let master = row_at(table, parent - 1);
-    let mut end = parent;
-    while end < rows {
-        let row = row_at(table, end);
-        if row.depth <= master.depth {
-            return Below { parent, end };
-        }
-        end += 1;
+    Below {
+        parent,
+        end: master.after as usize,
     }
-    Below { parent, end }
 }
 
 // Whether a row is a direct child of a master, of this id and kind.
@@ -67,7 +62,7 @@ pub fn last_child(table: &[u64], master: Below, id: u32, kind: Kind) -> Child
         if is_child(row, master.parent, id, kind) {
             last = Child::At { number: n, row };
         }
-        n += 1;
+        n = row.after as usize;
     }
     last
 }
@@ -87,7 +82,7 @@ pub fn nth_child(table: &[u64], master: Below, id: u32, kind: Kind, k: u64) -> C
             }
             left -= 1;
         }
-        n += 1;
+        n = row.after as usize;
     }
     Child::Absent
 }
@@ -104,7 +99,7 @@ pub fn count_children(table: &[u64], master: Below, id: u32, kind: Kind) -> u64
         if is_child(row, master.parent, id, kind) {
             count += 1;
         }
-        n += 1;
+        n = row.after as usize;
     }
     count
 }

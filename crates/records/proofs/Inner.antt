@@ -42,6 +42,7 @@ module _ (s t : List ℕ) (rows : ℕ) (b : Below) (h : Stands s t rows b) where
         held = h .held;
         short = h .short;
         sound = h .sound;
+        jumps = h .jumps;
         below = subst (λ (x : ℕ). BelowIs t rows x inner) (sym (m .master)) m;
       }
 

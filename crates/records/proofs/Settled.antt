@@ -23,6 +23,7 @@ use Rattle.elements.proofs.Outcomes.{of-refuse}
 use Rattle.elements.proofs.Readback.{accepted-read}
 use Rattle.elements.proofs.Sound.{rows-sound}
 use Rattle.elements.proofs.Whole.{zeros-as}
+use Rattle.fields.proofs.Enough.{all-jump}
 use Rattle.fields.specs.Children.{rowsIn}
 use Rattle.fields.specs.Contract.{BelowIs}
 use Rattle.fields.specs.Values.{Value}
@@ -116,6 +117,7 @@ module _ (s : List ℕ) (start size parent : ℕ) (t : List ℕ) (first second t
               held = rows-held s start size parent t n t₁ p;
               short = short;
               sound = rows-sound s start size parent t n t₁ p;
+              jumps = all-jump s start size parent t n t₁ p;
               below = subst (λ (x : ℕ). BelowIs t₁ n x b) (sym (h .master)) h;
             },
           );

@@ -73,7 +73,11 @@ module _ (s t : List ℕ) (rows : ℕ) (b : Below) (h : Stands s t rows b) where
   pub readable : Readable s t b
   readable =
       record {
-        within = record { some = h .below .some; held = omega (arith, h .held, h .below .held) };
+        within = record {
+          some = h .below .some;
+          held = omega (arith, h .held, h .below .held);
+          steps = h .below .steps;
+        };
         short = h .short;
         sound =
             subst (Each (Sound s)) (sym (h .below .are))

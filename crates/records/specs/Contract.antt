@@ -6,7 +6,7 @@ use lib.ListN.{length}
 use Rattle.header.specs.Promise.{mostBytes}
 use Rattle.elements.specs.Rows.{width, rowsOf}
 use Rattle.elements.specs.Theorems.{Each, Sound}
-use Rattle.fields.specs.Contract.{BelowIs}
+use Rattle.fields.specs.Contract.{BelowIs, AllJump}
 use Rattle.fields.specs.declared.child.Below.{Below}
 use Rattle.fields.specs.declared.child.Child.{Child}
 use Rattle.fields.specs.declared.child.Child.the-variants.{At as ChildAt, Absent as NoChild}
@@ -31,6 +31,7 @@ pub record Stands (s t : List ℕ) (rows : ℕ) (b : Below) : Type 0 where
   pub held : rows ≤ length t / width
   pub short : length s ≤ mostBytes
   pub sound : Each (Sound s) (rowsOf t rows)
+  pub jumps : AllJump t rows
   pub below : BelowIs t rows (b .parent) b
 
 -- What `locate` answers to a question.

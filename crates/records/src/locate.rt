@@ -3,6 +3,7 @@ ghost use mathlib.Core.Path.{_≡_};
 ghost use Prim.Native.Nat.{_/_, _≤_};
 ghost use lib.ListN.{length};
 ghost use Rattle.elements.specs.Rows.{width, rowsOf};
+ghost use Rattle.fields.specs.Contract.{AllJump};
 ghost use Rattle.records.specs.Steps.{spotOf, entered, reached};
 ghost use Rattle.records.specs.Asked.{asked};
 ghost use Rattle.records.specs.Contract.{Numbered, Known, LocatePromise};
@@ -52,7 +53,7 @@ fn spot_of(child: Child) -> Spot
 
 // One step on from a master.
 fn enter(table: &[u64], rows: usize, from: Spot, step: Step) -> Spot
-    requires { ⌜ (rows ≤ length (now table) / width) × Known rows from ⌝ }
+    requires { ⌜ (rows ≤ length (now table) / width) × Known rows from × AllJump (now table) rows ⌝ }
     ensures { λ r. ⌜ r ≡ entered (rowsOf (now (table .entry)) rows) from step ⌝ }
 {
     match from {
@@ -79,7 +80,7 @@ fn enter(table: &[u64], rows: usize, from: Spot, step: Step) -> Spot
 
 // From the payload that was read, a step for each level.
 fn find(table: &[u64], rows: usize, first: Step, second: Step, third: Step) -> Spot
-    requires { ⌜ rows ≤ length (now table) / width ⌝ }
+    requires { ⌜ (rows ≤ length (now table) / width) × AllJump (now table) rows ⌝ }
     ensures { λ r. ⌜ r ≡ reached (rowsOf (now (table .entry)) rows) first second third ⌝ }
 {
     let one = enter(table, rows, Spot::At(0), first);

@@ -45,6 +45,7 @@ rows-below-requires c κs =
       start .pre .held,
       video-known _ _ _ _ (start .pre) _ _ (last-child .ensures) (last-child2 .ensures) _
           (sym (number .given .1) ∙ later .ensures),
+      start .pre .jumps,
     )
 
 video-in-requires : tie.Need-video-in-requires
@@ -77,6 +78,7 @@ rows-below-requires-2 c κs =
       start .pre .held,
       audio-known _ _ _ _ (start .pre) _ _ (last-child .ensures) (last-child2 .ensures) _
           (sym (number .given .1) ∙ later .ensures),
+      start .pre .jumps,
     )
 
 audio-in-requires : tie.Need-audio-in-requires

@@ -1,59 +1,104 @@
 -- `last_child` meets its contract: what is left of the rows decides from the last child so far. Assumes nothing.
-use Prim.Native.Nat.{_-_, _≤_}
+use Prim.Native.Nat.{_+_, _-_, _≤_}
 use mathlib.Core.Path.{_≡_, refl, sym, _∙_}
-use mathlib.Core.Logic.{inl, inr, ⊎-elim}
+use mathlib.Core.Logic.{inl, inr}
 use native.Mathlib.Omega.{arith}
-use Rattle.fields.specs.Children.{lastFrom, lastOf}
-use Rattle.fields.proofs.Rest.{rest, last-turn, last-end}
+use lib.ListN.{length}
 use borrow.Author.Needs.{needs}
+use Rattle.fields.specs.Children.{lastFrom, lastOf}
+use Rattle.fields.proofs.Rest.{rest, goes, last-turn, last-end}
 use Rattle.fields.proofs.child.last_child.Statement.{statement}
 use Rattle.fields.proofs.child.last_child.Tie as tie
 
 abbrev Inv-loop : tie.InvT-loop
 Inv-loop table master id kind last₀ n₀ last n =
     let left = rest table (master .parent) id kind (master .end) in
-    (n ≤ master .end) × (lastOf (left (master .parent)) ≡ lastFrom last (left n))
+    (master .parent ≤ n) × (n ≤ master .end) × (lastOf (left (master .parent)) ≡ lastFrom last (left n))
 
 abbrev μ-loop : tie.MeasureT-loop
-μ-loop table master id kind last₀ n₀ last n = master .end - n
+μ-loop table master id kind last₀ n₀ last n =
+    master .end - n
 
 loop-holds : tie.Need-loop-holds Inv-loop μ-loop
-loop-holds c = (c .before .pre .some, refl)
+loop-holds c =
+    let start = c .before in
+    (omega arith, start .pre .some, refl)
 
 row-at-requires : tie.Need-row-at-requires Inv-loop μ-loop
 row-at-requires c κs =
     let start = c .before .before .before .before in
-    omega (arith, start .pre .held, c .if1 .taken)
+    let if1 = c .if1 in
+    omega (arith, start .pre .held, if1 .taken)
 
 is-child-requires : tie.Need-is-child-requires Inv-loop μ-loop
-is-child-requires c κs = search needs
-
-add-n : tie.Need-add-n Inv-loop μ-loop
-add-n c =
-    let start = c .before .before .before .before .before .before .before in
-    let if1 = c .before .before .before .if1 in
-    omega (arith, start .pre .held, if1 .taken)
+is-child-requires c κs =
+    search needs
 
 loop-less : tie.Need-loop-less Inv-loop μ-loop
 loop-less c =
+    let start = c .before .before .before .before .before .before .before in
+    let loop = c .before .before .before .before .before .loop in
     let if1 = c .before .before .before .if1 in
-    omega (arith, if1 .taken)
+    let row-at = c .before .before .row-at in
+    let is-child = c .before .is-child in
+    let g = goes _ _ _ _ _ _ (if1 .taken) _ (row-at .ensures) (loop .inv .0)
+    (start .pre .steps _ (loop .inv .0) (if1 .taken)) _ (is-child .ensures) in
+    omega (arith, g .0, g .1, if1 .taken)
 
 loop-again : tie.Need-loop-again Inv-loop μ-loop
 loop-again c =
-    let if1 = c .before .before .before .if1 in
+    let start = c .before .before .before .before .before .before .before in
     let loop = c .before .before .before .before .before .loop in
-    let row-at = c .before .before .row-at in (
-      omega (arith, if1 .taken),
-      loop .inv .1
-          ∙ last-turn _ _ _ _ _ _ (if1 .taken) _ (row-at .ensures) _ (c .before .is-child .ensures) _ _
-          (⊎-elim (λ h. inl (h .0 .taken, h .1)) (λ h. inr (h .0 .left, h .1)) (c .if2 .came)),
+    let if1 = c .before .before .before .if1 in
+    let row-at = c .before .before .row-at in
+    let is-child = c .before .is-child in
+    let if2 = c .if2 in
+    let g = goes _ _ _ _ _ _ (if1 .taken) _ (row-at .ensures) (loop .inv .0)
+    (start .pre .steps _ (loop .inv .0) (if1 .taken)) _ (is-child .ensures) in (
+      g .2,
+      g .1,
+      loop .inv .2
+          ∙ last-turn _ _ _ _ _ _ (if1 .taken) _ (row-at .ensures) (loop .inv .0)
+          (start .pre .steps _ (loop .inv .0) (if1 .taken)) _ (is-child .ensures)
+          _ _
+          (inl (if2 .taken, refl)),
+    )
+
+loop-less-2 : tie.Need-loop-less-2 Inv-loop μ-loop
+loop-less-2 c =
+    let start = c .before .before .before .before .before .before .before in
+    let loop = c .before .before .before .before .before .loop in
+    let if1 = c .before .before .before .if1 in
+    let row-at = c .before .before .row-at in
+    let is-child = c .before .is-child in
+    let g = goes _ _ _ _ _ _ (if1 .taken) _ (row-at .ensures) (loop .inv .0)
+    (start .pre .steps _ (loop .inv .0) (if1 .taken)) _ (is-child .ensures) in
+    omega (arith, g .0, g .1, if1 .taken)
+
+loop-again-2 : tie.Need-loop-again-2 Inv-loop μ-loop
+loop-again-2 c =
+    let start = c .before .before .before .before .before .before .before in
+    let loop = c .before .before .before .before .before .loop in
+    let if1 = c .before .before .before .if1 in
+    let row-at = c .before .before .row-at in
+    let is-child = c .before .is-child in
+    let if2 = c .if2 in
+    let g = goes _ _ _ _ _ _ (if1 .taken) _ (row-at .ensures) (loop .inv .0)
+    (start .pre .steps _ (loop .inv .0) (if1 .taken)) _ (is-child .ensures) in (
+      g .2,
+      g .1,
+      loop .inv .2
+          ∙ last-turn _ _ _ _ _ _ (if1 .taken) _ (row-at .ensures) (loop .inv .0)
+          (start .pre .steps _ (loop .inv .0) (if1 .taken)) _ (is-child .ensures)
+          _ _
+          (inr (if2 .left, refl)),
     )
 
 returns : tie.Need-returns Inv-loop μ-loop
 returns c =
     let loop = c .before .before .loop in
-    last-end _ _ _ _ _ _ _ (c .if1 .left) ∙ sym (loop .inv .1)
+    let if1 = c .if1 in
+    last-end _ _ _ _ _ _ _ (if1 .left) ∙ sym (loop .inv .2)
 
 pub last-child-spec : {M : Type 1} → statement M
 last-child-spec =
@@ -64,7 +109,8 @@ last-child-spec =
     loop-holds
     row-at-requires
     is-child-requires
-    add-n
     loop-less
     loop-again
+    loop-less-2
+    loop-again-2
     returns)

@@ -32,7 +32,7 @@ rows-below-requires : tie.Need-rows-below-requires
 rows-below-requires c κs =
     let start = c .before .before .before .before .before .before .before in
     let from = c .before .before .before .before .from in
-    (start .pre .0, known-at _ _ _ (start .pre .1) (from .given .1))
+    (start .pre .0, known-at _ _ _ (start .pre .1) (from .given .1), start .pre .2)
 
 nth-child-requires : tie.Need-nth-child-requires
 nth-child-requires c κs = search needs
@@ -52,7 +52,7 @@ rows-below-requires-2 : tie.Need-rows-below-requires-2
 rows-below-requires-2 c κs =
     let start = c .before .before .before .before .before .before .before in
     let from = c .before .before .before .before .from in
-    (start .pre .0, known-at _ _ _ (start .pre .1) (from .given .1))
+    (start .pre .0, known-at _ _ _ (start .pre .1) (from .given .1), start .pre .2)
 
 last-child-requires : tie.Need-last-child-requires
 last-child-requires c κs = search needs

@@ -10,17 +10,19 @@ enter-requires c κs = search needs
 enter-requires-2 : tie.Need-enter-requires-2
 enter-requires-2 c κs =
     let start = c .before .before in (
-      start .pre,
+      start .pre .0,
       first-known (start .args .table .now) (start .args .rows) (start .args .first) _
           (c .enter .ensures),
+      start .pre .1,
     )
 
 enter-requires-3 : tie.Need-enter-requires-3
 enter-requires-3 c κs =
     let start = c .before .before .before in (
-      start .pre,
+      start .pre .0,
       second-known (start .args .table .now) (start .args .rows) (start .args .first)
           (start .args .second) _ _ (c .before .enter .ensures) (c .enter2 .ensures),
+      start .pre .1,
     )
 
 returns : tie.Need-returns

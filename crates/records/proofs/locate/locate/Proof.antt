@@ -1,5 +1,6 @@
 -- `locate` meets its contract: the read's refusals, 15, or the rows below the master. Assumes nothing.
 use mathlib.Core.Path.{sym, _∙_}
+use Rattle.fields.proofs.Enough.{all-jump}
 use Rattle.records.proofs.Settled.{read-refused, rows-held, no-spot, at-spot}
 use Rattle.records.proofs.Ways.{reached-known}
 use borrow.Author.Needs.{needs}
@@ -19,7 +20,8 @@ find-requires : tie.Need-find-requires
 find-requires c κs =
     let count = c .before .before .count in
     let read = c .before .before .before .before .before .before .read in
-    rows-held _ _ _ _ _ _ _ (rw (count .given .1) at (read .ensures))
+    let p = rw (count .given .1) at (read .ensures) in
+    (rows-held _ _ _ _ _ _ _ p, all-jump _ _ _ _ _ _ _ p)
 
 enum-told : tie.Need-enum-told
 enum-told c = search needs
@@ -41,6 +43,7 @@ rows-below-requires c κs =
     let find = c .before .before .before .before .find in (
       rows-held _ _ _ _ _ _ _ (rw (count .given .1) at (read .ensures)),
       reached-known _ _ _ _ _ _ (sym (number .given .1) ∙ find .ensures),
+      all-jump _ _ _ _ _ _ _ (rw (count .given .1) at (read .ensures)),
     )
 
 same-length : tie.Need-same-length

@@ -34,6 +34,7 @@ rows-below-requires c κs =
     let last-child = c .before .before .before .last-child in (
       start .pre .held,
       inner-known _ _ _ _ (start .pre) _ _ _ (sym (c .before .number .given .1) ∙ last-child .ensures),
+      start .pre .jumps,
     )
 
 target-in-requires : tie.Need-target-in-requires
