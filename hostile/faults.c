@@ -32,6 +32,9 @@ static void damage(const uint8_t *recording, size_t length, uint64_t *table, siz
         table[numbers - 1] += 1;
     if (is("row_changed") && refused == 0 && numbers > 0)
         table[UZ_PAYLOAD] ^= 1;
+    // An id is never 0, so there is a row.
+    if (is("row_behind_changed") && refused == 0 && numbers > 0 && table[UZ_ID] != 0)
+        table[UZ_AFTER] += 1;
     if (is("number_behind_the_table"))
         table[numbers] = 0;
     if (is("number_before_the_table"))

@@ -149,7 +149,16 @@ static void put_little(uint8_t *to, uint64_t number, unsigned bytes) {
 }
 
 static size_t any_table(void) {
-    static const size_t lengths[] = {0, 7, 14, 6, 8, 28672, 28671, 28679, 65535, 28665};
+    static const size_t lengths[] = {0,
+                                     UZ_WIDTH,
+                                     2 * UZ_WIDTH,
+                                     UZ_WIDTH - 1,
+                                     UZ_WIDTH + 1,
+                                     UZ_MOST_NUMBERS,
+                                     UZ_MOST_NUMBERS - 1,
+                                     UZ_MOST_NUMBERS + UZ_WIDTH,
+                                     UZ_MOST_NUMBERS - UZ_WIDTH,
+                                     65535};
     switch (any(4)) {
     case 0:
         return lengths[any(COUNT(lengths))];

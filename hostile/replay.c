@@ -69,10 +69,10 @@ static void tell_rows(uint64_t rows, lent in) {
     printf(" rows %" PRIu64 " table %016" PRIX64 "\n", rows, digest(in));
     for (uint64_t row = 0; row < rows && row < 6; row++)
         printf("  %" PRIX64 " %" PRIu64 " %" PRIu64 " %" PRIu64 " %" PRIu64 " %" PRIu64 " %" PRIu64
-               "\n",
+               " %" PRIu64 "\n",
                cell(in, row, UZ_ID), cell(in, row, UZ_PARENT), cell(in, row, UZ_ADDRESS),
                cell(in, row, UZ_HEADER), cell(in, row, UZ_PAYLOAD), cell(in, row, UZ_KIND),
-               cell(in, row, UZ_DEPTH));
+               cell(in, row, UZ_DEPTH), cell(in, row, UZ_AFTER));
     if (rows > 6)
         printf("  ...\n");
 }

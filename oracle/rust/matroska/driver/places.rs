@@ -4,9 +4,7 @@
 use super::read::{read, table, Row};
 use super::{Failed, Outcome};
 use crate::ebml::{Element, ElementType};
-
-/// The lent table's most numbers, 4,096 rows of seven.
-const MOST_NUMBERS: usize = 28_672;
+use question::{rows_in, MOST_ROWS, WIDTH};
 
 fn refused<T>(number: &str) -> Outcome<T> {
     Err(Failed::Refused(number.to_string()))
@@ -49,7 +47,7 @@ fn held(row: &Row, address: u64) -> Option<&'static str> {
 /// The payload of a row that was read, of a lent table with so many numbers.
 /// Behind the crate's rows the table holds zeros, which tell an empty part.
 pub(crate) fn payload(rows: &[Row], numbers: u64, row: u64, bytes: &[u8]) -> Outcome<String> {
-    if row >= numbers / 7 {
+    if row >= rows_in(numbers) {
         return refused("14");
     }
     let part = match rows.get(row as usize) {
@@ -75,7 +73,7 @@ fn digits(bytes: &[u8]) -> String {
 /// text that the crate's own tree holds, and where its row says that it stands.
 /// Behind the crate's rows the table holds zeros, which are no text.
 pub(crate) fn shown(elements: &[Element], rows: &[Row], numbers: u64, row: u64) -> Outcome<String> {
-    if row >= numbers / 7 || row >= rows.len() as u64 {
+    if row >= rows_in(numbers) || row >= rows.len() as u64 {
         return refused("14");
     }
     let place = &rows[row as usize];
@@ -104,15 +102,12 @@ fn element_at(elements: &[Element], row: u64) -> Option<&Element> {
 
 /// The payload range of a row of the table that the question gives.
 pub(crate) fn range(numbers: &[u64], row: u64, bytes: &[u8]) -> Outcome<String> {
-    if numbers.len() % 7 != 0 || numbers.len() > MOST_NUMBERS {
+    let mut rows = numbers.chunks_exact(WIDTH);
+    if !rows.remainder().is_empty() || rows.len() as u64 > MOST_ROWS || row >= rows.len() as u64 {
         return refused("14");
     }
-    let rows: Vec<&[u64]> = numbers.chunks(7).collect();
-    if row >= rows.len() as u64 {
-        return refused("14");
-    }
-    let (address, header, length) = match rows[row as usize] {
-        [_, _, address, header, length, _, _] => (*address, *header, *length),
+    let (address, header, length) = match rows.nth(row as usize) {
+        Some([_, _, address, header, length, ..]) => (*address, *header, *length),
         _ => return Err(Failed::Fault),
     };
     let from = address.checked_add(header);

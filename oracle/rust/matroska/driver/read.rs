@@ -13,6 +13,7 @@ pub(crate) struct Row {
     pub(crate) payload: u64,
     pub(crate) kind: u8,
     pub(crate) depth: u64,
+    pub(crate) after: u64,
 }
 
 /// The tree that the crate reads, and its rows in preorder.
@@ -36,7 +37,8 @@ pub(crate) fn rows(elements: &[Element], start: u64, bytes: &[u8]) -> Outcome<Ve
 }
 
 /// Elements stand one after the other, a master's children after its header.
-/// The crate's own header reader at each address must agree with the tree.
+/// The crate's own header reader at each address must agree with the tree. When
+/// all below an element has its rows, the next row is the first one behind it.
 fn walk(
     elements: &[Element],
     mut address: u64,
@@ -51,6 +53,7 @@ fn walk(
         if id != element.id || header + payload != element.size {
             return Err(Failed::Fault);
         }
+        let own = rows.len();
         rows.push(Row {
             id,
             parent,
@@ -59,11 +62,13 @@ fn walk(
             payload,
             kind: kind_number(&element.val),
             depth,
+            after: 0,
         });
         if let ElementType::Master(children) = &element.val {
-            let own = rows.len() as u64;
-            walk(children, address + header, own, depth + 1, bytes, rows)?;
+            let body = address + header;
+            walk(children, body, own as u64 + 1, depth + 1, bytes, rows)?;
         }
+        rows[own].after = rows.len() as u64;
         address += element.size;
     }
     Ok(())
@@ -78,8 +83,15 @@ pub(crate) fn table(rows: &[Row]) -> String {
     for row in rows {
         let written = write!(
             told,
-            " / {:X} {} {} {} {} {} {}",
-            row.id, row.parent, row.address, row.header, row.payload, row.kind, row.depth
+            " / {:X} {} {} {} {} {} {} {}",
+            row.id,
+            row.parent,
+            row.address,
+            row.header,
+            row.payload,
+            row.kind,
+            row.depth,
+            row.after
         );
         written.expect("a string takes everything");
     }

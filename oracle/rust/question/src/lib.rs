@@ -4,8 +4,34 @@
 /// The largest recording a line can carry.
 pub const MOST_BYTES: usize = 65_536;
 
-/// The largest table a line can ask for or carry, in 64-bit numbers.
-pub const MOST_NUMBERS: u64 = 30_000;
+/// The numbers of a row: id, parent, address, header, payload, kind, depth and after, the
+/// first row behind it that is none of its descendants.
+pub const WIDTH: usize = 8;
+
+/// The most rows of a lent table.
+pub const MOST_ROWS: u64 = 4_096;
+
+/// The most numbers of one.
+pub const MOST_NUMBERS: u64 = numbers_of(MOST_ROWS);
+
+/// The most numbers of table that a line can ask for or carry. They are more than a lent table
+/// may have, so that one that is too long can be asked for.
+pub const MOST_ASKED: u64 = 36_000;
+
+/// The numbers of a table of so many rows.
+pub const fn numbers_of(rows: u64) -> u64 {
+    rows * WIDTH as u64
+}
+
+/// The rows that so many numbers have room for.
+pub const fn rows_in(numbers: u64) -> u64 {
+    numbers / WIDTH as u64
+}
+
+/// Whether so many numbers are a whole count of rows.
+pub const fn whole_rows(numbers: u64) -> bool {
+    numbers_of(rows_in(numbers)) == numbers
+}
 
 /// Where a record question finds its payload.
 pub struct Payload {
@@ -268,7 +294,7 @@ fn number(word: &[u8]) -> Option<u64> {
 
 /// How many numbers the lent table has.
 fn numbers(word: &[u8]) -> Option<u64> {
-    number(word).filter(|count| *count <= MOST_NUMBERS)
+    number(word).filter(|count| *count <= MOST_ASKED)
 }
 
 /// An id or a parent: hex digits of a number of at most four bytes.
@@ -319,7 +345,7 @@ fn table(word: &[u8]) -> Option<Vec<u64>> {
     }
     let parts = word.split(|byte| *byte == b',');
     let table: Vec<u64> = parts.map(number).collect::<Option<_>>()?;
-    Some(table).filter(|table| table.len() as u64 <= MOST_NUMBERS)
+    Some(table).filter(|table| table.len() as u64 <= MOST_ASKED)
 }
 
 fn list(word: &[u8]) -> Option<List> {

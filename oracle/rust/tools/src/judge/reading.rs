@@ -2,6 +2,7 @@
 //! It is read by the document's own terms, or by the crate's, which has no
 //! bounds: so both answers to a question are known before they are looked at.
 
+use question::rows_in;
 use tools::ids::{
     kind, BINARY_KIND, DATE_KIND, FLOAT_KIND, INT_KIND, MASTER_KIND, STRING_KIND, UINT_KIND,
     UTF8_KIND,
@@ -49,7 +50,8 @@ pub enum End {
 }
 
 /// A row as it stands in the table: id, parent (row number plus 1), header
-/// address, header length, payload length, kind and depth.
+/// address, header length, payload length, kind, depth, and the first row after it
+/// that is not below it.
 pub struct Row {
     pub id: u32,
     pub parent: u64,
@@ -58,6 +60,7 @@ pub struct Row {
     pub payload: u64,
     pub kind: u64,
     pub depth: u64,
+    pub after: u64,
 }
 
 /// What is read: a payload of a recording under its parent, into a table of so
@@ -74,12 +77,28 @@ pub struct Payload<'a> {
 pub fn rows(payload: &Payload, terms: Terms) -> Result<Vec<Row>, End> {
     let mut reading = Reading {
         bytes: payload.bytes,
-        most: payload.numbers / 7,
+        most: rows_in(payload.numbers),
         terms,
         rows: Vec::new(),
     };
     reading.master(payload.start, payload.size, payload.parent, 0, 0)?;
+    set_after(&mut reading.rows);
     Ok(reading.rows)
+}
+
+/// Tells each row the first one after it that is no deeper, or how many rows there
+/// are: what stands between is below it. From the last row to the first, those of the rows
+/// behind are kept that a row further in front can still have.
+fn set_after(rows: &mut [Row]) {
+    let mut behind: Vec<usize> = Vec::new();
+    for number in (0..rows.len()).rev() {
+        let depth = rows[number].depth;
+        while behind.last().is_some_and(|next| rows[*next].depth > depth) {
+            behind.pop();
+        }
+        rows[number].after = *behind.last().unwrap_or(&rows.len()) as u64;
+        behind.push(number);
+    }
 }
 
 struct Reading<'a> {
@@ -126,6 +145,7 @@ impl Reading<'_> {
             payload,
             kind,
             depth,
+            after: 0,
         });
         if kind == MASTER_KIND {
             let own = self.rows.len() as u64;

@@ -2,12 +2,9 @@
 //! own reading: ours by document 01's terms, the crate's by its own.
 
 use crate::reading::{part, rows, End, Payload, Row, Terms, CRATE, OURS};
-use question::Question;
+use question::{rows_in, whole_rows, Question, MOST_NUMBERS, WIDTH};
 use std::fmt::Write;
 use tools::ids::{STRING_KIND, UTF8_KIND};
-
-/// The most numbers that a lent table may have.
-const MOST_NUMBERS: u64 = 28_672;
 
 /// What is due to a question whose answers the judge knows by itself.
 pub struct Due {
@@ -143,7 +140,7 @@ fn arguments(payload: &Payload, terms: Terms) -> Result<(), End> {
 
 /// Whether a table's length is broken.
 pub fn broken(numbers: u64) -> bool {
-    numbers % 7 != 0 || numbers > MOST_NUMBERS
+    !whole_rows(numbers) || numbers > MOST_NUMBERS
 }
 
 /// The rows of a payload, 14 for the arguments first.
@@ -180,7 +177,7 @@ fn holder(rows: &[Row], address: u64) -> String {
 /// A row's payload. The call only reads the table, in which a row that was not
 /// used is all zeros: an empty part.
 fn bytes_of(payload: &Payload, rows: &[Row], row: u64) -> String {
-    if row >= payload.numbers / 7 {
+    if row >= rows_in(payload.numbers) {
         return "refused 14".to_string();
     }
     match rows.get(row as usize) {
@@ -193,7 +190,7 @@ fn bytes_of(payload: &Payload, rows: &[Row], row: u64) -> String {
 /// and its kind is none of the two kinds of text.
 fn text_of(payload: &Payload, rows: &[Row], row: u64) -> String {
     let used = rows.get(row as usize);
-    let found = used.filter(|_| row < payload.numbers / 7);
+    let found = used.filter(|_| row < rows_in(payload.numbers));
     match found.filter(|row| [STRING_KIND, UTF8_KIND].contains(&row.kind)) {
         Some(row) => {
             let place = format!("text {}+{} ", row.address + row.header, row.payload);
@@ -218,10 +215,10 @@ fn told_bytes(words: &str, payload: &Payload, row: &Row) -> String {
 /// is one of numbers, and does not wrap.
 fn range(table: &[u64], row: u64, length: usize) -> String {
     let numbers = table.len() as u64;
-    if broken(numbers) || row >= numbers / 7 {
+    if broken(numbers) || row >= rows_in(numbers) {
         return "refused 14".to_string();
     }
-    let place = 7 * row as usize;
+    let place = WIDTH * row as usize;
     let [address, header, payload] = [2, 3, 4].map(|field| u128::from(table[place + field]));
     if address + header + payload > length as u128 {
         return "refused 14".to_string();
@@ -235,8 +232,15 @@ pub fn table(rows: &[Row]) -> String {
     for row in rows {
         let written = write!(
             told,
-            " / {:X} {} {} {} {} {} {}",
-            row.id, row.parent, row.address, row.header, row.payload, row.kind, row.depth
+            " / {:X} {} {} {} {} {} {} {}",
+            row.id,
+            row.parent,
+            row.address,
+            row.header,
+            row.payload,
+            row.kind,
+            row.depth,
+            row.after
         );
         written.expect("a string takes everything");
     }

@@ -7,6 +7,16 @@ pub const TABLE: &str = "\
 parent-off: a parent is the row's number, without the 1
 depth-off: the direct rows have depth 1
 kind-off: both kinds of text have one number
+after-plus: the first row behind is told with the 1 that a parent has
+after-last: the last row below is told, and by a row without any its own
+after-count: the row count is told though there is a row behind
+after-next: the next row is told, whatever is below
+after-direct: only direct children are passed over
+after-sibling: the row count is told where no sibling is behind
+after-once: the row count is told by a master that ends with a master below it
+after-master: a leaf's is 0
+after-zero: 0 is told where there is no row behind
+after-room: the rows of the whole table are told where there is no row behind
 last-row: the last row is left out
 held: a child is read as if nothing stood behind its master
 overrun-first: 3 for an overrun is given before the body
@@ -21,10 +31,13 @@ row-short: the last row of the table is not used
 rows-dropped: rows without room are dropped
 table-kept: a refusal leaves what was written
 table-kept-14: 14 and 15 leave the table as it was
+table-narrow: a refusal leaves the last number of each row as it was
 rest-kept: behind the last row the table is as it was
-any-length: a length that is no multiple of 7 is taken
-any-count: more than 28,672 numbers are taken
-count-below: 28,672 numbers are not taken
+rest-narrow: behind the last row the last number of each is as it was
+any-length: a length that is no whole count of rows is taken
+length-narrow: the length has to be one of rows without their last number
+any-count: more numbers than those of 4,096 rows are taken
+count-below: the numbers of 4,096 rows are not taken
 start-past: a start past the end is taken
 start-at-end: a start at the end is not taken
 inner-14: a body that is not there is 14
@@ -48,7 +61,9 @@ missing-15: an address whose byte does not exist is 15
 unused-14: a row that is not used is not in the table
 row-table: the table is told where a row is not in it
 row-at-end: the row behind the last one is in the table
+row-narrow: so many rows are in the table as if they lacked their last number
 row-first: a row that is not in the table comes before the read
+range-after: a row whose row behind is not in the table has no range
 range-wraps: the sum of address and lengths wraps at 2^64
 range-address: a payload begins at its header
 range-end: a payload may not end where the recording ends

@@ -2,6 +2,7 @@
 //! the masters that are open.
 
 use crate::Fault;
+use question::{whole_rows, MOST_NUMBERS, WIDTH};
 use std::fmt::Write;
 use tools::ids;
 
@@ -45,6 +46,25 @@ struct Open {
     /// The first address behind it.
     end: u64,
     left: u64,
+}
+
+/// What tells the row behind each: where elements begin and end, and how deep they are.
+struct Placed {
+    address: u64,
+    end: u64,
+    master: bool,
+    depth: u64,
+}
+
+impl Placed {
+    fn of(row: &[u64]) -> Placed {
+        Placed {
+            address: row[2],
+            end: row[2] + row[3] + row[4],
+            master: row[5] == 1,
+            depth: row[6],
+        }
+    }
 }
 
 impl Lent {
@@ -98,10 +118,51 @@ impl Lent {
             open.pop();
             self.take(whole, &mut open)?;
         }
+        self.set_after();
         if self.fault.is("last-row") && self.used > 0 {
             self.used -= 1;
         }
         Ok(())
+    }
+
+    /// Tells each row the first one behind it. The rows are in the order of their addresses,
+    /// and what is below an element begins before its end.
+    fn set_after(&mut self) {
+        let used = self.numbers.chunks_exact(WIDTH).take(self.used);
+        let rows: Vec<Placed> = used.map(Placed::of).collect();
+        for own in 0..rows.len() {
+            let after = rows.partition_point(|row| row.address < rows[own].end);
+            let told = self.after_told(&rows, own, after);
+            // The last number of its row.
+            self.numbers[WIDTH * own + WIDTH - 1] = told as u64;
+        }
+    }
+
+    /// The row behind one, as the fault has it.
+    fn after_told(&self, rows: &[Placed], own: usize, after: usize) -> usize {
+        let (row, count) = (&rows[own], rows.len());
+        let mut below = rows[own + 1..after].iter();
+        let outer = |next: &Placed| next.depth < row.depth;
+        match () {
+            () if self.fault.is("after-plus") => after + 1,
+            () if self.fault.is("after-last") => after - 1,
+            () if self.fault.is("after-count") => count,
+            () if self.fault.is("after-next") => own + 1,
+            () if self.fault.is("after-direct") => {
+                let direct = below.filter(|under| under.depth == row.depth + 1);
+                own + 1 + direct.count()
+            }
+            () if self.fault.is("after-sibling") && rows.get(after).is_some_and(outer) => count,
+            () if self.fault.is("after-once")
+                && below.any(|under| under.master && under.end == row.end) =>
+            {
+                count
+            }
+            () if self.fault.is("after-master") && !row.master => 0,
+            () if after == count && self.fault.is("after-zero") => 0,
+            () if after == count && self.fault.is("after-room") => self.numbers.len() / WIDTH,
+            () => after,
+        }
     }
 
     /// One element, of a master only the header. Gives the next place.
@@ -129,7 +190,7 @@ impl Lent {
             self.body(kind, bytes, body, size)?;
         }
         self.limits(depth)?;
-        self.row([id, parent, at, header, size, kind, depth]);
+        self.row([id, parent, at, header, size, kind, depth, 0]);
         if kind == 1 {
             open.push(Open {
                 id: id as u32,
@@ -177,7 +238,8 @@ impl Lent {
             () => 15,
         };
         let short = usize::from(self.fault.is("row-short"));
-        let full = self.used + short >= self.numbers.len() / 7 && !self.fault.is("rows-dropped");
+        let room = self.numbers.len() / WIDTH;
+        let full = self.used + short >= room && !self.fault.is("rows-dropped");
         let deep = depth > deepest;
         if deep && full && self.fault.is("rows-first") {
             return Err(13);
@@ -191,9 +253,9 @@ impl Lent {
         Ok(())
     }
 
-    /// Writes a row, its fields as the fault has them.
-    fn row(&mut self, fields: [u64; 7]) {
-        let [id, mut parent, address, header, payload, mut kind, mut depth] = fields;
+    /// Writes a row, its fields as the fault has them. The row behind is told later.
+    fn row(&mut self, fields: [u64; WIDTH]) {
+        let [id, mut parent, address, header, payload, mut kind, mut depth, after] = fields;
         if self.fault.is("parent-off") {
             parent = parent.saturating_sub(1);
         }
@@ -203,9 +265,9 @@ impl Lent {
         if self.fault.is("kind-off") && kind == 5 {
             kind = 4;
         }
-        let place = 7 * self.used;
-        if let Some(row) = self.numbers.get_mut(place..place + 7) {
-            row.copy_from_slice(&[id, parent, address, header, payload, kind, depth]);
+        let place = WIDTH * self.used;
+        if let Some(row) = self.numbers.get_mut(place..place + WIDTH) {
+            row.copy_from_slice(&[id, parent, address, header, payload, kind, depth, after]);
             self.used += 1;
         }
     }
@@ -304,7 +366,7 @@ impl Lent {
             Ok(before) => {
                 let absent = before.starts_with("absent") && self.fault.is("absent-kept");
                 if !absent && !self.fault.is("rest-kept") {
-                    self.numbers[7 * self.used..].fill(0);
+                    self.clear(self.used, self.fault.is("rest-narrow"));
                 }
                 before
             }
@@ -314,7 +376,7 @@ impl Lent {
                     || argument && self.fault.is("table-kept-14")
                     || number == 15 && !rows && self.fault.is("record-15-kept");
                 if !kept {
-                    self.numbers.fill(0);
+                    self.clear(0, self.fault.is("table-narrow"));
                 }
                 let table = if zero(&self.numbers) { "0" } else { "dirty" };
                 let about = self.about.map_or(String::new(), |id| format!(" {id:X}"));
@@ -323,25 +385,35 @@ impl Lent {
         };
         write!(told, "rows {}", self.used).expect("a string takes everything");
         let shown = if rows { self.used } else { 0 };
-        for row in self.numbers.chunks_exact(7).take(shown) {
+        for row in self.numbers.chunks_exact(WIDTH).take(shown) {
             write!(told, " / {:X}", row[0]).expect("a string takes everything");
             for number in &row[1..] {
                 write!(told, " {number}").expect("a string takes everything");
             }
         }
-        let rest = &self.numbers[7 * self.used..];
+        let rest = &self.numbers[WIDTH * self.used..];
         told + if zero(rest) { " rest 0" } else { " rest dirty" }
+    }
+
+    /// Clears the table from a row on; narrowly, the last number of each row stays.
+    fn clear(&mut self, from: usize, narrowly: bool) {
+        for (place, number) in self.numbers.iter_mut().enumerate().skip(WIDTH * from) {
+            if !narrowly || place % WIDTH != WIDTH - 1 {
+                *number = 0;
+            }
+        }
     }
 }
 
 /// Whether a table's length is broken.
 pub fn broken(count: u64, fault: Fault) -> bool {
-    let most = if fault.is("count-below") {
-        28_671
-    } else {
-        28_672
+    let most = MOST_NUMBERS - u64::from(fault.is("count-below"));
+    let whole = match () {
+        () if fault.is("any-length") => true,
+        () if fault.is("length-narrow") => count % (WIDTH as u64 - 1) == 0,
+        () => whole_rows(count),
     };
-    count % 7 != 0 && !fault.is("any-length") || count > most && !fault.is("any-count")
+    !whole || count > most && !fault.is("any-count")
 }
 
 fn zero(numbers: &[u64]) -> bool {

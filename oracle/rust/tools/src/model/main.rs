@@ -14,7 +14,7 @@ mod track;
 
 use faults::{RECORD, SHARED, TABLE, TRACK};
 use lent::{Lent, Read};
-use question::{parse, Question};
+use question::{parse, rows_in, Question};
 use std::io::{self, BufRead, BufWriter, Write};
 
 /// The fault of this run, or none.
@@ -119,7 +119,7 @@ fn answer(question: &Question, fault: Fault) -> String {
             bytes,
         } => {
             let mut lent = Lent::new(*numbers, fault);
-            if fault.is("row-first") && *row >= numbers / 7 {
+            if fault.is("row-first") && *row >= rows_in(*numbers) {
                 return "refused 14".to_string();
             }
             match lent.read(&Read::new(*start, *size, *parent, bytes)) {

@@ -2,6 +2,7 @@
 
 use crate::lent::{broken, Lent, Read};
 use crate::Fault;
+use question::{rows_in, WIDTH};
 use std::fmt::Write;
 use tools::ids::{BINARY_KIND, STRING_KIND, UTF8_KIND};
 
@@ -20,7 +21,7 @@ pub fn whose(lent: &mut Lent, read: &Read, address: u64, fault: Fault) -> Result
     if outside {
         return Err(15);
     }
-    let rows: Vec<&[u64]> = lent.numbers.chunks_exact(7).take(lent.used).collect();
+    let rows: Vec<&[u64]> = lent.numbers.chunks_exact(WIDTH).take(lent.used).collect();
     let around = |row: &&[u64]| row[2] <= address && address - row[2] < row[3] + row[4];
     let found = if fault.is("outer-row") {
         rows.iter().position(around)
@@ -71,7 +72,7 @@ pub fn payload(lent: &Lent, row: u64, bytes: &[u8], fault: Fault) -> String {
 /// The numbers of a table that was filled, zeros behind the last row.
 fn written(lent: &Lent) -> Vec<u64> {
     let mut numbers = lent.numbers.clone();
-    numbers[7 * lent.used..].fill(0);
+    numbers[WIDTH * lent.used..].fill(0);
     numbers
 }
 
@@ -91,7 +92,8 @@ pub fn shown(lent: &Lent, row: u64, bytes: &[u8], fault: Fault) -> String {
     let numbers = written(lent);
     let range = range(&numbers, row, bytes.len() as u64, fault);
     let shown = range.and_then(|range| {
-        let row = numbers.chunks_exact(7).nth(row as usize).ok_or(14u64)?;
+        let mut rows = numbers.chunks_exact(WIDTH);
+        let row = rows.nth(row as usize).ok_or(14u64)?;
         text(row, range, bytes, fault)
     });
     match shown {
@@ -144,15 +146,25 @@ pub fn range(numbers: &[u64], row: u64, length: u64, fault: Fault) -> Result<(u6
     if broken(numbers.len() as u64, fault) {
         return Err(14);
     }
-    let count = numbers.len() as u64 / 7;
+    let count = if fault.is("row-narrow") {
+        numbers.len() as u64 / (WIDTH as u64 - 1)
+    } else {
+        rows_in(numbers.len() as u64)
+    };
     if row == count && fault.is("row-at-end") {
         return Ok((0, 0));
     }
     if row >= count {
         return Err(14);
     }
-    let row = &numbers[7 * row as usize..][..7];
-    let (address, header, payload) = (row[2], row[3], row[4]);
+    // A faulty reader may take a row of which nothing is there.
+    let rest = numbers.get(WIDTH * row as usize..).unwrap_or(&[]);
+    let &[_, _, address, header, payload, _, _, after, ..] = rest else {
+        return Ok((0, 0));
+    };
+    if after > count && fault.is("range-after") {
+        return Err(14);
+    }
     let end = if fault.is("range-wraps") {
         Some(address.wrapping_add(header).wrapping_add(payload))
     } else {

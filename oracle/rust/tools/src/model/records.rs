@@ -3,7 +3,7 @@
 
 use crate::lent::{Lent, Read};
 use crate::Fault;
-use question::{List, Payload, Question};
+use question::{rows_in, List, Payload, Question, WIDTH};
 use tools::ids::*;
 
 /// What is asked: the record's payload, its indices from the outside in, and which
@@ -84,7 +84,7 @@ pub fn record(lent: &mut Lent, asked: &Asked, fault: Fault) -> Result<String, u6
     let read = Read::new(payload.start, payload.size, parent, &payload.bytes);
     // No more records than rows, and one audio.
     let audio = asked.parent == AUDIO;
-    let most = if audio { 1 } else { payload.numbers / 7 };
+    let most = if audio { 1 } else { rows_in(payload.numbers) };
     let beyond = asked.path[0].1 >= most;
     if beyond && fault.is("record-15-early") {
         return Err(15);
@@ -94,7 +94,7 @@ pub fn record(lent: &mut Lent, asked: &Asked, fault: Fault) -> Result<String, u6
         return Err(15);
     }
     lent.fill(&read)?;
-    let rows = lent.numbers.chunks_exact(7).take(lent.used).collect();
+    let rows = lent.numbers.chunks_exact(WIDTH).take(lent.used).collect();
     let table = Table {
         rows,
         bytes: &payload.bytes,
@@ -249,7 +249,7 @@ impl Table<'_> {
     /// Where they stand.
     fn place(&self, row: usize) -> String {
         let [_, _, address, header, payload, ..] = *self.rows[row] else {
-            unreachable!("a row has seven numbers");
+            unreachable!("a row has all its numbers");
         };
         if self.fault.is("field-header") {
             return format!("{address}+{}", header + payload);

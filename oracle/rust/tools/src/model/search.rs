@@ -3,6 +3,7 @@
 
 use crate::lent::{Lent, Read};
 use crate::Fault;
+use question::{numbers_of, WIDTH};
 use tools::ids::{part_parent, SEEK, SEEK_HEAD, SEEK_ID, SEEK_POSITION, SEGMENT};
 
 /// Searches and reads, up to where the table stands in the answer.
@@ -292,7 +293,7 @@ impl Search<'_> {
         let room = if self.fault.is("head-rows") {
             self.lent.numbers.len() as u64
         } else {
-            7 * (self.bytes.len() as u64 / 2 + 2)
+            numbers_of(self.bytes.len() as u64 / 2 + 2)
         };
         let mut own = Lent::new(room, self.fault);
         own.head = true;
@@ -304,7 +305,7 @@ impl Search<'_> {
         let bytes = &self.bytes[..end as usize];
         own.fill(&Read::new(head.body(), head.payload, SEGMENT, bytes))?;
 
-        let rows: Vec<&[u64]> = own.numbers.chunks_exact(7).take(own.used).collect();
+        let rows: Vec<&[u64]> = own.numbers.chunks_exact(WIDTH).take(own.used).collect();
         let mut entries: Vec<(u32, u64)> = Vec::new();
         for (number, row) in rows.iter().enumerate() {
             let direct = row[6] == 0 || self.fault.is("seek-deep");

@@ -6,6 +6,7 @@ use crate::header::{marked, place};
 use crate::kind::parent;
 use crate::random::Random;
 use crate::tree::{chain, forest, id_bytes, row_of, size_bytes, written, Body, Node, Spot};
+use question::{numbers_of, MOST_ASKED, MOST_NUMBERS, MOST_ROWS};
 use tools::ids::{listed, masters, DATE, FLOAT, INT, LISTED, MASTER, UINT};
 
 /// A recording and how it is to be read.
@@ -25,7 +26,7 @@ pub fn whole(bytes: Vec<u8>, spots: Vec<Spot>, parent: u32) -> Asked {
         start: 0,
         size: bytes.len() as u64,
         parent,
-        numbers: 7 * spots.len() as u64,
+        numbers: numbers_of(spots.len() as u64),
         bytes,
         spots,
     }
@@ -66,7 +67,7 @@ fn depth(random: &mut Random) -> u64 {
 /// How many elements stand in a row: mostly few, seldom as many as a table has.
 fn count(random: &mut Random) -> u64 {
     match random.below(500) {
-        0 => random.between(4_094, 4_097),
+        0 => random.between(MOST_ROWS - 2, MOST_ROWS + 1),
         1..=4 => random.between(200, 1_500),
         _ => random.below(40),
     }
@@ -93,18 +94,25 @@ pub fn planted(nodes: &[Node], parent: u32, random: &mut Random) -> Asked {
 
 /// The length of a table for so many rows: full, with room, too short, broken.
 pub fn numbers(rows: u64, random: &mut Random) -> u64 {
+    let (most, row) = (MOST_NUMBERS, numbers_of(1));
     let numbers = match random.below(20) {
-        0..=7 => 7 * rows,
-        8 => 7 * rows.saturating_sub(1),
+        0..=7 => numbers_of(rows),
+        8 => numbers_of(rows.saturating_sub(1)),
         // Full where the first row is too deep, in a tree that is a chain.
-        9 if rows > 16 => 7 * 16,
-        9 => 7 * random.below(rows + 1),
-        10..=15 => 7 * (rows + random.between(1, 9)),
-        16..=17 => 28_672,
-        18 => 7 * rows + random.between(1, 6),
-        _ => random.one_of(&[28_665, 28_671, 28_673, 28_679, 29_995, 30_000]),
+        9 if rows > 16 => numbers_of(16),
+        9 => numbers_of(random.below(rows + 1)),
+        10..=15 => numbers_of(rows + random.between(1, 9)),
+        16..=17 => most,
+        // As if a row had one number less.
+        18 if random.once_in(4) => (row - 1) * rows.max(1),
+        18 => numbers_of(rows) + random.between(1, row - 1),
+        _ => {
+            let around = [most - row, most - 1, most + 1, most + row];
+            let asked = [MOST_ASKED - row, MOST_ASKED - 1, MOST_ASKED];
+            random.one_of(&[&around[..], &asked[..]].concat())
+        }
     };
-    numbers.min(30_000)
+    numbers.min(MOST_ASKED)
 }
 
 /// A good tree with one to three damages.
@@ -252,7 +260,7 @@ pub fn odd(random: &mut Random) -> Asked {
     let mut asked = planted(&nodes, parent, random);
     // Mostly there is a row for the odd header.
     if !random.once_in(4) {
-        asked.numbers = (asked.numbers + 7).min(30_000);
+        asked.numbers = (asked.numbers + numbers_of(1)).min(MOST_ASKED);
     }
     asked
 }
@@ -261,8 +269,8 @@ pub fn odd(random: &mut Random) -> Asked {
 pub fn anything(random: &mut Random) -> Asked {
     let length = random.below(21);
     let numbers = match random.below(4) {
-        0 => random.below(30_001),
-        _ => 7 * random.below(12),
+        0 => random.below(MOST_ASKED + 1),
+        _ => numbers_of(random.below(12)),
     };
     let start = match random.below(4) {
         0 => place(length, random).parse().unwrap_or(0),

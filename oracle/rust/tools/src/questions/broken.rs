@@ -2,6 +2,7 @@
 //! A few stay good, to stand beside those that are not.
 
 use crate::random::{hex, Random};
+use question::{numbers_of, MOST_ASKED, WIDTH};
 
 /// The longest recording that a line may carry, in bytes.
 const MOST_BYTES: u64 = 65_536;
@@ -167,18 +168,21 @@ fn decimal(good: &str, random: &mut Random) -> String {
 /// A count of numbers around the most that may be asked for, or no number.
 fn count_of_numbers(good: &str, random: &mut Random) -> String {
     match random.below(6) {
-        0 => "30001".to_string(),
-        1 => "30007".to_string(),
+        0 => (MOST_ASKED + 1).to_string(),
+        1 => (MOST_ASKED + numbers_of(1)).to_string(),
         2 => "4294967296".to_string(),
         // This one is good.
-        3 => "30000".to_string(),
+        3 => MOST_ASKED.to_string(),
         _ => decimal(good, random),
     }
 }
 
 /// A table that is no list of numbers, or one with too many or too large ones.
 fn table(good: &str, random: &mut Random) -> String {
-    let good = if good == "-" { "1,2,3,4,5,6,7" } else { good };
+    let row: Vec<String> = (1..=WIDTH).map(|number| number.to_string()).collect();
+    let row = row.join(",");
+    let good = if good == "-" { &row } else { good };
+    let numbers = |count: u64| vec!["9"; count as usize].join(",");
     match random.below(15) {
         0 => format!("{good},"),
         1 => format!(",{good}"),
@@ -191,9 +195,9 @@ fn table(good: &str, random: &mut Random) -> String {
         8 => format!("{good},18446744073709551616"),
         9 => format!("{good},A"),
         10 => format!("{good},+1"),
-        11 if random.once_in(20) => ["7"; 30_001].join(","),
+        11 if random.once_in(20) => numbers(MOST_ASKED + 1),
         // These three are good.
-        12 if random.once_in(20) => ["7"; 30_000].join(","),
+        12 if random.once_in(20) => numbers(MOST_ASKED),
         13 => format!("{good},18446744073709551615"),
         _ => format!("000000000000000000000{good}"),
     }

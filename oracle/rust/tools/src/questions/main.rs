@@ -1,7 +1,8 @@
 //! Prints questions: `questions SEED COUNT WORD..` gives COUNT questions of the
 //! named kinds in turn, always the same for the same arguments.
 //! `questions whole WORD FROM COUNT` gives a piece of a kind's whole list, which
-//! has fewer questions where the list ends.
+//! has fewer questions where the list ends. `questions numbers ROWS` tells how many
+//! numbers a table of so many rows has.
 
 mod asked;
 mod body;
@@ -26,6 +27,7 @@ mod utf8;
 mod whose;
 
 use list::List;
+use question::numbers_of;
 use random::Random;
 use std::io::{self, BufWriter, Write};
 
@@ -74,10 +76,14 @@ fn main() {
         print_piece(&list, from, count)
     } else if let Some((seed, count, kinds)) = understand(&arguments) {
         print(seed, count, &kinds)
+    } else if let Some(rows) = rows(&arguments) {
+        println!("{}", numbers_of(rows));
+        Ok(())
     } else {
         eprintln!(
             "usage: questions SEED COUNT WORD.., words: {}
-       questions whole WORD FROM COUNT, words: {}",
+       questions whole WORD FROM COUNT, words: {}
+       questions numbers ROWS",
             KINDS.map(|(word, _)| word).join(" "),
             WHOLE.map(|(word, _)| word).join(" ")
         );
@@ -106,6 +112,15 @@ fn print_piece(list: &List, from: u64, count: u64) -> io::Result<()> {
         output.write_all(b"\n")?;
     }
     output.flush()
+}
+
+/// The rows of the table that is asked about.
+fn rows(arguments: &[String]) -> Option<u64> {
+    let [numbers, rows] = arguments else {
+        return None;
+    };
+    let rows: u32 = rows.parse().ok().filter(|_| numbers == "numbers")?;
+    Some(u64::from(rows))
 }
 
 /// A kind with its place in the list.

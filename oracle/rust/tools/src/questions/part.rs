@@ -7,6 +7,7 @@ use crate::found::{headed, long, met, nested, web, Made};
 use crate::list::List;
 use crate::random::{hex, Random};
 use crate::segment::{element, head, leaf, recorded, seek, seek_to, segment, Piece, Size, ORIGIN};
+use question::numbers_of;
 use tools::ids::{PARTS, SEEK, SEEK_HEAD, SEEK_ID, SEEK_POSITION, SEGMENT};
 
 /// The shares are fixed: of 20 questions 3 are from a walk through the whole list,
@@ -124,7 +125,7 @@ const TAGS: u32 = 0x1254C367;
 /// A question with a table of two rows.
 fn small(id: u32, pieces: &[Piece]) -> Vec<u8> {
     let (bytes, _) = recorded(pieces);
-    format!("part {id:X} 14 {}", hex(&bytes)).into_bytes()
+    format!("part {id:X} {} {}", numbers_of(2), hex(&bytes)).into_bytes()
 }
 
 /// The marks of the heads and of the parts that they name.
@@ -280,7 +281,7 @@ fn cut(place: u64) -> Vec<u8> {
             } else {
                 random.one_of(&PARTS).0
             };
-            let numbers = 7 * (made.rows + 1);
+            let numbers = numbers_of(made.rows + 1);
             return format!("part {id:X} {numbers} {}", hex(&bytes)).into_bytes();
         }
     }

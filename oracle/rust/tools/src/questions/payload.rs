@@ -4,6 +4,7 @@
 use crate::asked::{anything, damaged, elsewhere, good, Asked};
 use crate::broken::{self, Sort};
 use crate::random::{hex, Random};
+use question::rows_in;
 
 /// The shares are fixed: of 20 questions 12 are about good trees, 3 about damaged
 /// ones, 3 have odd arguments, 1 is about anything, and 1 is a broken line.
@@ -39,7 +40,7 @@ pub fn line(word: &str, j: u64, asked: &Asked, row: u64, random: &mut Random) ->
 
 /// A row: mostly a used one, else around the last used one and the table's end.
 pub fn row(asked: &Asked, random: &mut Random) -> u64 {
-    let (used, end) = (asked.spots.len() as u64, asked.numbers / 7);
+    let (used, end) = (asked.spots.len() as u64, rows_in(asked.numbers));
     let around = random.below(3);
     match random.below(10) {
         0 => (used + around).saturating_sub(1),

@@ -3,6 +3,7 @@
 
 use crate::broken::{self, Sort};
 use crate::random::{hex, Random};
+use question::{rows_in, MOST_ASKED, MOST_ROWS, WIDTH};
 
 /// Of 20 questions 19 are well-formed, and 1 is a broken line.
 pub fn question(_seed: u64, j: u64, random: &mut Random) -> Vec<u8> {
@@ -13,7 +14,7 @@ pub fn question(_seed: u64, j: u64, random: &mut Random) -> Vec<u8> {
         0 => "-".to_string(),
         _ => numbers.join(","),
     };
-    let row = row(table.len() as u64 / 7, random).to_string();
+    let row = row(rows_in(table.len() as u64), random).to_string();
     let words = ["range", &numbers, &row, &hex(&random.bytes(length))];
     if j % 20 < 19 {
         return words.join(" ").into_bytes();
@@ -26,28 +27,28 @@ pub fn question(_seed: u64, j: u64, random: &mut Random) -> Vec<u8> {
 /// ranges of a recording of that length. Once in eight its length is broken.
 fn table(length: u64, random: &mut Random) -> Vec<u64> {
     let rows = match random.below(2_000) {
-        0 => random.between(4_095, 4_097),
-        1 => 4_285,
+        0 => random.between(MOST_ROWS - 1, MOST_ROWS + 1),
+        1 => rows_in(MOST_ASKED),
         _ => random.one_of(&[0, 1, 1, 2, 3, 4]),
     };
     let mut table: Vec<u64> = (0..rows).flat_map(|_| fields(length, random)).collect();
     if random.once_in(8) {
-        let kept = table.len() as u64 - random.below(7).min(table.len() as u64);
-        table.truncate(kept as usize);
+        let lost = random.below(WIDTH as u64) as usize;
+        table.truncate(table.len().saturating_sub(lost));
     }
     table
 }
 
-/// The seven numbers of a row. Those that tell no place are anything.
-fn fields(length: u64, random: &mut Random) -> [u64; 7] {
-    let mut fields = [(); 7].map(|()| match random.below(3) {
+/// The numbers of a row. Those that tell no place are anything.
+fn fields(length: u64, random: &mut Random) -> [u64; WIDTH] {
+    let mut fields = [(); WIDTH].map(|()| match random.below(3) {
         0 => 0,
         1 => random.below(20),
         _ => random.number(),
     });
     let place = match random.below(8) {
         // An unused row.
-        0 => return [0; 7],
+        0 => return [0; WIDTH],
         // In the recording, to its end or a byte over.
         1..=5 => {
             let end = (length + random.below(4)).saturating_sub(2);
@@ -94,7 +95,7 @@ fn edge(random: &mut Random) -> u64 {
 fn row(rows: u64, random: &mut Random) -> u64 {
     match random.below(8) {
         0 => (rows + random.below(3)).saturating_sub(1),
-        1 => random.one_of(&[4_096, 1 << 32, 1 << 61, 1 << 63, u64::MAX]),
+        1 => random.one_of(&[MOST_ROWS, 1 << 32, 1 << 61, 1 << 63, u64::MAX]),
         _ => random.below(rows.max(1)),
     }
 }

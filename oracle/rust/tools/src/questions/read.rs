@@ -6,6 +6,7 @@ use crate::broken::{self, Sort};
 use crate::list::List;
 use crate::random::{hex, Random};
 use crate::tree::{bad_body, forest, good_body, leaf, written, Body, Node};
+use question::numbers_of;
 use tools::ids::{kind, listed, LISTED, MASTER_KIND, PARENTS};
 
 /// The shares are fixed: of 20 questions 3 are from a walk through the whole
@@ -113,7 +114,7 @@ fn overrun(place: u64) -> Asked {
     // The element behind may need a row too.
     Asked {
         size,
-        numbers: 7 * (spots.len() as u64 + 1),
+        numbers: numbers_of(spots.len() as u64 + 1),
         ..whole(bytes, spots, 0)
     }
 }

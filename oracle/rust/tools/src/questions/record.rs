@@ -11,6 +11,7 @@ use crate::list::{walked, List};
 use crate::random::{hex, Random};
 use crate::track;
 use crate::tree::{id_bytes, size_bytes, written, Node};
+use question::{numbers_of, MOST_ROWS};
 use tools::ids::*;
 
 /// What a question names behind the table: the masters that lead to the record, and
@@ -301,7 +302,7 @@ fn index(count: u64, random: &mut Random) -> u64 {
     match random.below(40) {
         0 => count,
         1 => count + random.below(3),
-        2 => random.one_of(&[u64::MAX, 1 << 63, 1 << 32, 4_096]),
+        2 => random.one_of(&[u64::MAX, 1 << 63, 1 << 32, MOST_ROWS]),
         // It is there if only 32 bits count.
         3 => (1 << 32) + random.below(count.max(1)),
         _ => random.below(count.max(1)),
@@ -462,7 +463,7 @@ pub fn first(word: &Word, more: &[String], bytes: &[u8]) -> Vec<u8> {
         start: 0,
         size: bytes.len() as u64,
         parent: 0,
-        numbers: 7 * 16,
+        numbers: numbers_of(16),
         bytes: bytes.to_vec(),
         spots: Vec::new(),
     };
@@ -540,7 +541,7 @@ pub fn cut_off(word: &Word, nodes: &[Node], at: u64, random: &mut Random) -> Vec
         start: 0,
         size,
         parent: 0,
-        numbers: 7 * spots.len() as u64,
+        numbers: numbers_of(spots.len() as u64),
         bytes,
         spots,
     };
