@@ -14,7 +14,7 @@ use lines::out;
 use lines::words;
 use questions::asked::Asked;
 use questions::asked::asked_of;
-use questions::table::MOST_NUMBERS;
+use questions::table::MOST_ASKED;
 use questions::told::bad;
 use replies::ask_attachment::attachment;
 use replies::ask_audio::audio;
@@ -33,7 +33,7 @@ use replies::ask_uid::uid;
 pub fn answer(
     line: &[u8],
     recording: &mut [u8; 65536],
-    table: &mut [u64; MOST_NUMBERS],
+    table: &mut [u64; MOST_ASKED],
     out: &mut [u8; 65536],
     held: usize,
 ) -> usize {
@@ -45,7 +45,7 @@ pub fn answer(
 fn line_told(
     line: &[u8],
     recording: &mut [u8; 65536],
-    table: &mut [u64; MOST_NUMBERS],
+    table: &mut [u64; MOST_ASKED],
     out: &mut [u8; 65536],
     held: usize,
 ) -> usize {

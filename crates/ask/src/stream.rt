@@ -7,7 +7,7 @@ use lines::input;
 use lines::input::Got;
 use lines::out;
 use lines::words;
-use questions::table::MOST_NUMBERS;
+use questions::table::MOST_ASKED;
 
 // Room for the longest line that is a question, and more. A longer line is none.
 const ROOM: usize = 1_048_576;
@@ -111,7 +111,7 @@ fn answer_lines(read: &[u8], old: usize) -> Answered
     ensures { λ r. ⌜ r .from ≤ length (now (read .entry)) ⌝ }
 {
     let mut recording = [0u8; 65536];
-    let mut table = [0u64; MOST_NUMBERS];
+    let mut table = [0u64; MOST_ASKED];
     let mut out = [0u8; 65536];
     let mut gathered: usize = 0;
     let mut from: usize = 0;

@@ -17,7 +17,7 @@ pub data Descends (rs : List Row) (k : ℕ) : ℕ → Type 0 where
   deeper : (j m : ℕ) → nth rs j .parent ≡ suc m → Descends rs k m → Descends rs k j
 
 -- Row k jumps ahead, at most to the row count. The rows from k + 1 up to before `after` are exactly its descendants, so
--- row `after`, where there is one, is none. Where a sibling follows, the next one is row `after`.
+-- row `after`, where there is one, is not one of them. Where a sibling follows, the next one is row `after`.
 pub record Jump (rs : List Row) (k : ℕ) : Type 0 where
   pub ahead : k < nth rs k .after
   pub held : nth rs k .after ≤ length rs
@@ -27,6 +27,7 @@ pub record Jump (rs : List Row) (k : ℕ) : Type 0 where
       (j : ℕ) → k < j → j < length rs → nth rs j .parent ≡ nth rs k .parent
       → (nth rs k .after ≤ j) × (nth rs (nth rs k .after) .parent ≡ nth rs k .parent)
 
+-- After an accepted read each row does so; n is how many rows there are, so none jumps past it.
 abbrev pub JumpsOver : Type 0
 JumpsOver =
     (s : List ℕ) (start size parent : ℕ) (t : List ℕ) (n : ℕ) (t′ : List ℕ)

@@ -27,7 +27,8 @@ keeping = record { keep = true }
 unfoldable pub isTable : ℕ → Bool
 isTable numbers = eqb (numbers % width) 0 && leb numbers (mostRows * width)
 
--- What document 01 allows: a recording and a table within their limits, a start not past the end.
+-- What document 01 allows, with the row of document 02, C-15: a recording and a table within their limits, a start not
+-- past the end.
 unfoldable pub allowed : List ℕ → ℕ → ℕ → Bool
 allowed s start numbers = leb (length s) mostBytes && (isTable numbers && leb start (length s))
 

@@ -1,4 +1,5 @@
--- The rows of what was read, in preorder, and the numbers of the table that hold them (document 01, Element table).
+-- The rows of what was read, in preorder, and the numbers of the table that hold them (document 01, Element table;
+-- document 02, C-15).
 use Prim.Native.Nat.{ℕ, zero, suc, _+_, _*_}
 use mathlib.Core.List.{List, [], _∷_, _++_}
 use lib.ListN.{getD, drop}

@@ -7,7 +7,7 @@ ghost use Rattle.lines.specs.Bounds.{Few};
 ghost use Rattle.questions.specs.Bounds.{InTable, Lent};
 use crate::table;
 use crate::table::Given;
-use crate::table::MOST_NUMBERS;
+use crate::table::MOST_ASKED;
 use lines::words;
 use lines::words::Count;
 use lines::words::Named;
@@ -36,7 +36,7 @@ pub fn asked_of(
     line: &[u8],
     form: &[u8],
     recording: &mut [u8; 65536],
-    table: &mut [u64; MOST_NUMBERS],
+    table: &mut [u64; MOST_ASKED],
 ) -> Asked
     ensures { λ r. ⌜ Lent r ⌝ }
 {
@@ -82,7 +82,7 @@ fn with_word(
     letter: u8,
     word: &[u8],
     recording: &mut [u8; 65536],
-    table: &mut [u64; MOST_NUMBERS],
+    table: &mut [u64; MOST_ASKED],
 ) -> Asked
     requires { ⌜ Lent asked ⌝ }
     ensures { λ r. ⌜ Lent r ⌝ }

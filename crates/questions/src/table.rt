@@ -12,7 +12,7 @@ use lines::words;
 use lines::words::Count;
 
 // A question's table has at most so many numbers.
-pub const MOST_NUMBERS: usize = 36_000;
+pub const MOST_ASKED: usize = 36_000;
 
 // How many numbers the table has, where the word tells it.
 pub enum Given {
@@ -21,13 +21,13 @@ pub enum Given {
 }
 
 // NUMBERS: so many numbers, each 2^64-1.
-pub fn filled(word: &[u8], table: &mut [u64; MOST_NUMBERS]) -> Given
+pub fn filled(word: &[u8], table: &mut [u64; MOST_ASKED]) -> Given
     ensures { λ r. ⌜ InTable r ⌝ }
 {
     let Count::Is(count) = words::decimal(word) else {
         return Given::Bad;
     };
-    if (MOST_NUMBERS as u64) < count {
+    if (MOST_ASKED as u64) < count {
         return Given::Bad;
     }
     let n = count as usize;
@@ -40,7 +40,7 @@ pub fn filled(word: &[u8], table: &mut [u64; MOST_NUMBERS]) -> Given
 }
 
 // `N,N,..`: the numbers themselves, or `-` for none.
-pub fn listed(word: &[u8], table: &mut [u64; MOST_NUMBERS]) -> Given
+pub fn listed(word: &[u8], table: &mut [u64; MOST_ASKED]) -> Given
     ensures { λ r. ⌜ InTable r ⌝ }
 {
     if words::same(word, b"-") {
@@ -48,7 +48,7 @@ pub fn listed(word: &[u8], table: &mut [u64; MOST_NUMBERS]) -> Given
     }
     let mut n: usize = 0;
     let mut at: usize = 0;
-    while n < MOST_NUMBERS {
+    while n < MOST_ASKED {
         let end = words::find(word, at, b',');
         let Count::Is(value) = words::decimal(&word[at..end]) else {
             return Given::Bad;

@@ -2,15 +2,15 @@
 use borrow.Author.Needs.{needs}
 use Prim.Native.Nat.{_-_, _≤_}
 use lib.ListN.{length}
-use Rattle.questions.specs.Bounds.{mostNumbers}
+use Rattle.questions.specs.Bounds.{mostAsked}
 use Rattle.questions.proofs.table.listed.Statement.{statement}
 use Rattle.questions.proofs.table.listed.Tie as tie
 
 abbrev Inv-loop : tie.InvT-loop
-Inv-loop word table₀ n₀ at₀ table n at = (n ≤ mostNumbers) × (at ≤ length word)
+Inv-loop word table₀ n₀ at₀ table n at = (n ≤ mostAsked) × (at ≤ length word)
 
 abbrev μ-loop : tie.MeasureT-loop
-μ-loop word table₀ n₀ at₀ table n at = mostNumbers - n
+μ-loop word table₀ n₀ at₀ table n at = mostAsked - n
 
 slice-aggregate-same : tie.Need-slice-aggregate-same Inv-loop μ-loop
 slice-aggregate-same c = search needs
