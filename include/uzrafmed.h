@@ -64,10 +64,16 @@ int main(int count, char **words) {
   Addresses. An address counts bytes from the start of the recording, and the first byte has address 0. This holds
   for every address that is given or taken, whatever part it lies in.
 
-  The table. The caller lends numbers of 64 bits, seven a row, and a call writes one row for each element of a
+  The table. The caller lends numbers of 64 bits, UZ_WIDTH a row, and a call writes one row for each element of a
   payload, in the order of the file: a master (an element that holds elements) stands right before what it holds.
-  Row R of a table T is T[R * UZ_WIDTH] up to T[R * UZ_WIDTH + 6]; the columns are named below. A table has 0 to
-  4,096 rows, so its count of numbers is a multiple of 7 and at most 28,672.
+  Row R of a table T is T[R * UZ_WIDTH] up to T[R * UZ_WIDTH + UZ_WIDTH - 1]; the columns are named below. A table has
+  0 to UZ_MOST_ROWS rows, so its count of numbers is a multiple of UZ_WIDTH and at most UZ_MOST_NUMBERS.
+
+  Rows below a row. The last number of row R, A = T[R * UZ_WIDTH + UZ_AFTER], is the first row after it that does not
+  lie in its element, or the count of rows where there is none. It is a row's number as it is, without the plus 1 of
+  UZ_PARENT, and never 0 in a row that was written. So rows R + 1 up to A - 1 are what the element holds, at any depth,
+  and a leaf has A = R + 1. The next element in the same master, where there is one, is row A: it has the same
+  UZ_PARENT as row R. The direct children of a master are thus rows R + 1, the A of that row, and so on up to its own A.
 
   What every call asks and promises.
 
@@ -109,7 +115,7 @@ extern "C" {
 
 /* Limits of document 01. */
 #define UZ_MOST_BYTES UINT64_C(4294967295)        /* the longest recording */
-#define UZ_WIDTH 7                                /* the numbers of a row */
+#define UZ_WIDTH 8                                /* the numbers of a row */
 #define UZ_MOST_ROWS 4096                         /* the most rows of a table */
 #define UZ_MOST_NUMBERS (UZ_MOST_ROWS * UZ_WIDTH) /* the most numbers of a table */
 #define UZ_MOST_HEADS 64                          /* the most seek heads that a search reads */
@@ -136,6 +142,7 @@ extern "C" {
 #define UZ_PAYLOAD 4 /* how many bytes the payload has; they follow the header */
 #define UZ_KIND 5    /* one of the kinds below */
 #define UZ_DEPTH 6   /* 0 for a direct element of the payload that was read, up to UZ_MOST_DEPTH */
+#define UZ_AFTER 7   /* the first row after it that is not below it, or the count of rows; a number without plus 1 */
 
 /* The kinds of an element, by what its payload holds. A row of any kind but UZ_MASTER is a leaf row. */
 #define UZ_MASTER 1   /* elements; their rows follow */
@@ -227,8 +234,8 @@ typedef struct uz_place {
     11  64 linked seek heads were read, and the last names one more
     12  an element of the part or of a seek head would lie at depth 16
     13  the part has more elements than the table has rows
-    14  length exceeds UZ_MOST_BYTES, numbers is no multiple of 7 or exceeds UZ_MOST_NUMBERS, or part is none of
-        the four
+    14  length exceeds UZ_MOST_BYTES, numbers is no multiple of UZ_WIDTH or exceeds UZ_MOST_NUMBERS, or part is none
+        of the four
 
   Not promised: that the part lies within the segment, that it is the only one of its id, or that two parts do not
   overlap. A recording with several segments is searched in the first alone.
@@ -246,8 +253,8 @@ uz_part uz_find_part(const uint8_t *recording, size_t length, uint32_t part, uin
   Owns: nothing. The bytes stay the caller's. Reads: the table; of the recording only its length. Writes: nothing.
 
   Refusals:
-    14  length exceeds UZ_MOST_BYTES, numbers is no multiple of 7 or exceeds UZ_MOST_NUMBERS, the table has no such
-        row (row >= numbers / 7), or the row's range is not in the recording
+    14  length exceeds UZ_MOST_BYTES, numbers is no multiple of UZ_WIDTH or exceeds UZ_MOST_NUMBERS, the table has no
+        such row (row >= numbers / UZ_WIDTH), or the row's range is not in the recording
 
   Not promised: that the row was ever written. An unused row is all zeros and gives 0 bytes at address 0, so
   compare row with the `rows` of the call that wrote the table.
@@ -276,7 +283,8 @@ uz_range uz_row_payload(const uint8_t *recording, size_t length, const uint64_t 
      7  a text is not UTF-8
     12  an element would lie at depth 16
     13  the payload has more elements than the table has rows
-    14  length exceeds UZ_MOST_BYTES, numbers is no multiple of 7 or exceeds UZ_MOST_NUMBERS, or start exceeds length
+    14  length exceeds UZ_MOST_BYTES, numbers is no multiple of UZ_WIDTH or exceeds UZ_MOST_NUMBERS, or start exceeds
+        length
     15  address is not one of the `size` bytes from start on
 
   Not promised: that start is the begin of an element. Bytes from elsewhere are read as elements too, and are

@@ -6,7 +6,9 @@ import re
 
 from tools import Tools, time_of
 
+# The most rows of a table, and how many numbers a row has (docs/ASK.md).
 ROWS = 4096
+WIDTH = 8
 PARTS = collections.OrderedDict([
     ('Tracks', (0x1654AE6B, 0xAE)), ('Attachments', (0x1941A469, 0x61A7)), ('Chapters', (0x1043A770, 0x45B9)),
     ('Tags', (0x1254C367, 0x7373))])

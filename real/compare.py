@@ -16,12 +16,12 @@ import sys
 import zlib
 
 import tools
-from against import Against, DEFAULTS, PARTS, PLAIN, ROWS, Tally, shown_number
+from against import Against, DEFAULTS, PARTS, PLAIN, ROWS, Tally, WIDTH, shown_number
 from tools import time_of
 
 SMALL = 65536
 CRC = 0xBF
-NUMBERS = 7 * ROWS
+NUMBERS = WIDTH * ROWS
 KIND = [None, 'master', 'int', 'uint', 'string', 'utf8', 'binary', 'float', 'date']
 # The numbers and flags of a track: the field of our answer, its id, mkvinfo's label, mkvmerge's property, and ffprobe's
 # disposition; None where the tool does not show it.
@@ -80,7 +80,7 @@ class Asker:
 class Row:
     def __init__(self, words):
         self.id = int(words[0], 16)
-        self.parent, self.at, self.header, self.payload, self.kind, self.depth = map(int, words[1:7])
+        self.parent, self.at, self.header, self.payload, self.kind, self.depth, self.after = map(int, words[1:WIDTH])
 
     def start(self):
         return self.at + self.header
@@ -154,7 +154,7 @@ class Comparison(Against):
                 part = out[label] = Part(self.change('part ' + label, line[len(prefix):]))
                 # Behind each row stands where uz_row_payload says that its payload is.
                 for row, words in zip(part.rows, line.split(' / ')[1:]):
-                    self.same('%s: the payload by the C face' % label, words.split()[7],
+                    self.same('%s: the payload by the C face' % label, words.split()[WIDTH],
                               '%d+%d' % (row.start(), row.payload), 'payloads')
         for label, part in out.items():
             self.same('%s: count of rows' % label, len(part.rows), getattr(part, 'told', 0))
@@ -209,8 +209,10 @@ class Comparison(Against):
                     k += 1
                 if inside:
                     self.find('plain master', '%s: id %X with %d elements' % (where, row.id, inside))
+                self.after(where, part, row, pairs[-1][1], shown[k:])
             elif self.is_crc(part.rows, index):
                 self.find('crc-32', where)
+                self.same(where + ': after', row.after, index + 1)
             else:
                 self.fail('%s: mkvinfo has no element there' % where)
                 break
@@ -230,6 +232,15 @@ class Comparison(Against):
             self.find('plain bytes', '%s: id %X, %s by Matroska' % (where, row.id, known))
         else:
             self.same(where + ': kind', kind, known)
+
+    def after(self, where, part, row, shown, behind):
+        """The row that the last number names is the first of mkvinfo's elements behind this one that begins where it
+        ends or later; a CRC-32 is the first in its master, so none stands there."""
+        due = next((element.at for element in behind if element.at >= shown.end()), None)
+        if row.after < len(part.rows):
+            self.same(where + ': after', part.rows[row.after].at, due)
+        else:
+            self.same(where + ': after', (row.after, None), (len(part.rows), due))
 
     def values(self, pairs):
         """The value that `body` tells of each leaf, against mkvinfo's."""

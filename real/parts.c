@@ -2,7 +2,7 @@
 //
 //   part ID refused N | part ID absent heads H rows 0 | part ID at A size S heads H rows N / row / row ..
 //
-// with each row's seven numbers (id in hexadecimal digits, the rest decimal) as `ask` tells them (docs/ASK.md), and
+// with each row's numbers (id in hexadecimal digits, the rest decimal) as `ask` tells them (docs/ASK.md), and
 // behind them where uz_row_payload says that the row's payload is, as ADDRESS+LENGTH.
 // parts FILE ID ADDRESS.. prints for each address of that part what uz_whose_byte says: 'whose ADDRESS row R header',
 // 'whose ADDRESS row R payload' or 'whose ADDRESS refused N'.

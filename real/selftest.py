@@ -7,6 +7,8 @@ import copy
 import json
 import re
 
+from against import WIDTH
+
 RECORDINGS = ['ff-all.mkv', 'mm-all.mkv', 'mm-ordered.mkv', 'mm-attachments.mkv', 'mm-marks.mkv', 'pe-settings.mkv',
               'large-mm.mkv']
 
@@ -67,7 +69,7 @@ def part_changes(answer):
         fewer = re.sub(r'rows (\d+)', 'rows %d' % (len(rows) - 1), head)
         yield ' / '.join([fewer] + rows[:k] + rows[k + 1:])
         words = rows[k].split(' ')
-        for i in range(7):
+        for i in range(WIDTH):
             value = '%X' % (int(words[0], 16) ^ 1) if i == 0 else str(int(words[i]) + 1)
             yield ' / '.join([head] + rows[:k] + [' '.join(words[:i] + [value] + words[i + 1:])] + rows[k + 1:])
 

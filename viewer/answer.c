@@ -18,7 +18,7 @@
 // The limits of docs/ASK.md: bytes of a line, bytes of a recording, numbers of a table.
 #define MOST_LINE 1048576
 #define MOST_RECORDING 65536
-#define MOST_TABLE 30000
+#define MOST_TABLE 36000
 
 // The most words that a question has.
 #define MOST_WORDS 7

@@ -277,9 +277,9 @@ static void test_example(void) {
     static const char bytes[] = "18538067A2114D9B748E4DBB8B53AB841254C36753AC8113"
                                 "1254C3678A73738767C88445A38141";
     static const uint64_t rows[3 * UZ_WIDTH] = {
-        0x7373, 0, 29, 3, 7, UZ_MASTER, 0, //
-        0x67C8, 1, 32, 3, 4, UZ_MASTER, 1, //
-        0x45A3, 2, 35, 3, 1, UZ_UTF8,   2, //
+        0x7373, 0, 29, 3, 7, UZ_MASTER, 0, 3, //
+        0x67C8, 1, 32, 3, 4, UZ_MASTER, 1, 3, //
+        0x45A3, 2, 35, 3, 1, UZ_UTF8,   2, 3, //
     };
     about = "document 01's 39 bytes";
     recording from = hex(bytes, false);
@@ -306,35 +306,53 @@ static void test_example(void) {
     }
 }
 
+// A master in a master, a leaf in that and one behind both: every number of the rows.
+static void test_after(void) {
+    static const uint64_t rows[4 * UZ_WIDTH] = {
+        0xA0, 0, 0, 2, 4, UZ_MASTER, 0, 3, //
+        0xA0, 1, 2, 2, 2, UZ_MASTER, 1, 3, //
+        0xEC, 2, 4, 2, 0, UZ_BINARY, 2, 3, //
+        0xEC, 0, 6, 2, 0, UZ_BINARY, 0, 4, //
+    };
+    about = "document 02's 8 bytes";
+    recording from = hex("A084A082EC80EC80", false);
+    for (uint64_t i = 0; i < from.length; i++) {
+        lent to = lend(large_tables, 5 * UZ_WIDTH, i % 2 != 0);
+        uz_place due = {0, i / 2, 0, 4};
+        check(same_place(whose_byte(from, 0, from.length, 0, i, to), due), "the owner");
+        check(memcmp(to.table, rows, sizeof rows) == 0, "the rows");
+    }
+}
+
 typedef struct {
     const char *bytes;
     uint32_t part;
-    size_t numbers;
+    size_t rows; // of the table that is lent
     uz_part due;
 } part_case;
 
 // clang-format off
 static const part_case part_cases[] = {
     // 1: nothing at all; no segment; a seek entry past the end; the part cut short.
-    {"", UZ_TAGS, 7, {1, 0, 0, 0, 0, 0, 0}},
-    {"EC81", UZ_TAGS, 7, {1, 0, 0, 0, 0, 0, 0}},
+    {"", UZ_TAGS, 1, {1, 0, 0, 0, 0, 0, 0}},
+    {"EC81", UZ_TAGS, 1, {1, 0, 0, 0, 0, 0, 0}},
     {"1853806784EC81", UZ_TAGS, 0, {1, 0, 0, 0, 0, 0, 0}},
-    {"0000", UZ_TAGS, 7, {1, 0, 0, 0, 0, 0, 0}},
-    {"1853806793114D9B748E4DBB8B53AB841254C36753AC8113", UZ_TAGS, 7, {1, 0, 0, 0, 0, 0, 0}},
-    {"18538067871254C3678285", UZ_TAGS, 7, {1, 0, 0, 0, 0, 0, 0}},
+    {"0000", UZ_TAGS, 1, {1, 0, 0, 0, 0, 0, 0}},
+    {"1853806793114D9B748E4DBB8B53AB841254C36753AC8113", UZ_TAGS, 1, {1, 0, 0, 0, 0, 0, 0}},
+    {"18538067871254C3678285", UZ_TAGS, 1, {1, 0, 0, 0, 0, 0, 0}},
     // 2 and 3: ids and sizes that are too long; a child that overruns; an element that does.
-    {"0F80", UZ_TAGS, 7, {2, 0, 0, 0, 0, 0, 0}},
-    {"0001", UZ_TAGS, 7, {2, 0, 0, 0, 0, 0, 0}},
-    {"AE0001", UZ_TAGS, 7, {3, 0, 0, 0, 0, 0, 0}},
+    {"0F80", UZ_TAGS, 1, {2, 0, 0, 0, 0, 0, 0}},
+    {"0001", UZ_TAGS, 1, {2, 0, 0, 0, 0, 0, 0}},
+    {"AE0001", UZ_TAGS, 1, {3, 0, 0, 0, 0, 0, 0}},
     {"1853806781EC80", UZ_TAGS, 0, {3, 0, 0, 0, 0, 0, 0}},
-    {"18538067871254C36782EC8141", UZ_TAGS, 7, {3, 0, 0, 0, 0, 0, 0}},
+    {"18538067871254C36782EC8141", UZ_TAGS, 1, {3, 0, 0, 0, 0, 0, 0}},
     // 4 to 7: bodies.
-    {"18538067871254C367828389", UZ_TAGS, 7, {4, 0, 0, 0, 0, 0, 0}},
-    {"18538067871254C36782FB89", UZ_TAGS, 7, {4, 0, 0, 0, 0, 0, 0}},
-    {"18538067871254C36782B580", UZ_TAGS, 7, {5, 0, 0, 0, 0, 0, 0}},
-    {"18538067881254C36783446187", UZ_TAGS, 7, {6, 0, 0, 0, 0, 0, 0}},
-    {"185380678A1254C3678545A382C080", UZ_TAGS, 7, {7, 0, 0, 0, 0, 0, 0}},
-    {"185380678A1254C3678545A382C2A0", UZ_TAGS, 7, {0, 0, 1, 10, 5, 1, 0}},
+    {"18538067871254C367828389", UZ_TAGS, 1, {4, 0, 0, 0, 0, 0, 0}},
+    {"18538067871254C36782FB89", UZ_TAGS, 1, {4, 0, 0, 0, 0, 0, 0}},
+    {"18538067871254C36782B580", UZ_TAGS, 1, {5, 0, 0, 0, 0, 0, 0}},
+    {"18538067881254C36783446187", UZ_TAGS, 1, {6, 0, 0, 0, 0, 0, 0}},
+    {"185380678A1254C3678545A382C080", UZ_TAGS, 1, {7, 0, 0, 0, 0, 0, 0}},
+    {"185380678A1254C3678545A382C2A0", UZ_TAGS, 1, {0, 0, 1, 10, 5, 1, 0}},
     // 8 to 10: the entries. The id of 8 is the entry's.
     {"185380679A114D9B74954DBB9253AB84114D9B7453AC88FFFFFFFFFFFFFFFF",
      UZ_TAGS, 0, {8, SEEK_HEAD, 0, 0, 0, 0, 0}},
@@ -342,41 +360,41 @@ static const part_case part_cases[] = {
      UZ_TAGS, 0, {8, UZ_TAGS, 0, 0, 0, 0, 0}},
     {"185380679A114D9B74954DBB9253AB841254C36753AC88FFFFFFFFFFFFFFFF",
      UZ_CHAPTERS, 0, {0, 0, 0, 0, 0, 0, 1}},
-    {"1853806793114D9B748E4DBB8B53AB841254C36753AC8100", UZ_TAGS, 7, {9, 0, 0, 0, 0, 0, 0}},
-    {"1853806793114D9B748E4DBB8B53AB841254C36753AC8100", UZ_TRACKS, 7, {0, 0, 0, 0, 0, 0, 1}},
-    {"1853806793114D9B748E4DBB8B53AB84114D9B7453AC8100", UZ_TAGS, 7, {10, 0, 0, 0, 0, 0, 0}},
-    {"1853806795114D9B748E4DBB8B53AB84114D9B7453AC8113EC80", UZ_TAGS, 7, {9, 0, 0, 0, 0, 0, 0}},
+    {"1853806793114D9B748E4DBB8B53AB841254C36753AC8100", UZ_TAGS, 1, {9, 0, 0, 0, 0, 0, 0}},
+    {"1853806793114D9B748E4DBB8B53AB841254C36753AC8100", UZ_TRACKS, 1, {0, 0, 0, 0, 0, 0, 1}},
+    {"1853806793114D9B748E4DBB8B53AB84114D9B7453AC8100", UZ_TAGS, 1, {10, 0, 0, 0, 0, 0, 0}},
+    {"1853806795114D9B748E4DBB8B53AB84114D9B7453AC8113EC80", UZ_TAGS, 1, {9, 0, 0, 0, 0, 0, 0}},
     // The last entry of an id wins.
     {"18538067A6114D9B749C4DBB8B53AB841254C36753AC81004DBB8B53AB841254C36753AC81211254C36780",
      UZ_TAGS, 0, {0, 0, 1, 43, 0, 0, 1}},
     {"18538067A6114D9B749C4DBB8B53AB841254C36753AC81214DBB8B53AB841254C36753AC81001254C36780",
      UZ_TAGS, 0, {9, 0, 0, 0, 0, 0, 0}},
     // Any master is one directly below each part.
-    {"185380678A1654AE6B85E083B08101", UZ_TRACKS, 14, {0, 0, 1, 10, 5, 2, 0}},
-    {"185380678A1941A46985E083B08101", UZ_ATTACHMENTS, 14, {0, 0, 1, 10, 5, 2, 0}},
-    {"185380678A1043A77085E083B08101", UZ_CHAPTERS, 14, {0, 0, 1, 10, 5, 2, 0}},
-    {"185380678A1254C36785E083B08101", UZ_TAGS, 14, {0, 0, 1, 10, 5, 2, 0}},
+    {"185380678A1654AE6B85E083B08101", UZ_TRACKS, 2, {0, 0, 1, 10, 5, 2, 0}},
+    {"185380678A1941A46985E083B08101", UZ_ATTACHMENTS, 2, {0, 0, 1, 10, 5, 2, 0}},
+    {"185380678A1043A77085E083B08101", UZ_CHAPTERS, 2, {0, 0, 1, 10, 5, 2, 0}},
+    {"185380678A1254C36785E083B08101", UZ_TAGS, 2, {0, 0, 1, 10, 5, 2, 0}},
     // 12: in a seek head, and in the part; depth 15 is accepted.
     {"18538067A7114D9B74A2AEA0AE9EAE9CAE9AAE98AE96AE94AE92AE90AE8EAE8CAE8AAE88AE86AE84AE82AE80",
      UZ_TAGS, 0, {12, 0, 0, 0, 0, 0, 0}},
     {"18538067A71254C367A2AEA0AE9EAE9CAE9AAE98AE96AE94AE92AE90AE8EAE8CAE8AAE88AE86AE84AE82AE80",
-     UZ_TAGS, 119, {12, 0, 0, 0, 0, 0, 0}},
+     UZ_TAGS, 17, {12, 0, 0, 0, 0, 0, 0}},
     {"18538067A51254C367A0AE9EAE9CAE9AAE98AE96AE94AE92AE90AE8EAE8CAE8AAE88AE86AE84AE82AE80",
-     UZ_TAGS, 112, {0, 0, 1, 10, 32, 16, 0}},
+     UZ_TAGS, 16, {0, 0, 1, 10, 32, 16, 0}},
     // 13: one row too few, and none. An empty part needs none.
-    {"18538067891254C36784EC80EC80", UZ_TAGS, 7, {13, 0, 0, 0, 0, 0, 0}},
-    {"18538067891254C36784EC80EC80", UZ_TAGS, 14, {0, 0, 1, 10, 4, 2, 0}},
+    {"18538067891254C36784EC80EC80", UZ_TAGS, 1, {13, 0, 0, 0, 0, 0, 0}},
+    {"18538067891254C36784EC80EC80", UZ_TAGS, 2, {0, 0, 1, 10, 4, 2, 0}},
     {"18538067871254C36782EC80", UZ_TAGS, 0, {13, 0, 0, 0, 0, 0, 0}},
     {"18538067851254C36780", UZ_TAGS, 0, {0, 0, 1, 10, 0, 0, 0}},
     // 14: no part of the four, before anything in the recording.
-    {"0F80", 0, 7, {14, 0, 0, 0, 0, 0, 0}},
-    {"0F80", SEEK_HEAD, 7, {14, 0, 0, 0, 0, 0, 0}},
-    {"0F80", UZ_UNDER_TAGS, 7, {14, 0, 0, 0, 0, 0, 0}},
-    {"0F80", UINT32_MAX, 7, {14, 0, 0, 0, 0, 0, 0}},
+    {"0F80", 0, 1, {14, 0, 0, 0, 0, 0, 0}},
+    {"0F80", SEEK_HEAD, 1, {14, 0, 0, 0, 0, 0, 0}},
+    {"0F80", UZ_UNDER_TAGS, 1, {14, 0, 0, 0, 0, 0, 0}},
+    {"0F80", UINT32_MAX, 1, {14, 0, 0, 0, 0, 0, 0}},
     // Absent: an empty segment; a head that does not name it. A part may pass its segment's end.
-    {"1853806780", UZ_TAGS, 7, {0, 0, 0, 0, 0, 0, 0}},
+    {"1853806780", UZ_TAGS, 1, {0, 0, 0, 0, 0, 0, 0}},
     {"185380678A114D9B74801254C36780", UZ_TAGS, 0, {0, 0, 0, 0, 0, 0, 1}},
-    {"18538067811254C36782EC80", UZ_TAGS, 7, {0, 0, 1, 10, 2, 1, 0}},
+    {"18538067811254C36782EC80", UZ_TAGS, 1, {0, 0, 1, 10, 2, 1, 0}},
 };
 // clang-format on
 
@@ -386,7 +404,7 @@ static void test_parts(void) {
         about = asked->bytes;
         for (unsigned front = 0; front < 2; front++) {
             recording from = hex(asked->bytes, front != 0);
-            lent to = lend(large_tables, asked->numbers, front != 0);
+            lent to = lend(large_tables, asked->rows * UZ_WIDTH, front != 0);
             check(is_part(find_part(from, asked->part, to), asked->due), "the worked reply");
         }
     }
@@ -426,25 +444,41 @@ static recording siblings(unsigned count, bool front) {
     return placed(to->bytes, to->length, front);
 }
 
-static void test_tables(void) {
+// A table's lengths, in plain numbers: those with whole rows and at most 4,096 of them are good.
+static void test_lengths(void) {
     about = "a table's length";
-    static const size_t broken[] = {
-        1, 6, 8, 13, UZ_MOST_NUMBERS - 1, UZ_MOST_NUMBERS + 1, UZ_MOST_NUMBERS + 7};
+    static const struct {
+        size_t numbers;
+        uint64_t rows; // 0 for a length that is refused
+    } lengths[] = {{1, 0},     {6, 0},        {7, 0},        {8, 1},     {9, 0},
+                   {15, 0},    {16, 2},       {49, 0},       {55, 0},    {56, 7},
+                   {57, 0},    {28672, 3584}, {32760, 4095}, {32767, 0}, {32768, UZ_MOST_ROWS},
+                   {32769, 0}, {32776, 0}};
     for (unsigned front = 0; front < 2; front++) {
         recording from = siblings(1, front != 0);
-        for (size_t i = 0; i < sizeof broken / sizeof *broken; i++) {
-            lent to = lend(large_tables, broken[i], front != 0);
-            check(find_part(from, UZ_TAGS, to).refused == UZ_BAD_ARGUMENT, "part: 14");
-            to = lend(large_tables, broken[i], front != 0);
-            uz_place said = whose_byte(from, 0, 1, 0, 99, to);
-            check(said.refused == UZ_BAD_ARGUMENT, "whose: 14 comes before 15");
-            to = lend(large_tables, broken[i], front != 0);
-            uz_range range = uz_row_payload(from.bytes, from.length, to.table, to.numbers, 0);
+        for (size_t i = 0; i < sizeof lengths / sizeof *lengths; i++) {
+            size_t numbers = lengths[i].numbers;
+            uint64_t rows = lengths[i].rows;
+            lent to = lend(large_tables, numbers, front != 0);
+            uint64_t due = rows > 0 ? UZ_ACCEPTED : UZ_BAD_ARGUMENT;
+            check(find_part(from, UZ_TAGS, to).refused == due, "part: 14, or a row");
+            to = lend(large_tables, numbers, front != 0);
+            due = rows > 0 ? UZ_OUTSIDE : UZ_BAD_ARGUMENT;
+            check(whose_byte(from, 0, 1, 0, 99, to).refused == due, "whose: 14 comes before 15");
+            to = lend(large_tables, numbers, front != 0);
+            uz_range range = uz_row_payload(from.bytes, from.length, to.table, to.numbers, rows);
             check(is_range(range, UZ_BAD_ARGUMENT, 0, 0), "payload: 14");
             check(all_are(to.table, to.table + to.numbers, FILLED), "payload: only read");
+            if (rows == 0)
+                continue;
+            memset(to.table, 0, numbers * sizeof *to.table);
+            range = uz_row_payload(from.bytes, from.length, to.table, to.numbers, rows - 1);
+            check(is_range(range, UZ_ACCEPTED, 0, 0), "payload: the last row, unused");
         }
     }
+}
 
+static void test_tables(void) {
     about = "a full table";
     static const unsigned rows[] = {0, 1, 2, UZ_MOST_ROWS - 1, UZ_MOST_ROWS};
     for (size_t i = 0; i < sizeof rows / sizeof *rows; i++) {
@@ -510,7 +544,13 @@ static void test_payload(void) {
         check(is_range(said, asked[i].refused, good ? asked[i].address + asked[i].header : 0,
                        good ? asked[i].payload : 0),
               "the range of made-up numbers");
-        static const uint64_t beyond[] = {2,         3, UZ_MOST_ROWS, UINT32_MAX, UINT64_MAX / 7,
+        // The fifth is the first whose numbers would lie past 2^64.
+        static const uint64_t beyond[] = {2,
+                                          3,
+                                          UZ_MOST_ROWS,
+                                          UINT32_MAX,
+                                          UINT64_MAX / UZ_WIDTH + 1,
+                                          UINT64_MAX / UZ_WIDTH,
                                           UINT64_MAX};
         for (size_t k = 0; k < sizeof beyond / sizeof *beyond; k++) {
             said = uz_row_payload(from.bytes, from.length, to.table, to.numbers, beyond[k]);
@@ -537,43 +577,43 @@ typedef struct {
     uint64_t start, size;
     uint32_t parent;
     uint64_t address;
-    size_t numbers;
+    size_t rows; // of the table that is lent
     uz_place due;
 } place_case;
 
 // clang-format off
 static const place_case place_cases[] = {
     // A setting of the bench, below a tag.
-    {"67C88C45A3847261696C4487823556", 0, 15, 0x7373, 8, 28, {0, 1, 1, 3}},
-    {"67C88C45A3847261696C4487823556", 0, 15, 0x7373, 0, 28, {0, 0, 0, 3}},
-    {"67C88C45A3847261696C4487823556", 3, 12, 0x67C8, 14, 14, {0, 1, 1, 2}},
-    {"67C88C45A3847261696C4487823556", 0, 14, 0x7373, 8, 28, {3, 0, 0, 0}},
+    {"67C88C45A3847261696C4487823556", 0, 15, 0x7373, 8, 4, {0, 1, 1, 3}},
+    {"67C88C45A3847261696C4487823556", 0, 15, 0x7373, 0, 4, {0, 0, 0, 3}},
+    {"67C88C45A3847261696C4487823556", 3, 12, 0x67C8, 14, 2, {0, 1, 1, 2}},
+    {"67C88C45A3847261696C4487823556", 0, 14, 0x7373, 8, 4, {3, 0, 0, 0}},
     // 14 for the start; the end itself is allowed, and no address lies there.
-    {"EC80", 3, 2, 0, 3, 7, {14, 0, 0, 0}},
-    {"EC80", 3, 2, 0, 9, 7, {14, 0, 0, 0}},
-    {"EC80", UINT64_MAX, 1, 0, UINT64_MAX, 7, {14, 0, 0, 0}},
-    {"EC80", 2, 0, 0, 2, 7, {15, 0, 0, 0}},
-    {"EC80", 2, 1, 0, 2, 7, {1, 0, 0, 0}},
+    {"EC80", 3, 2, 0, 3, 1, {14, 0, 0, 0}},
+    {"EC80", 3, 2, 0, 9, 1, {14, 0, 0, 0}},
+    {"EC80", UINT64_MAX, 1, 0, UINT64_MAX, 1, {14, 0, 0, 0}},
+    {"EC80", 2, 0, 0, 2, 1, {15, 0, 0, 0}},
+    {"EC80", 2, 1, 0, 2, 1, {1, 0, 0, 0}},
     // 15 comes before the reading.
-    {"EC80", 0, 2, 0, 2, 7, {15, 0, 0, 0}},
-    {"EC80", 1, 1, 0, 0, 7, {15, 0, 0, 0}},
-    {"0F80", 0, 2, 0, 2, 7, {15, 0, 0, 0}},
-    {"0F80", 0, 2, 0, 1, 7, {2, 0, 0, 0}},
-    {"EC80", 0, 0, 0, 0, 7, {15, 0, 0, 0}},
-    {"EC80", 0, 100, 0, 50, 7, {1, 0, 0, 0}},
-    {"EC80", 1, UINT64_MAX, 0, UINT64_MAX, 7, {1, 0, 0, 0}},
-    {"EC80", 0, 2, 0, UINT64_MAX, 7, {15, 0, 0, 0}},
+    {"EC80", 0, 2, 0, 2, 1, {15, 0, 0, 0}},
+    {"EC80", 1, 1, 0, 0, 1, {15, 0, 0, 0}},
+    {"0F80", 0, 2, 0, 2, 1, {15, 0, 0, 0}},
+    {"0F80", 0, 2, 0, 1, 1, {2, 0, 0, 0}},
+    {"EC80", 0, 0, 0, 0, 1, {15, 0, 0, 0}},
+    {"EC80", 0, 100, 0, 50, 1, {1, 0, 0, 0}},
+    {"EC80", 1, UINT64_MAX, 0, UINT64_MAX, 1, {1, 0, 0, 0}},
+    {"EC80", 0, 2, 0, UINT64_MAX, 1, {15, 0, 0, 0}},
     // Document 01's P9 to P12, and the order of 13 and the body.
-    {"B580", 0, 2, 0, 0, 7, {5, 0, 0, 0}},
-    {"446187", 0, 3, 0, 0, 7, {6, 0, 0, 0}},
-    {"45A383EDA080", 0, 6, 0, 0, 7, {7, 0, 0, 0}},
-    {"838900", 0, 3, 0, 0, 7, {4, 0, 0, 0}},
-    {"67C88445A3824142", 0, 7, 0, 0, 14, {3, 0, 0, 0}},
-    {"67C88445A38241", 0, 7, 0, 0, 14, {1, 0, 0, 0}},
-    {"1654AE6B82E080", 0, 7, SEGMENT, 6, 14, {0, 1, 0, 2}},
+    {"B580", 0, 2, 0, 0, 1, {5, 0, 0, 0}},
+    {"446187", 0, 3, 0, 0, 1, {6, 0, 0, 0}},
+    {"45A383EDA080", 0, 6, 0, 0, 1, {7, 0, 0, 0}},
+    {"838900", 0, 3, 0, 0, 1, {4, 0, 0, 0}},
+    {"67C88445A3824142", 0, 7, 0, 0, 2, {3, 0, 0, 0}},
+    {"67C88445A38241", 0, 7, 0, 0, 2, {1, 0, 0, 0}},
+    {"1654AE6B82E080", 0, 7, SEGMENT, 6, 2, {0, 1, 0, 2}},
     {"EC81", 0, 2, 0, 0, 0, {13, 0, 0, 0}},
     {"AEA0AE9EAE9CAE9AAE98AE96AE94AE92AE90AE8EAE8CAE8AAE88AE86AE84AE82AE80",
-     0, 34, 0, 0, 119, {12, 0, 0, 0}},
+     0, 34, 0, 0, 17, {12, 0, 0, 0}},
 };
 // clang-format on
 
@@ -583,7 +623,7 @@ static void test_places(void) {
         about = asked->bytes;
         for (unsigned front = 0; front < 2; front++) {
             recording from = hex(asked->bytes, front != 0);
-            lent to = lend(small_tables, asked->numbers, front != 0);
+            lent to = lend(small_tables, asked->rows * UZ_WIDTH, front != 0);
             uz_place said =
                 whose_byte(from, asked->start, asked->size, asked->parent, asked->address, to);
             check(same_place(said, asked->due), "the worked reply");
@@ -669,6 +709,7 @@ static void test_longest(void) {
     uz_part said = uz_find_part(from.bytes, from.length, UZ_TAGS, table.table, table.numbers);
     check(is_part(said, due), "the reply");
     check(are_rows(from, said.at, said.size, said.rows, table), "the rows");
+    check(lead_past(table, said.rows), "each row leads past what it holds");
     uz_range range = uz_row_payload(from.bytes, from.length, table.table, table.numbers, 1);
     check(is_range(range, UZ_ACCEPTED, length - 2, 2), "the last payload");
     table = lend(small_tables, 2 * UZ_WIDTH, false);
@@ -791,9 +832,11 @@ int main(int count, char **words) {
     large_tables = make_arena((UZ_MOST_NUMBERS + UZ_WIDTH) * sizeof(uint64_t));
     small_tables = make_arena(PAGE);
     test_example();
+    test_after();
     test_parts();
     test_chain(UZ_MOST_HEADS, UZ_ACCEPTED);
     test_chain(UZ_MOST_HEADS + 1, UZ_TOO_MANY_HEADS);
+    test_lengths();
     test_tables();
     test_payload();
     test_places();

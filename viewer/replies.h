@@ -208,6 +208,28 @@ static bool are_rows(recording from, uint64_t at, uint64_t size, uint64_t rows, 
     return zeros_from(in, rows);
 }
 
+// Whether the last number of each row is the first row after it that is not below it. What is below
+// a row is told by parents alone: from each row on, up to where there is none.
+static bool lead_past(lent in, uint64_t rows) {
+    static uint64_t past[UZ_MOST_ROWS];
+    if (rows > UZ_MOST_ROWS || rows > in.numbers / UZ_WIDTH)
+        return false;
+    for (uint64_t row = 0; row < rows; row++) {
+        past[row] = row + 1;
+        for (uint64_t above = cell(in, row, UZ_PARENT); above != 0;) {
+            if (above > row)
+                return false;
+            if (past[above - 1] == row)
+                past[above - 1] = row + 1;
+            above = cell(in, above - 1, UZ_PARENT);
+        }
+    }
+    for (uint64_t row = 0; row < rows; row++)
+        if (cell(in, row, UZ_AFTER) != past[row])
+            return false;
+    return true;
+}
+
 // Whether a header with the id ends right before the address.
 static bool follows_header(recording from, uint64_t at, uint64_t wanted, uint64_t size) {
     for (unsigned length = 2; length <= 12 && length <= at; length++) {
@@ -240,6 +262,7 @@ static void check_part(recording from, uint32_t part, lent to, uz_part said) {
     check(said.found == 1, "found is 0 or 1");
     check(follows_header(from, said.at, part, said.size), "a found part has the id");
     check(are_rows(from, said.at, said.size, said.rows, to), "the rows are the part's elements");
+    check(lead_past(to, said.rows), "each row of a part leads past what it holds");
 }
 
 // The row that owns an address by the table alone. Counts the owners; there has to be one.
@@ -286,6 +309,7 @@ static void check_place(recording from, uint64_t start, uint64_t size, uint64_t 
     }
     check(address >= start && address - start < size, "an accepted address is in the payload");
     check(are_rows(from, start, size, said.rows, to), "the rows are the payload's elements");
+    check(lead_past(to, said.rows), "each row of a payload leads past what it holds");
     uz_place owner = {0, 0, 0, 0};
     check(owners(to, said.rows, address, &owner) == 1, "a byte has one owner");
     check(same_place(said, owner), "the row named owns the byte");

@@ -12,7 +12,7 @@ static uint64_t file_at(const part *in, uint64_t from) {
 }
 
 void tell_attachments(const part *in) {
-    for (uint64_t row = file_at(in, 0); row != NO_ROW; row = file_at(in, row + 1)) {
+    for (uint64_t row = file_at(in, 0); row != NO_ROW; row = file_at(in, row_after(in, row))) {
         uint64_t data = last_child(in, row, FILE_DATA, UZ_BINARY);
         uint64_t description = last_child(in, row, FILE_DESCRIPTION, UZ_UTF8);
         fputs("attachment ", stdout);
@@ -37,7 +37,7 @@ void tell_attachments(const part *in) {
 
 void json_attachments(const part *in) {
     json_open("attachments", '[', true);
-    for (uint64_t row = file_at(in, 0); row != NO_ROW; row = file_at(in, row + 1)) {
+    for (uint64_t row = file_at(in, 0); row != NO_ROW; row = file_at(in, row_after(in, row))) {
         json_open(NULL, '{', true);
         json_number("at", header_of(in, row));
         json_field("uid", in, last_child(in, row, FILE_UID, UZ_UNSIGNED));

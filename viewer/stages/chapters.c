@@ -45,7 +45,7 @@ static void tell_name(const part *in, uint64_t atom) {
     putchar(' ');
     show_field(in, string);
     while (string != NO_ROW) {
-        string = next_string(in, atom, display + 1, &display);
+        string = next_string(in, atom, row_after(in, display), &display);
         if (string == NO_ROW)
             break;
         putchar(' ');
@@ -79,7 +79,8 @@ static sibling siblings[UZ_MOST_ROWS];
 static void tell_atoms(const part *in, uint64_t parent, unsigned level, sibling *room) {
     size_t count = 0;
     uint64_t row = next_child(in, parent, first_row(parent), CHAPTER_ATOM, UZ_MASTER);
-    for (; row != NO_ROW; row = next_child(in, parent, row + 1, CHAPTER_ATOM, UZ_MASTER)) {
+    for (; row != NO_ROW;
+         row = next_child(in, parent, row_after(in, row), CHAPTER_ATOM, UZ_MASTER)) {
         uint64_t start = field(in, row, CHAPTER_TIME_START);
         bool starts = start != NO_ROW;
         room[count++] = (sibling){row, starts, starts ? number_in(in, start) : 0};
@@ -103,7 +104,7 @@ static void tell_atoms(const part *in, uint64_t parent, unsigned level, sibling 
 
 void tell_chapters(const part *chapters) {
     for (uint64_t row = edition_at(chapters, 0); row != NO_ROW;
-         row = edition_at(chapters, row + 1)) {
+         row = edition_at(chapters, row_after(chapters, row))) {
         uint64_t uid = field(chapters, row, EDITION_UID);
         fputs("edition ", stdout);
         show_address(header_of(chapters, row));
@@ -149,7 +150,8 @@ static void json_atom(const part *in, uint64_t atom, unsigned level) {
     json_field("name", in, next_string(in, atom, first_row(atom), &display));
     json_open("displays", '[', false);
     uint64_t row = next_child(in, atom, first_row(atom), CHAPTER_DISPLAY, UZ_MASTER);
-    for (; row != NO_ROW; row = next_child(in, atom, row + 1, CHAPTER_DISPLAY, UZ_MASTER))
+    for (; row != NO_ROW;
+         row = next_child(in, atom, row_after(in, row), CHAPTER_DISPLAY, UZ_MASTER))
         json_display(in, row);
     json_close(']');
     json_close('}');
@@ -163,9 +165,10 @@ static void json_edition(const part *in, uint64_t edition) {
     json_flag("default", in, field(in, edition, EDITION_FLAG_DEFAULT));
     json_flag("ordered", in, field(in, edition, EDITION_FLAG_ORDERED));
     json_open("atoms", '[', false);
-    uint64_t end = row_after(in, edition);
-    for (uint64_t row = edition + 1; row < end; row++) {
-        unsigned level = level_below(in, edition, row, CHAPTER_ATOM);
+    unsigned level;
+    for (uint64_t row = edition + 1; row < row_after(in, edition);
+         row = next_nested(in, row, level)) {
+        level = level_below(in, edition, row, CHAPTER_ATOM);
         if (level != NO_LEVEL)
             json_atom(in, row, level);
     }
@@ -175,7 +178,8 @@ static void json_edition(const part *in, uint64_t edition) {
 
 void json_chapters(const part *chapters) {
     json_open("editions", '[', true);
-    for (uint64_t row = edition_at(chapters, 0); row != NO_ROW; row = edition_at(chapters, row + 1))
+    for (uint64_t row = edition_at(chapters, 0); row != NO_ROW;
+         row = edition_at(chapters, row_after(chapters, row)))
         json_edition(chapters, row);
     json_close(']');
 }

@@ -29,6 +29,10 @@ uint64_t cell(const part *in, uint64_t row, unsigned column) {
     return in->table[row * UZ_WIDTH + column];
 }
 
+uint64_t row_after(const part *in, uint64_t row) {
+    return cell(in, row, UZ_AFTER);
+}
+
 uint64_t header_of(const part *in, uint64_t row) {
     return cell(in, row, UZ_ADDRESS);
 }

@@ -24,6 +24,9 @@ void find_parts(const recording *from, part all[PARTS]);
 // A number of a row's table.
 uint64_t cell(const part *in, uint64_t row, unsigned column);
 
+// The first row behind a row and all that it holds; the count of rows if there is none.
+uint64_t row_after(const part *in, uint64_t row);
+
 // The address of a row's header.
 uint64_t header_of(const part *in, uint64_t row);
 

@@ -35,28 +35,38 @@ static uint64_t tag_at(const part *in, uint64_t from) {
 
 // ---- As text ----
 
-// Whether a row is a record that is listed: a track, edition or file directly in its part, and an
-// atom by atoms alone in an edition.
-static bool is_listed(const part *in, const uid_list *list, uint64_t row) {
-    if (cell(in, row, UZ_ID) != list->master || cell(in, row, UZ_KIND) != UZ_MASTER)
-        return false;
-    if (list->master != CHAPTER_ATOM || cell(in, row, UZ_PARENT) == 0)
-        return list->master != CHAPTER_ATOM && cell(in, row, UZ_PARENT) == 0;
-    uint64_t edition = row;
-    while (cell(in, edition, UZ_PARENT) != 0)
-        edition = cell(in, edition, UZ_PARENT) - 1;
-    return cell(in, edition, UZ_ID) == EDITION_ENTRY && cell(in, edition, UZ_KIND) == UZ_MASTER &&
-           level_below(in, edition, row, CHAPTER_ATOM) != NO_LEVEL;
+// Whether a record's uid is the number.
+static bool has_uid(const part *in, const uid_list *list, uint64_t row, uint64_t number) {
+    uint64_t uid = last_child(in, row, list->uid, UZ_UNSIGNED);
+    return uid != NO_ROW && number_in(in, uid) == number;
 }
 
-// The first record whose uid is the number. Each is looked at once, however many uids it has.
-static uint64_t having_uid(const part *in, const uid_list *list, uint64_t number) {
-    for (uint64_t row = 0; row < in->reply.rows; row++) {
-        if (!is_listed(in, list, row))
-            continue;
-        uint64_t uid = last_child(in, row, list->uid, UZ_UNSIGNED);
-        if (uid != NO_ROW && number_in(in, uid) == number)
+// The first atom in an edition, by atoms alone, whose uid is the number.
+static uint64_t atom_in(const part *in, const uid_list *list, uint64_t edition, uint64_t number) {
+    unsigned level;
+    for (uint64_t row = edition + 1; row < row_after(in, edition);
+         row = next_nested(in, row, level)) {
+        level = level_below(in, edition, row, CHAPTER_ATOM);
+        if (level != NO_LEVEL && has_uid(in, list, row, number))
             return row;
+    }
+    return NO_ROW;
+}
+
+// The first record whose uid is the number: a track, edition or file directly in its part, or an
+// atom in an edition there. Each is looked at once, however many uids it has.
+static uint64_t having_uid(const part *in, const uid_list *list, uint64_t number) {
+    bool atoms = list->master == CHAPTER_ATOM;
+    uint64_t outer = atoms ? EDITION_ENTRY : list->master;
+    uint64_t row = next_child(in, NO_ROW, 0, outer, UZ_MASTER);
+    for (; row != NO_ROW; row = next_child(in, NO_ROW, row_after(in, row), outer, UZ_MASTER)) {
+        uint64_t found = row;
+        if (atoms)
+            found = atom_in(in, list, row, number);
+        else if (!has_uid(in, list, row, number))
+            found = NO_ROW;
+        if (found != NO_ROW)
+            return found;
     }
     return NO_ROW;
 }
@@ -104,7 +114,8 @@ static void tell_target(const part all[PARTS], uint64_t target) {
     }
     for (size_t i = 0; i < LISTS; i++) {
         uint64_t row = next_child(in, target, first_row(target), lists[i].member, UZ_UNSIGNED);
-        for (; row != NO_ROW; row = next_child(in, target, row + 1, lists[i].member, UZ_UNSIGNED))
+        for (; row != NO_ROW;
+             row = next_child(in, target, row_after(in, row), lists[i].member, UZ_UNSIGNED))
             tell_uid(&all[lists[i].part], &lists[i], number_in(in, row));
     }
 }
@@ -129,7 +140,7 @@ static void tell_simple(const part *in, uint64_t simple, unsigned level) {
 
 void tell_tags(const part all[PARTS]) {
     const part *in = &all[TAGS_PART];
-    for (uint64_t tag = tag_at(in, 0); tag != NO_ROW; tag = tag_at(in, tag + 1)) {
+    for (uint64_t tag = tag_at(in, 0); tag != NO_ROW; tag = tag_at(in, row_after(in, tag))) {
         uint64_t target = last_child(in, tag, TARGETS, UZ_MASTER);
         fputs("tag ", stdout);
         show_address(header_of(in, tag));
@@ -139,9 +150,9 @@ void tell_tags(const part all[PARTS]) {
         else
             tell_target(all, target);
         putchar('\n');
-        uint64_t end = row_after(in, tag);
-        for (uint64_t row = tag + 1; row < end; row++) {
-            unsigned level = level_below(in, tag, row, SIMPLE_TAG);
+        unsigned level;
+        for (uint64_t row = tag + 1; row < row_after(in, tag); row = next_nested(in, row, level)) {
+            level = level_below(in, tag, row, SIMPLE_TAG);
             if (level != NO_LEVEL)
                 tell_simple(in, row, level);
         }
@@ -162,7 +173,8 @@ static void json_target(const part *in, uint64_t target) {
     for (size_t i = 0; i < LISTS; i++) {
         json_open(lists[i].key, '[', false);
         uint64_t row = next_child(in, target, first_row(target), lists[i].member, UZ_UNSIGNED);
-        for (; row != NO_ROW; row = next_child(in, target, row + 1, lists[i].member, UZ_UNSIGNED))
+        for (; row != NO_ROW;
+             row = next_child(in, target, row_after(in, row), lists[i].member, UZ_UNSIGNED))
             json_field(NULL, in, row);
         json_close(']');
     }
@@ -185,14 +197,14 @@ static void json_simple(const part *in, uint64_t simple, unsigned level) {
 
 void json_tags(const part *in) {
     json_open("tags", '[', true);
-    for (uint64_t tag = tag_at(in, 0); tag != NO_ROW; tag = tag_at(in, tag + 1)) {
+    for (uint64_t tag = tag_at(in, 0); tag != NO_ROW; tag = tag_at(in, row_after(in, tag))) {
         json_open(NULL, '{', true);
         json_number("at", header_of(in, tag));
         json_target(in, last_child(in, tag, TARGETS, UZ_MASTER));
         json_open("simple", '[', false);
-        uint64_t end = row_after(in, tag);
-        for (uint64_t row = tag + 1; row < end; row++) {
-            unsigned level = level_below(in, tag, row, SIMPLE_TAG);
+        unsigned level;
+        for (uint64_t row = tag + 1; row < row_after(in, tag); row = next_nested(in, row, level)) {
+            level = level_below(in, tag, row, SIMPLE_TAG);
             if (level != NO_LEVEL)
                 json_simple(in, row, level);
         }

@@ -15,7 +15,7 @@ static uint64_t track_at(const part *in, uint64_t from) {
 }
 
 void tell_tracks(const part *in) {
-    for (uint64_t row = track_at(in, 0); row != NO_ROW; row = track_at(in, row + 1)) {
+    for (uint64_t row = track_at(in, 0); row != NO_ROW; row = track_at(in, row_after(in, row))) {
         uint64_t type = last_child(in, row, TRACK_TYPE, UZ_UNSIGNED);
         fputs("track ", stdout);
         show_address(header_of(in, row));
@@ -29,7 +29,7 @@ void tell_tracks(const part *in) {
 
 void json_tracks(const part *in) {
     json_open("tracks", '[', true);
-    for (uint64_t row = track_at(in, 0); row != NO_ROW; row = track_at(in, row + 1)) {
+    for (uint64_t row = track_at(in, 0); row != NO_ROW; row = track_at(in, row_after(in, row))) {
         uint64_t type = last_child(in, row, TRACK_TYPE, UZ_UNSIGNED);
         json_open(NULL, '{', true);
         json_number("at", header_of(in, row));

@@ -3,24 +3,16 @@
 
 #include "ids.h"
 
-uint64_t row_after(const part *in, uint64_t row) {
-    uint64_t after = row + 1;
-    while (after < in->reply.rows && cell(in, after, UZ_DEPTH) > cell(in, row, UZ_DEPTH))
-        after++;
-    return after;
-}
-
 uint64_t first_row(uint64_t parent) {
     return parent == NO_ROW ? 0 : parent + 1;
 }
 
-// What a row holds stands right behind it, and deeper. A direct child names its parent's number
-// plus 1, which for NO_ROW is 0.
+// What a row holds stands right behind it, so the children are those rows that follow one another
+// by row_after.
 uint64_t next_child(const part *in, uint64_t parent, uint64_t from, uint64_t id, uint64_t kind) {
-    uint64_t above = parent == NO_ROW ? 0 : cell(in, parent, UZ_DEPTH) + 1;
-    for (uint64_t row = from; row < in->reply.rows && cell(in, row, UZ_DEPTH) >= above; row++)
-        if (cell(in, row, UZ_PARENT) == first_row(parent) && cell(in, row, UZ_ID) == id &&
-            cell(in, row, UZ_KIND) == kind)
+    uint64_t end = parent == NO_ROW ? in->reply.rows : row_after(in, parent);
+    for (uint64_t row = from; row < end; row = row_after(in, row))
+        if (cell(in, row, UZ_ID) == id && cell(in, row, UZ_KIND) == kind)
             return row;
     return NO_ROW;
 }
@@ -28,7 +20,7 @@ uint64_t next_child(const part *in, uint64_t parent, uint64_t from, uint64_t id,
 uint64_t last_child(const part *in, uint64_t parent, uint64_t id, uint64_t kind) {
     uint64_t last = NO_ROW;
     uint64_t row = next_child(in, parent, first_row(parent), id, kind);
-    for (; row != NO_ROW; row = next_child(in, parent, row + 1, id, kind))
+    for (; row != NO_ROW; row = next_child(in, parent, row_after(in, row), id, kind))
         last = row;
     return last;
 }
@@ -43,6 +35,11 @@ unsigned level_below(const part *in, uint64_t ancestor, uint64_t row, uint64_t i
         if (row == ancestor)
             return level;
     }
+}
+
+// Nothing inside a row that is not one of them has a level either.
+uint64_t next_nested(const part *in, uint64_t row, unsigned level) {
+    return level != NO_LEVEL ? row + 1 : row_after(in, row);
 }
 
 uint64_t language_of(const part *in, uint64_t row, uint64_t ietf, uint64_t iso) {
@@ -72,7 +69,8 @@ bool flag_in(const part *in, uint64_t row, bool unset) {
 
 uint64_t next_string(const part *in, uint64_t atom, uint64_t from, uint64_t *display) {
     uint64_t row = next_child(in, atom, from, CHAPTER_DISPLAY, UZ_MASTER);
-    for (; row != NO_ROW; row = next_child(in, atom, row + 1, CHAPTER_DISPLAY, UZ_MASTER)) {
+    for (; row != NO_ROW;
+         row = next_child(in, atom, row_after(in, row), CHAPTER_DISPLAY, UZ_MASTER)) {
         uint64_t string = last_child(in, row, CHAP_STRING, UZ_UTF8);
         *display = row;
         if (string != NO_ROW)
@@ -172,7 +170,7 @@ seek_entry entry_in(const part *head, uint64_t seek) {
 static bool entry_for(const part *head, uint64_t id, seek_entry *to) {
     bool found = false;
     uint64_t row = next_child(head, NO_ROW, 0, SEEK, UZ_MASTER);
-    for (; row != NO_ROW; row = next_child(head, NO_ROW, row + 1, SEEK, UZ_MASTER)) {
+    for (; row != NO_ROW; row = next_child(head, NO_ROW, row_after(head, row), SEEK, UZ_MASTER)) {
         seek_entry entry = entry_in(head, row);
         if (entry.id != id)
             continue;

@@ -13,11 +13,9 @@
 // No row: what is not set.
 #define NO_ROW UINT64_MAX
 
-// The first row behind a row and all that it holds.
-uint64_t row_after(const part *in, uint64_t row);
-
 // The first direct child of that id and kind from row `from` on, and the last one; NO_ROW if there
-// is none. The parent NO_ROW stands for the payload of the part itself.
+// is none. `from` is the first child's row, or row_after of one. The parent NO_ROW stands for the
+// payload of the part itself.
 uint64_t next_child(const part *in, uint64_t parent, uint64_t from, uint64_t id, uint64_t kind);
 uint64_t last_child(const part *in, uint64_t parent, uint64_t id, uint64_t kind);
 
@@ -29,6 +27,10 @@ uint64_t first_row(uint64_t parent);
 #define NO_LEVEL UINT_MAX
 unsigned level_below(const part *in, uint64_t ancestor, uint64_t row, uint64_t id);
 
+// The next row that may have a level, behind one of this level: inside it, or after it if it has
+// none.
+uint64_t next_nested(const part *in, uint64_t row, unsigned level);
+
 // The language that counts: the last IETF one, else the last ISO 639 one.
 uint64_t language_of(const part *in, uint64_t row, uint64_t ietf, uint64_t iso);
 
@@ -39,7 +41,8 @@ uint64_t tag_value(const part *in, uint64_t simple);
 uint64_t number_in(const part *in, uint64_t row);
 bool flag_in(const part *in, uint64_t row, bool unset);
 
-// The string of a chapter's first display that has one, from row `from` on, and the display itself.
+// The string of a chapter's first display that has one, from row `from` on as for next_child, and
+// the display itself.
 uint64_t next_string(const part *in, uint64_t atom, uint64_t from, uint64_t *display);
 
 // The word for a track's type; "unknown" for a number that is none.

@@ -1,5 +1,5 @@
-//! Times our headers, kinds, tests of UTF-8, bodies, reads of elements and searches beside Rust's: bench ROUNDS.
-//! First all answers have to agree and the checks to pass; status 1 and one line if they don't.
+//! Times our headers, kinds, tests of UTF-8, bodies, reads of elements, searches and records beside Rust's:
+//! bench ROUNDS. First all answers have to agree and the checks to pass; status 1 and one line if they don't.
 
 mod bodies;
 mod checks;
@@ -9,6 +9,7 @@ mod inputs;
 mod ours;
 mod payloads;
 mod reads;
+mod records;
 mod searches;
 mod sorted;
 mod timing;
@@ -36,6 +37,7 @@ fn main() {
     let bodies = bodies::bodies();
     let payloads = payloads::payloads();
     let recordings = searches::recordings();
+    let records = records::records();
     for pairs in &pairs {
         check_kinds(pairs, &sorted);
     }
@@ -46,6 +48,7 @@ fn main() {
     bodies::check(&bodies);
     reads::check(&payloads);
     searches::check(&recordings);
+    records::check(&records);
     checks::run();
     println!("All answers agree. Both are compiled at -O3 for plain x86-64, each in one piece.");
     println!("{rounds} rounds: the median, least to most, and the median's rate.");
@@ -67,6 +70,9 @@ fn main() {
     }
     for recordings in &recordings {
         searches::time(recordings, report);
+    }
+    for records in &records {
+        records::time(records, report);
     }
     report.end();
 }

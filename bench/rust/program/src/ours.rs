@@ -1,7 +1,7 @@
 //! Our functions, as the archive exports them.
 
 mod exported {
-    use super::{Body, SpeedHeader, Sum};
+    use super::{Body, Record, SpeedHeader, Sum};
 
     #[link(name = "speed", kind = "static")]
     extern "C" {
@@ -62,6 +62,55 @@ mod exported {
             sizes: *const u64,
             count_of_sizes: usize,
         ) -> Sum;
+        pub fn speed_tag(
+            recording: *const u8,
+            count_of_bytes: usize,
+            start: u64,
+            size: u64,
+            k: u64,
+            table: *mut u64,
+            count_of_numbers: usize,
+        ) -> Record;
+        pub fn speed_simple(
+            recording: *const u8,
+            count_of_bytes: usize,
+            start: u64,
+            size: u64,
+            k: u64,
+            i: u64,
+            table: *mut u64,
+            count_of_numbers: usize,
+        ) -> Record;
+        pub fn speed_edition(
+            recording: *const u8,
+            count_of_bytes: usize,
+            start: u64,
+            size: u64,
+            k: u64,
+            table: *mut u64,
+            count_of_numbers: usize,
+        ) -> Record;
+        pub fn speed_chapter(
+            recording: *const u8,
+            count_of_bytes: usize,
+            start: u64,
+            size: u64,
+            k: u64,
+            i: u64,
+            table: *mut u64,
+            count_of_numbers: usize,
+        ) -> Record;
+        pub fn speed_display(
+            recording: *const u8,
+            count_of_bytes: usize,
+            start: u64,
+            size: u64,
+            k: u64,
+            i: u64,
+            j: u64,
+            table: *mut u64,
+            count_of_numbers: usize,
+        ) -> Record;
     }
 }
 
@@ -252,5 +301,51 @@ pub fn bodies(recording: &[u8], parent: u32, ids: &[u32], places: &[u64], sizes:
             sizes.as_ptr(),
             sizes.len(),
         )
+    }
+}
+
+/// A record as it crosses: 0 or the number of the refusal, how many rows its part has, and the sum of its fields.
+#[repr(C)]
+struct Record {
+    refused: u64,
+    rows: u64,
+    sum: u64,
+}
+
+/// A question for one record of a payload.
+#[derive(Clone, Copy, Debug)]
+pub enum Question {
+    Tag(u64),
+    Simple(u64, u64),
+    Edition(u64),
+    Chapter(u64, u64),
+    Display(u64, u64, u64),
+}
+
+/// How many rows a payload has and what the fields of the record come to, or the number of the refusal.
+pub fn record(payload: &[u8], asked: Question, table: &mut [u64]) -> Result<(u64, u64), u64> {
+    let (bytes, count, size) = (payload.as_ptr(), payload.len(), payload.len() as u64);
+    let (numbers, room) = (table.as_mut_ptr(), table.len());
+    // The payload is only read and the table only written, both within their lengths and during the call.
+    let said = unsafe {
+        match asked {
+            Question::Tag(k) => exported::speed_tag(bytes, count, 0, size, k, numbers, room),
+            Question::Simple(k, i) => {
+                exported::speed_simple(bytes, count, 0, size, k, i, numbers, room)
+            }
+            Question::Edition(k) => {
+                exported::speed_edition(bytes, count, 0, size, k, numbers, room)
+            }
+            Question::Chapter(k, i) => {
+                exported::speed_chapter(bytes, count, 0, size, k, i, numbers, room)
+            }
+            Question::Display(k, i, j) => {
+                exported::speed_display(bytes, count, 0, size, k, i, j, numbers, room)
+            }
+        }
+    };
+    match said.refused {
+        0 => Ok((said.rows, said.sum)),
+        number => Err(number),
     }
 }

@@ -10,8 +10,11 @@ use std::cell::RefCell;
 use std::hint::black_box;
 use std::process::exit;
 
-/// How many numbers a row has, and the largest table.
-pub const WIDTH: usize = 7;
+/// How many numbers a row has, as the C header says, and the largest table.
+pub const WIDTH: usize = match usize::from_str_radix(env!("UZ_WIDTH"), 10) {
+    Ok(width) => width,
+    Err(_) => panic!("the width is no number"),
+};
 pub const NUMBERS: usize = 4_096 * WIDTH;
 
 /// How many cut copies of each payload are read before the timing.

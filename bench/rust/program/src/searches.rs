@@ -224,11 +224,14 @@ fn gather(
         let (id, size, length) = header.expect("it was read before");
         assert_eq!((id, length + size), (element.id, element.size));
         let kind = number_read(&element.val);
-        rows.push([id.into(), parent, at, length, size, kind, depth]);
+        let own = rows.len();
+        rows.push([id.into(), parent, at, length, size, kind, depth, 0]);
         if let ElementType::Master(children) = &element.val {
             let row = rows.len() as u64;
             gather(bytes, children, at + length, row, depth + 1, rows);
         }
+        // The first row behind all that the element holds.
+        rows[own][WIDTH - 1] = rows.len() as u64;
         at += element.size;
     }
 }

@@ -147,6 +147,25 @@ impl Report {
         took
     }
 
+    /// Prints, for each way, nanoseconds per question and questions a second. Each run asks them all and returns how
+    /// many there are.
+    pub fn compare_questions(&mut self, input: &str, unit: &str, questions: usize, ways: &[Way]) {
+        let took = measure(self.rounds, questions as u64, ways);
+        println!("{input}, {unit}:");
+        for took in &took {
+            let each = |time: f64| time / questions as f64;
+            println!(
+                "  {:<28}{:>9.0} ns  {:>9.0} to {:<9.0}{:>10.0} /s",
+                took.name,
+                each(took.median()),
+                each(took.least()),
+                each(took.most()),
+                1e9 / each(took.median()),
+            );
+        }
+        self.keep(input, &took);
+    }
+
     /// Keeps the ratios: each way of ours by each other.
     fn keep(&mut self, input: &str, took: &[Took]) {
         let (ours, others): (Vec<&Took>, Vec<&Took>) =
