@@ -1,11 +1,12 @@
 /*
   uzrafmed.h - the C face of Uzrafmed, a verified reader of Matroska's element structure.
 
-  It implements the rules of docs/01-scope.md, which comments here call document 01, and those rules rest on
-  RFC 8794 (sizes, integers, floats, dates), RFC 9559 (the ids) and RFC 3629 (UTF-8). It is proved that every
-  call ends and answers, on all bytes and all numbers, as the definitions in crates/NAME/specs say, which are written
-  from document 01. docs/TRUSTED.md lists what has to be believed; this header, which is written by hand, is in it.
-  What is asked of the caller is in "What every call asks and promises" below.
+  It implements the rules of docs/01-scope.md, which comments here call document 01, as later requests change them
+  (docs/DECISIONS.md: a row has eight numbers where document 01 has seven). Those rules rest on RFC 8794 (sizes,
+  integers, floats, dates), RFC 9559 (the ids) and RFC 3629 (UTF-8). It is proved that every call ends and answers, on
+  all bytes and all numbers, as the definitions in crates/NAME/specs say, which are written from document 01.
+  docs/TRUSTED.md lists what has to be believed; this header, which is written by hand, is in it. What is asked of the
+  caller is in "What every call asks and promises" below.
 
   The library is for x86-64 programs under System V's calling convention. Of the C library it needs memset and its
   like (memcpy, memmove, memcmp) and nothing else. `tools/install PREFIX` installs it as libuzrafmed.a and
@@ -71,9 +72,10 @@ int main(int count, char **words) {
 
   Rows below a row. The last number of row R, A = T[R * UZ_WIDTH + UZ_AFTER], is the first row after it that does not
   lie in its element, or the count of rows where there is none. It is a row's number as it is, without the plus 1 of
-  UZ_PARENT, and never 0 in a row that was written. So rows R + 1 up to A - 1 are what the element holds, at any depth,
-  and a leaf has A = R + 1. The next element in the same master, where there is one, is row A: it has the same
-  UZ_PARENT as row R. The direct children of a master are thus rows R + 1, the A of that row, and so on up to its own A.
+  UZ_PARENT, and never 0 in a row that was written. So rows R + 1 up to A - 1 are what the element holds, at any depth;
+  a leaf, and a master that holds nothing, has A = R + 1. The next element in the same master, where there is one, is
+  row A, with the UZ_PARENT of row R. So the direct children of a master are the rows C = R + 1, then
+  C = T[C * UZ_WIDTH + UZ_AFTER], and so on while C < A.
 
   What every call asks and promises.
 
@@ -113,7 +115,7 @@ int main(int count, char **words) {
 extern "C" {
 #endif
 
-/* Limits of document 01. */
+/* Limits of document 01; the width is document 02's, C-15. */
 #define UZ_MOST_BYTES UINT64_C(4294967295)        /* the longest recording */
 #define UZ_WIDTH 8                                /* the numbers of a row */
 #define UZ_MOST_ROWS 4096                         /* the most rows of a table */

@@ -179,7 +179,7 @@ fn edition_sum(edition: &ChapterEdition) -> u64 {
     edition.uid.unwrap_or(0) + flags.iter().sum::<u64>() + edition.chapters.len() as u64
 }
 
-/// The crate takes a chapter without a flag for enabled; no atom that is asked for has the flag.
+/// Its flags are left out: no atom that is asked for has one.
 fn chapter_sum(chapter: &Chapter) -> u64 {
     let start = chapter.time_start.as_nanos() as u64;
     let end = chapter.time_end.map_or(0, |end| end.as_nanos() as u64);
