@@ -5,7 +5,7 @@ use mathlib.Core.Logic.{inl, inr}
 use native.Mathlib.Omega.{arith}
 use lib.ListN.{length}
 use borrow.Author.Needs.{needs}
-use Rattle.fields.proofs.Rest.{rest, goes, count-turn, count-end}
+use Rattle.fields.proofs.Rest.{rest, Looked, goes, nearer, count-turn, count-end}
 use Rattle.fields.proofs.child.count_children.Statement.{statement}
 use Rattle.fields.proofs.child.count_children.Tie as tie
 
@@ -41,67 +41,39 @@ add-count c =
     let if1 = c .before .before .before .if1 in
     omega (arith, start .pre .held, if1 .taken, loop .inv .2)
 
+-- The row that a turn looked at.
+looked : (c : tie.After-is-child Inv-loop μ-loop)
+    → let a = c .before .before .before .before .before .before .args in
+    Looked (a .table .now) (a .master .parent) (a .id) (a .kind) (a .master .end)
+    (c .before .before .before .before .loop .n) (c .before .row-at .result) (c .is-child .result)
+looked c =
+    let loop = c .before .before .before .before .loop in
+    let more = c .before .before .if1 .taken in
+    record {
+      more = more;
+      row = c .before .row-at .ensures;
+      low = loop .inv .0;
+      steps = c .before .before .before .before .before .before .pre .steps _ (loop .inv .0) more;
+      told = c .is-child .ensures;
+    }
+
 loop-less : tie.Need-loop-less Inv-loop μ-loop
-loop-less c =
-    let start = c .before .before .before .before .before .before .before in
-    let loop = c .before .before .before .before .before .loop in
-    let if1 = c .before .before .before .if1 in
-    let row-at = c .before .before .row-at in
-    let is-child = c .before .is-child in
-    let g = goes _ _ _ _ _ _ (if1 .taken) _ (row-at .ensures) (loop .inv .0)
-    (start .pre .steps _ (loop .inv .0) (if1 .taken)) _ (is-child .ensures) in
-    omega (arith, g .0, g .1, if1 .taken)
+loop-less c = nearer (looked (c .before))
 
 loop-again : tie.Need-loop-again Inv-loop μ-loop
 loop-again c =
-    let start = c .before .before .before .before .before .before .before in
-    let loop = c .before .before .before .before .before .loop in
-    let if1 = c .before .before .before .if1 in
-    let row-at = c .before .before .row-at in
-    let is-child = c .before .is-child in
-    let if2 = c .if2 in
-    let g = goes _ _ _ _ _ _ (if1 .taken) _ (row-at .ensures) (loop .inv .0)
-    (start .pre .steps _ (loop .inv .0) (if1 .taken)) _ (is-child .ensures) in (
-      g .2,
-      g .1,
-      omega (arith, g .0, loop .inv .2),
-      loop .inv .3
-          ∙ count-turn _ _ _ _ _ _ (if1 .taken) _ (row-at .ensures) (loop .inv .0)
-          (start .pre .steps _ (loop .inv .0) (if1 .taken)) _ (is-child .ensures)
-          _ _
-          (inl (if2 .taken, refl)),
-    )
+    let inv = c .before .before .before .before .before .loop .inv in
+    let k = looked (c .before) in
+    (goes k .2, goes k .1, omega (arith, goes k .0, inv .2), inv .3 ∙ count-turn k _ _ (inl (c .if2 .taken, refl)))
 
 loop-less-2 : tie.Need-loop-less-2 Inv-loop μ-loop
-loop-less-2 c =
-    let start = c .before .before .before .before .before .before .before in
-    let loop = c .before .before .before .before .before .loop in
-    let if1 = c .before .before .before .if1 in
-    let row-at = c .before .before .row-at in
-    let is-child = c .before .is-child in
-    let g = goes _ _ _ _ _ _ (if1 .taken) _ (row-at .ensures) (loop .inv .0)
-    (start .pre .steps _ (loop .inv .0) (if1 .taken)) _ (is-child .ensures) in
-    omega (arith, g .0, g .1, if1 .taken)
+loop-less-2 c = nearer (looked (c .before))
 
 loop-again-2 : tie.Need-loop-again-2 Inv-loop μ-loop
 loop-again-2 c =
-    let start = c .before .before .before .before .before .before .before in
-    let loop = c .before .before .before .before .before .loop in
-    let if1 = c .before .before .before .if1 in
-    let row-at = c .before .before .row-at in
-    let is-child = c .before .is-child in
-    let if2 = c .if2 in
-    let g = goes _ _ _ _ _ _ (if1 .taken) _ (row-at .ensures) (loop .inv .0)
-    (start .pre .steps _ (loop .inv .0) (if1 .taken)) _ (is-child .ensures) in (
-      g .2,
-      g .1,
-      omega (arith, g .0, loop .inv .2),
-      loop .inv .3
-          ∙ count-turn _ _ _ _ _ _ (if1 .taken) _ (row-at .ensures) (loop .inv .0)
-          (start .pre .steps _ (loop .inv .0) (if1 .taken)) _ (is-child .ensures)
-          _ _
-          (inr (if2 .left, refl)),
-    )
+    let inv = c .before .before .before .before .before .loop .inv in
+    let k = looked (c .before) in
+    (goes k .2, goes k .1, omega (arith, goes k .0, inv .2), inv .3 ∙ count-turn k _ _ (inr (c .if2 .left, refl)))
 
 returns : tie.Need-returns Inv-loop μ-loop
 returns c =
