@@ -14,9 +14,9 @@ use Rattle.header.specs.Reply.{accepted}
 use Rattle.kinds.specs.Elements.{elements}
 use Rattle.kinds.specs.Kinds.{kindIn, keeps, kindUnder}
 use Rattle.bodies.specs.Bodies.{bodyOf}
-use Rattle.elements.specs.Forest.{Element, Forest, none, node, whole, span, count, join}
+use Rattle.elements.specs.Forest.{Forest, none, node, whole, span, count, join}
 use Rattle.elements.specs.Reading.{Outcome, refuseIf, full, siblings, element, masterBody}
-use Rattle.elements.specs.Rows.{rowOf, rows, width, flat, flatten}
+use Rattle.elements.specs.Rows.{rows, width, flat, flatten}
 use Rattle.elements.specs.Promise.{isTable, allowed, filled, readOf, replyOf, tableOf}
 use Rattle.elements.specs.Theorems.{nth, Each}
 use Rattle.elements.specs.Jumps.{Descends, child, deeper, Jump, JumpsOver, nested, nestedTable, NestedJumps}

@@ -1,9 +1,8 @@
 -- `last_child` meets its contract: what is left of the rows decides from the last child so far. Assumes nothing.
-use Prim.Native.Nat.{_+_, _-_, _≤_}
+use Prim.Native.Nat.{_-_, _≤_}
 use mathlib.Core.Path.{_≡_, refl, sym, _∙_}
 use mathlib.Core.Logic.{inl, inr}
 use native.Mathlib.Omega.{arith}
-use lib.ListN.{length}
 use borrow.Author.Needs.{needs}
 use Rattle.fields.specs.Children.{lastFrom, lastOf}
 use Rattle.fields.proofs.Rest.{rest, Looked, goes, nearer, last-turn, last-end}

@@ -1,9 +1,8 @@
 -- `nth_child` meets its contract: as many children are still to pass as `left` says. Assumes nothing.
-use Prim.Native.Nat.{_+_, _-_, _≤_}
+use Prim.Native.Nat.{_-_, _≤_}
 use mathlib.Core.Path.{_≡_, refl, sym, _∙_}
 use mathlib.Core.Logic.{inl, inr}
 use native.Mathlib.Omega.{arith}
-use lib.ListN.{length}
 use borrow.Author.Needs.{needs}
 use Rattle.fields.specs.Children.{nthOf}
 use Rattle.fields.proofs.Rest.{rest, Looked, goes, nearer, nth-here, nth-turn, nth-end}
