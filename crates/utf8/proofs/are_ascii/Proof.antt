@@ -11,75 +11,6 @@ use Rattle.utf8.proofs.Ascii.{word, word-more, highs, ascii-passed}
 use Rattle.utf8.proofs.are_ascii.Statement.{statement}
 use Rattle.utf8.proofs.are_ascii.Tie as tie
 
-add-joined : tie.Need-add-joined
-add-joined c = search needs
-
-shared-slice-read-joined : tie.Need-shared-slice-read-joined
-shared-slice-read-joined c = search needs
-
-joined-requires : tie.Need-joined-requires
-joined-requires c κs = search needs
-
-add-joined-2 : tie.Need-add-joined-2
-add-joined-2 c = search needs
-
-shared-slice-read-joined-2 : tie.Need-shared-slice-read-joined-2
-shared-slice-read-joined-2 c = search needs
-
-joined-requires-2 : tie.Need-joined-requires-2
-joined-requires-2 c κs = search needs
-
-add-joined-3 : tie.Need-add-joined-3
-add-joined-3 c = search needs
-
-shared-slice-read-joined-3 : tie.Need-shared-slice-read-joined-3
-shared-slice-read-joined-3 c = search needs
-
-joined-requires-3 : tie.Need-joined-requires-3
-joined-requires-3 c κs = search needs
-
-add-joined-4 : tie.Need-add-joined-4
-add-joined-4 c = search needs
-
-shared-slice-read-joined-4 : tie.Need-shared-slice-read-joined-4
-shared-slice-read-joined-4 c = search needs
-
-joined-requires-4 : tie.Need-joined-requires-4
-joined-requires-4 c κs = search needs
-
-add-joined-5 : tie.Need-add-joined-5
-add-joined-5 c = search needs
-
-shared-slice-read-joined-5 : tie.Need-shared-slice-read-joined-5
-shared-slice-read-joined-5 c = search needs
-
-joined-requires-5 : tie.Need-joined-requires-5
-joined-requires-5 c κs = search needs
-
-add-joined-6 : tie.Need-add-joined-6
-add-joined-6 c = search needs
-
-shared-slice-read-joined-6 : tie.Need-shared-slice-read-joined-6
-shared-slice-read-joined-6 c = search needs
-
-joined-requires-6 : tie.Need-joined-requires-6
-joined-requires-6 c κs = search needs
-
-add-joined-7 : tie.Need-add-joined-7
-add-joined-7 c = search needs
-
-shared-slice-read-joined-7 : tie.Need-shared-slice-read-joined-7
-shared-slice-read-joined-7 c = search needs
-
-joined-requires-7 : tie.Need-joined-requires-7
-joined-requires-7 c κs = search needs
-
-shared-slice-read-joined-8 : tie.Need-shared-slice-read-joined-8
-shared-slice-read-joined-8 c = search needs
-
-joined-requires-8 : tie.Need-joined-requires-8
-joined-requires-8 c κs = search needs
-
 returns : tie.Need-returns
 returns c t =
     let c7 = c .before .before in
@@ -106,29 +37,8 @@ returns c t =
 
 pub are-ascii-spec : {M : Type 1} → statement M
 are-ascii-spec =
-    tie.close
-    (tie.spec
-    add-joined
-    shared-slice-read-joined
-    joined-requires
-    add-joined-2
-    shared-slice-read-joined-2
-    joined-requires-2
-    add-joined-3
-    shared-slice-read-joined-3
-    joined-requires-3
-    add-joined-4
-    shared-slice-read-joined-4
-    joined-requires-4
-    add-joined-5
-    shared-slice-read-joined-5
-    joined-requires-5
-    add-joined-6
-    shared-slice-read-joined-6
-    joined-requires-6
-    add-joined-7
-    shared-slice-read-joined-7
-    joined-requires-7
-    shared-slice-read-joined-8
-    joined-requires-8
-    returns)
+    tie.close (tie.spec (λ c. search needs) (λ c. search needs) (λ c κs. search needs) (λ c. search needs)
+    (λ c. search needs) (λ c κs. search needs) (λ c. search needs) (λ c. search needs) (λ c κs. search needs)
+    (λ c. search needs) (λ c. search needs) (λ c κs. search needs) (λ c. search needs) (λ c. search needs)
+    (λ c κs. search needs) (λ c. search needs) (λ c. search needs) (λ c κs. search needs) (λ c. search needs)
+    (λ c. search needs) (λ c κs. search needs) (λ c. search needs) (λ c κs. search needs) returns)

@@ -24,12 +24,6 @@ loop-holds c =
     let d : a .n - 0 ≡ a .n = omega arith in
     (omega arith, rw (e, d))
 
-add-b : tie.Need-add-b Inv-loop μ-loop
-add-b c = search needs
-
-shared-slice-read-b : tie.Need-shared-slice-read-b Inv-loop μ-loop
-shared-slice-read-b c = search needs
-
 returns : tie.Need-returns Inv-loop μ-loop
 returns c =
     let l = c .before .before .before in
@@ -45,12 +39,6 @@ returns-2 c =
     sym (l .loop .inv .1)
     ∙ tail-out (a .bytes .now) (a .at) (a .n) (l .loop .i) (omega arith) (omega arith)
     (above-range 0x80 0xbf _ (c .before .if1 .left) (c .if2 .taken))
-
-add-i : tie.Need-add-i Inv-loop μ-loop
-add-i c = search needs
-
-loop-less : tie.Need-loop-less Inv-loop μ-loop
-loop-less c = search needs
 
 loop-again : tie.Need-loop-again Inv-loop μ-loop
 loop-again c =
@@ -70,16 +58,5 @@ returns-3 c =
 
 pub are-tails-spec : {M : Type 1} → statement M
 are-tails-spec =
-    tie.close
-    (tie.spec
-    Inv-loop
-    μ-loop
-    loop-holds
-    add-b
-    shared-slice-read-b
-    returns
-    returns-2
-    add-i
-    loop-less
-    loop-again
-    returns-3)
+    tie.close (tie.spec Inv-loop μ-loop loop-holds (λ c. search needs) (λ c. search needs) returns returns-2
+    (λ c. search needs) (λ c. search needs) loop-again returns-3)

@@ -48,25 +48,10 @@ loop-holds : tie.Need-loop-holds Inv-loop μ-loop
 unfolding utf8
 loop-holds c = (omega arith, refl)
 
-shared-slice-read-lead-of : tie.Need-shared-slice-read-lead-of Inv-loop μ-loop
-shared-slice-read-lead-of c = search needs
-
-lead-of-requires : tie.Need-lead-of-requires Inv-loop μ-loop
-lead-of-requires c κs = search needs
-
 returns : tie.Need-returns Inv-loop μ-loop
 returns c =
     let l = c .before in
     record { answer = sym (sym (kept l) ∙ no-char (notes l) (c .if1 .taken)) }
-
-add-past-ascii : tie.Need-add-past-ascii Inv-loop μ-loop
-add-past-ascii c = search needs
-
-past-ascii-requires : tie.Need-past-ascii-requires Inv-loop μ-loop
-past-ascii-requires c κs = search needs
-
-loop-less : tie.Need-loop-less Inv-loop μ-loop
-loop-less c = search needs
 
 loop-again : tie.Need-loop-again Inv-loop μ-loop
 loop-again c =
@@ -74,19 +59,10 @@ loop-again c =
     let passed = one-octet (notes l) (c .before .if2 .taken) ∙ c .past-ascii .ensures .2 in
     (omega arith, sym passed ∙ kept l)
 
-sub-if3 : tie.Need-sub-if3 Inv-loop μ-loop
-sub-if3 c = search needs
-
 returns-2 : tie.Need-returns-2 Inv-loop μ-loop
 returns-2 c =
     let l = c .before .before .before in
     record { answer = sym (sym (kept l) ∙ cut-off (notes l) (omega arith) (omega arith)) }
-
-add-second : tie.Need-add-second Inv-loop μ-loop
-add-second c = search needs
-
-shared-slice-read-second : tie.Need-shared-slice-read-second Inv-loop μ-loop
-shared-slice-read-second c = search needs
 
 returns-3 : tie.Need-returns-3 Inv-loop μ-loop
 returns-3 c =
@@ -101,26 +77,11 @@ returns-4 c =
     let out = above-range (l .lead-of .result .low) (l .lead-of .result .high) _ (d .if4 .left) (c .if5 .taken) in
     record { answer = sym (sym (kept l) ∙ second-out (notes l) (omega arith) (omega arith) out) }
 
-add-are-tails : tie.Need-add-are-tails Inv-loop μ-loop
-add-are-tails c = search needs
-
-sub-are-tails : tie.Need-sub-are-tails Inv-loop μ-loop
-sub-are-tails c = search needs
-
-are-tails-requires : tie.Need-are-tails-requires Inv-loop μ-loop
-are-tails-requires c κs = search needs
-
 returns-5 : tie.Need-returns-5 Inv-loop μ-loop
 returns-5 c =
     let l = c .before .before .before .before .before .before .before .before .before .before in
     let none = rw (not-true (c .before .are-tails .result) (c .if6 .taken)) at (c .before .are-tails .ensures) in
     record { answer = sym (sym (kept l) ∙ second (c .before .before) ∙ none) }
-
-add-at : tie.Need-add-at Inv-loop μ-loop
-add-at c = search needs
-
-loop-less-2 : tie.Need-loop-less-2 Inv-loop μ-loop
-loop-less-2 c = search needs
 
 loop-again-2 : tie.Need-loop-again-2 Inv-loop μ-loop
 loop-again-2 c =
@@ -139,29 +100,7 @@ returns-6 c =
 
 pub is-utf8-spec : {M : Type 1} → statement M
 is-utf8-spec =
-    tie.close
-    (tie.spec
-    Inv-loop
-    μ-loop
-    loop-holds
-    shared-slice-read-lead-of
-    lead-of-requires
-    returns
-    add-past-ascii
-    past-ascii-requires
-    loop-less
-    loop-again
-    sub-if3
-    returns-2
-    add-second
-    shared-slice-read-second
-    returns-3
-    returns-4
-    add-are-tails
-    sub-are-tails
-    are-tails-requires
-    returns-5
-    add-at
-    loop-less-2
-    loop-again-2
-    returns-6)
+    tie.close (tie.spec Inv-loop μ-loop loop-holds (λ c. search needs) (λ c κs. search needs) returns
+    (λ c. search needs) (λ c κs. search needs) (λ c. search needs) loop-again (λ c. search needs) returns-2
+    (λ c. search needs) (λ c. search needs) returns-3 returns-4 (λ c. search needs) (λ c. search needs)
+    (λ c κs. search needs) returns-5 (λ c. search needs) (λ c. search needs) loop-again-2 returns-6)

@@ -12,8 +12,5 @@ returns c = zero-by-zero ∙ nan-pattern binary64 _ (c .if1 .taken)
 float-from-bits-result : tie.Need-float-from-bits-result
 float-from-bits-result c = no-nan binary64 _ (c .if1 .left)
 
-returns-2 : tie.Need-returns-2
-returns-2 c = search needs
-
 pub float-of-8-spec : {M : Type 1} → statement M
-float-of-8-spec = tie.close (tie.spec returns float-from-bits-result returns-2)
+float-of-8-spec = tie.close (tie.spec returns float-from-bits-result (λ c. search needs))

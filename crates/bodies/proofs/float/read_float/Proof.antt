@@ -17,18 +17,6 @@ use Rattle.bodies.proofs.float.read_float.Tie as tie
 as-sized : (s : List ℕ) (at : ℕ) {n m : ℕ} → n ≡ m → bodyRead K.Float s at m ≡ bodyRead K.Float s at n
 as-sized s at e = ap (λ (k : ℕ). bodyRead K.Float s at k) (sym e)
 
-number-requires : tie.Need-number-requires
-number-requires c κs = search needs
-
-enum-told : tie.Need-enum-told
-enum-told c = search needs
-
-past-end-requires : tie.Need-past-end-requires
-past-end-requires c κs = search needs
-
-enum-known-pattern : tie.Need-enum-known-pattern
-enum-known-pattern c = search needs
-
 float-of-4-requires : tie.Need-float-of-4-requires
 float-of-4-requires c κs = rw (c .before .pattern .given .1) at (c .before .before .before .number .ensures .1)
 
@@ -48,27 +36,9 @@ returns-2 c =
     ap (λ (x : Float). Read (B.Float x) next) (c .float-of-4 .ensures)
     ∙ float-there-4 _ _ _ _ (found _ _ _ _ _ (sym read ∙ told)) ∙ as-sized _ _ four
 
-invalid-float-requires : tie.Need-invalid-float-requires
-invalid-float-requires c κs = search needs
-
 returns-3 : tie.Need-returns-3
 returns-3 c =
     ap Refused (c .invalid-float .ensures) ∙ float-other _ _ _ (c .before .before .if1 .left) (c .before .if2 .taken)
-
-number-requires-2 : tie.Need-number-requires-2
-number-requires-2 c κs = search needs
-
-enum-told-2 : tie.Need-enum-told-2
-enum-told-2 c = search needs
-
-past-end-requires-2 : tie.Need-past-end-requires-2
-past-end-requires-2 c κs = search needs
-
-enum-known-pattern-2 : tie.Need-enum-known-pattern-2
-enum-known-pattern-2 c = search needs
-
-float-of-8-requires : tie.Need-float-of-8-requires
-float-of-8-requires c κs = search needs
 
 returns-4 : tie.Need-returns-4
 returns-4 c =
@@ -88,21 +58,6 @@ returns-5 c =
 
 pub read-float-spec : {M : Type 1} → statement M
 read-float-spec =
-    tie.close
-    (tie.spec
-    number-requires
-    enum-told
-    past-end-requires
-    enum-known-pattern
-    float-of-4-requires
-    returns
-    returns-2
-    invalid-float-requires
-    returns-3
-    number-requires-2
-    enum-told-2
-    past-end-requires-2
-    enum-known-pattern-2
-    float-of-8-requires
-    returns-4
-    returns-5)
+    tie.close (tie.spec (λ c κs. search needs) (λ c. search needs) (λ c κs. search needs) (λ c. search needs)
+    float-of-4-requires returns returns-2 (λ c κs. search needs) returns-3 (λ c κs. search needs) (λ c. search needs)
+    (λ c κs. search needs) (λ c. search needs) (λ c κs. search needs) returns-4 returns-5)

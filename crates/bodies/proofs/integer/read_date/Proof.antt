@@ -12,23 +12,8 @@ use Rattle.bodies.proofs.ByKind.{date-other, date-ends, date-there}
 use Rattle.bodies.proofs.integer.read_date.Statement.{statement}
 use Rattle.bodies.proofs.integer.read_date.Tie as tie
 
-invalid-date-requires : tie.Need-invalid-date-requires
-invalid-date-requires c κs = search needs
-
 returns : tie.Need-returns
 returns c = ap Refused (c .invalid-date .ensures) ∙ date-other _ _ _ (c .before .if1 .taken)
-
-number-requires : tie.Need-number-requires
-number-requires c κs = search needs
-
-enum-told : tie.Need-enum-told
-enum-told c = search needs
-
-past-end-requires : tie.Need-past-end-requires
-past-end-requires c κs = search needs
-
-enum-known-value : tie.Need-enum-known-value
-enum-known-value c = search needs
 
 signed-requires : tie.Need-signed-requires
 signed-requires c κs =
@@ -53,14 +38,5 @@ returns-3 c =
 
 pub read-date-spec : {M : Type 1} → statement M
 read-date-spec =
-    tie.close
-    (tie.spec
-    invalid-date-requires
-    returns
-    number-requires
-    enum-told
-    past-end-requires
-    enum-known-value
-    signed-requires
-    returns-2
-    returns-3)
+    tie.close (tie.spec (λ c κs. search needs) returns (λ c κs. search needs) (λ c. search needs) (λ c κs. search needs)
+    (λ c. search needs) signed-requires returns-2 returns-3)

@@ -8,23 +8,8 @@ use Rattle.bodies.proofs.ByKind.{uint-long, uint-ends, uint-there}
 use Rattle.bodies.proofs.integer.read_uint.Statement.{statement}
 use Rattle.bodies.proofs.integer.read_uint.Tie as tie
 
-invalid-uint-requires : tie.Need-invalid-uint-requires
-invalid-uint-requires c κs = search needs
-
 returns : tie.Need-returns
 returns c = ap Refused (c .invalid-uint .ensures) ∙ uint-long _ _ _ (c .before .if1 .taken)
-
-number-requires : tie.Need-number-requires
-number-requires c κs = search needs
-
-enum-told : tie.Need-enum-told
-enum-told c = search needs
-
-past-end-requires : tie.Need-past-end-requires
-past-end-requires c κs = search needs
-
-enum-known-value : tie.Need-enum-known-value
-enum-known-value c = search needs
 
 returns-2 : tie.Need-returns-2
 returns-2 c =
@@ -40,13 +25,5 @@ returns-3 c =
 
 pub read-uint-spec : {M : Type 1} → statement M
 read-uint-spec =
-    tie.close
-    (tie.spec
-    invalid-uint-requires
-    returns
-    number-requires
-    enum-told
-    past-end-requires
-    enum-known-value
-    returns-2
-    returns-3)
+    tie.close (tie.spec (λ c κs. search needs) returns (λ c κs. search needs) (λ c. search needs) (λ c κs. search needs)
+    (λ c. search needs) returns-2 returns-3)

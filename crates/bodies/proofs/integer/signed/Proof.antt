@@ -28,15 +28,6 @@ returns c =
     let none : v < 2 ^ (8 * 0) = rw (c .if1 .taken) at small in
     rw (c .if1 .taken) (signed-none v none)
 
-mul-half : tie.Need-mul-half
-mul-half c = search needs
-
-sub-half : tie.Need-sub-half
-sub-half c = search needs
-
-shl-half : tie.Need-shl-half
-shl-half c = search needs
-
 cast-result : tie.Need-cast-result
 cast-result c = record { sfits = omega (arith, halved (c .before)) }
 
@@ -81,17 +72,5 @@ returns-3 c =
 
 pub signed-spec : {M : Type 1} → statement M
 signed-spec =
-    tie.close
-    (tie.spec
-    returns
-    mul-half
-    sub-half
-    shl-half
-    cast-result
-    returns-2
-    sub-below
-    add-below
-    sub-below-2
-    cast-result-2
-    sub-result
-    returns-3)
+    tie.close (tie.spec returns (λ c. search needs) (λ c. search needs) (λ c. search needs) cast-result returns-2
+    sub-below add-below sub-below-2 cast-result-2 sub-result returns-3)

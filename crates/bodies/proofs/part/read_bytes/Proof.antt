@@ -10,12 +10,6 @@ use Prim.Native.Nat.{_+_}
 use Rattle.bodies.proofs.part.read_bytes.Statement.{statement}
 use Rattle.bodies.proofs.part.read_bytes.Tie as tie
 
-is-there-requires : tie.Need-is-there-requires
-is-there-requires c κs = search needs
-
-past-end-requires : tie.Need-past-end-requires
-past-end-requires c κs = search needs
-
 returns : tie.Need-returns
 returns c =
     let missing = failed _ _ (c .before .before .is-there .ensures) (c .before .if1 .taken) in
@@ -31,5 +25,4 @@ returns-2 : tie.Need-returns-2
 returns-2 c = bytes-there _ _ _ (passed _ _ (c .before .is-there .ensures) (c .if1 .left))
 
 pub read-bytes-spec : {M : Type 1} → statement M
-read-bytes-spec =
-    tie.close (tie.spec is-there-requires past-end-requires returns add-end returns-2)
+read-bytes-spec = tie.close (tie.spec (λ c κs. search needs) (λ c κs. search needs) returns add-end returns-2)

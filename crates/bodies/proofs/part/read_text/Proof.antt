@@ -11,12 +11,6 @@ use Prim.Native.Nat.{_+_}
 use Rattle.bodies.proofs.part.read_text.Statement.{statement}
 use Rattle.bodies.proofs.part.read_text.Tie as tie
 
-is-there-requires : tie.Need-is-there-requires
-is-there-requires c κs = search needs
-
-past-end-requires : tie.Need-past-end-requires
-past-end-requires c κs = search needs
-
 returns : tie.Need-returns
 returns c =
     let missing = failed _ _ (c .before .before .is-there .ensures) (c .before .if1 .taken) in
@@ -28,23 +22,11 @@ add-end c =
     let there = leb-true (a .place .at + a .size) _ (passed _ _ (c .before .is-there .ensures) (c .if1 .left)) in
     omega (arith, there)
 
-sub-is-utf8 : tie.Need-sub-is-utf8
-sub-is-utf8 c = search needs
-
-part-is-utf8-start : tie.Need-part-is-utf8-start
-part-is-utf8-start c = search needs
-
 part-is-utf8-end : tie.Need-part-is-utf8-end
 part-is-utf8-end c =
     let a = c .before .before .before .args in
     let there = leb-true (a .place .at + a .size) _ (passed _ _ (c .before .is-there .ensures) (c .if1 .left)) in
     omega (arith, there)
-
-is-utf8-requires : tie.Need-is-utf8-requires
-is-utf8-requires c κs = search needs
-
-not-utf8-requires : tie.Need-not-utf8-requires
-not-utf8-requires c κs = search needs
 
 returns-2 : tie.Need-returns-2
 returns-2 c =
@@ -62,16 +44,5 @@ returns-3 c =
 
 pub read-text-spec : {M : Type 1} → statement M
 read-text-spec =
-    tie.close
-    (tie.spec
-    is-there-requires
-    past-end-requires
-    returns
-    add-end
-    sub-is-utf8
-    part-is-utf8-start
-    part-is-utf8-end
-    is-utf8-requires
-    not-utf8-requires
-    returns-2
-    returns-3)
+    tie.close (tie.spec (λ c κs. search needs) (λ c κs. search needs) returns add-end (λ c. search needs)
+    (λ c. search needs) part-is-utf8-end (λ c κs. search needs) (λ c κs. search needs) returns-2 returns-3)

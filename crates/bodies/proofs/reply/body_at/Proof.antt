@@ -17,35 +17,17 @@ as-replied c =
     reply-read (a .recording .now) (a .id) (a .parent) (a .at) (a .size) (c .before .kind-of .result)
     (c .read-body .result) (c .before .kind-of .ensures .reply) (c .read-body .ensures) (omega arith) (omega arith)
 
-bad-argument-requires : tie.Need-bad-argument-requires
-bad-argument-requires c κs = search needs
-
 returns : tie.Need-returns
 returns c =
     let a = c .before .before .before .args in
     let long = reply-too-long (a .recording .now) (a .id) (a .parent) (a .at) (a .size) (omega arith) in
     record { reply = ap refuses (c .bad-argument .ensures) ∙ long }
 
-bad-argument-requires-2 : tie.Need-bad-argument-requires-2
-bad-argument-requires-2 c κs = search needs
-
 returns-2 : tie.Need-returns-2
 returns-2 c =
     let a = c .before .before .before .before .args in
     let past = reply-past-end (a .recording .now) (a .id) (a .parent) (a .at) (a .size) (omega arith) (omega arith) in
     record { reply = ap refuses (c .bad-argument2 .ensures) ∙ past }
-
-kind-of-requires : tie.Need-kind-of-requires
-kind-of-requires c κs = search needs
-
-read-body-requires : tie.Need-read-body-requires
-read-body-requires c κs = search needs
-
-enum-known-body : tie.Need-enum-known-body
-enum-known-body c = search needs
-
-enum-known-refusal : tie.Need-enum-known-refusal
-enum-known-refusal c = search needs
 
 returns-3 : tie.Need-returns-3
 returns-3 c =
@@ -59,15 +41,5 @@ returns-4 c =
 
 pub body-at-spec : {M : Type 1} → statement M
 body-at-spec =
-    tie.close
-    (tie.spec
-    bad-argument-requires
-    returns
-    bad-argument-requires-2
-    returns-2
-    kind-of-requires
-    read-body-requires
-    enum-known-body
-    enum-known-refusal
-    returns-3
-    returns-4)
+    tie.close (tie.spec (λ c κs. search needs) returns (λ c κs. search needs) returns-2 (λ c κs. search needs)
+    (λ c κs. search needs) (λ c. search needs) (λ c. search needs) returns-3 returns-4)

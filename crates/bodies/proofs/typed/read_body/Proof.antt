@@ -26,51 +26,6 @@ module _ (s : List ℕ) (at n : ℕ) where
   unfolding bodyRead bodyOf
   string-is-utf8 = refl
 
-enum-told : tie.Need-enum-told
-enum-told c = search needs
-
-enum-told-2 : tie.Need-enum-told-2
-enum-told-2 c = search needs
-
-read-int-requires : tie.Need-read-int-requires
-read-int-requires c κs = search needs
-
-enum-told-3 : tie.Need-enum-told-3
-enum-told-3 c = search needs
-
-read-uint-requires : tie.Need-read-uint-requires
-read-uint-requires c κs = search needs
-
-enum-told-4 : tie.Need-enum-told-4
-enum-told-4 c = search needs
-
-read-text-requires : tie.Need-read-text-requires
-read-text-requires c κs = search needs
-
-enum-told-5 : tie.Need-enum-told-5
-enum-told-5 c = search needs
-
-read-text-requires-2 : tie.Need-read-text-requires-2
-read-text-requires-2 c κs = search needs
-
-enum-told-6 : tie.Need-enum-told-6
-enum-told-6 c = search needs
-
-read-bytes-requires : tie.Need-read-bytes-requires
-read-bytes-requires c κs = search needs
-
-enum-told-7 : tie.Need-enum-told-7
-enum-told-7 c = search needs
-
-read-float-requires : tie.Need-read-float-requires
-read-float-requires c κs = search needs
-
-enum-told-8 : tie.Need-enum-told-8
-enum-told-8 c = search needs
-
-read-date-requires : tie.Need-read-date-requires
-read-date-requires c κs = search needs
-
 returns : tie.Need-returns
 returns c = master-read _ _ _ ∙ as-kind _ _ _ (c .enum-told .given .1)
 
@@ -97,28 +52,7 @@ returns-8 c = c .read-date .ensures ∙ as-kind _ _ _ (c .before .enum-told8 .gi
 
 pub read-body-spec : {M : Type 1} → statement M
 read-body-spec =
-    tie.close
-    (tie.spec
-    enum-told
-    enum-told-2
-    read-int-requires
-    enum-told-3
-    read-uint-requires
-    enum-told-4
-    read-text-requires
-    enum-told-5
-    read-text-requires-2
-    enum-told-6
-    read-bytes-requires
-    enum-told-7
-    read-float-requires
-    enum-told-8
-    read-date-requires
-    returns
-    returns-2
-    returns-3
-    returns-4
-    returns-5
-    returns-6
-    returns-7
-    returns-8)
+    tie.close (tie.spec (λ c. search needs) (λ c. search needs) (λ c κs. search needs) (λ c. search needs)
+    (λ c κs. search needs) (λ c. search needs) (λ c κs. search needs) (λ c. search needs) (λ c κs. search needs)
+    (λ c. search needs) (λ c κs. search needs) (λ c. search needs) (λ c κs. search needs) (λ c. search needs)
+    (λ c κs. search needs) returns returns-2 returns-3 returns-4 returns-5 returns-6 returns-7 returns-8)

@@ -8,9 +8,6 @@ use borrow.Author.Needs.{needs}
 use Rattle.elements.proofs.reply.fill.Statement.{statement}
 use Rattle.elements.proofs.reply.fill.Tie as tie
 
-slice-aggregate-master-body : tie.Need-slice-aggregate-master-body
-slice-aggregate-master-body c = search needs
-
 master-body-requires : tie.Need-master-body-requires
 unfolding elements
 master-body-requires c κs =
@@ -24,18 +21,6 @@ master-body-requires c κs =
       room = λ kept. omega arith;
     }
 
-enum-known-refusal : tie.Need-enum-known-refusal
-enum-known-refusal c = search needs
-
-clear-requires : tie.Need-clear-requires
-clear-requires c κs = search needs
-
-enum-known-rows : tie.Need-enum-known-rows
-enum-known-rows c = search needs
-
-same-length : tie.Need-same-length
-same-length c = search needs
-
 returns : tie.Need-returns
 returns c =
     let a = c .before .before .before .before .before .before .before in
@@ -46,9 +31,6 @@ returns c =
     (rw (c .before .before .before .before .before .refusal .given .1) at (m .ensures))
     (k .ensures ∙ zeros-as (m .kept .1 .1 .0))
 
-same-length-2 : tie.Need-same-length-2
-same-length-2 c = search needs
-
 returns-2 : tie.Need-returns-2
 returns-2 c =
     let b = c .before .before .before .before .before .before .before .before .before .before in
@@ -57,14 +39,5 @@ returns-2 c =
 
 pub fill-spec : {M : Type 1} → statement M
 fill-spec =
-    tie.close
-    (tie.spec
-    slice-aggregate-master-body
-    master-body-requires
-    enum-known-refusal
-    clear-requires
-    enum-known-rows
-    same-length
-    returns
-    same-length-2
-    returns-2)
+    tie.close (tie.spec (λ c. search needs) master-body-requires (λ c. search needs) (λ c κs. search needs)
+    (λ c. search needs) (λ c. search needs) returns (λ c. search needs) returns-2)

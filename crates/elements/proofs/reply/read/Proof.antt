@@ -6,18 +6,6 @@ use borrow.Author.Needs.{needs}
 use Rattle.elements.proofs.reply.read.Statement.{statement}
 use Rattle.elements.proofs.reply.read.Tie as tie
 
-clear-requires : tie.Need-clear-requires
-clear-requires c κs = search needs
-
-is-allowed-requires : tie.Need-is-allowed-requires
-is-allowed-requires c κs = search needs
-
-bad-argument-requires : tie.Need-bad-argument-requires
-bad-argument-requires c κs = search needs
-
-same-length : tie.Need-same-length
-same-length c = search needs
-
 returns : tie.Need-returns
 returns c =
     let k = c .before .before .before .before .before .before .clear in
@@ -31,9 +19,6 @@ fill-requires c κs =
     let i = c .before .before .is-allowed in
     (passed _ _ (i .ensures) (c .before .if1 .left), k .ensures ∙ zeros-as (sym (k .kept .0)))
 
-same-length-2 : tie.Need-same-length-2
-same-length-2 c = search needs
-
 returns-2 : tie.Need-returns-2
 returns-2 c =
     let k = c .before .before .before .before .before .before .before .before .before .clear in
@@ -41,13 +26,5 @@ returns-2 c =
 
 pub read-spec : {M : Type 1} → statement M
 read-spec =
-    tie.close
-    (tie.spec
-    clear-requires
-    is-allowed-requires
-    bad-argument-requires
-    same-length
-    returns
-    fill-requires
-    same-length-2
-    returns-2)
+    tie.close (tie.spec (λ c κs. search needs) (λ c κs. search needs) (λ c κs. search needs) (λ c. search needs) returns
+    fill-requires (λ c. search needs) returns-2)

@@ -8,12 +8,6 @@ use Rattle.elements.proofs.row.keep_row.Tie as tie
 returns : tie.Need-returns
 returns c = kept-full _ _ _ _ _ (c .before .if1 .taken) (c .if2 .taken)
 
-put-row-requires : tie.Need-put-row-requires
-put-row-requires c κs = search needs
-
-same-length : tie.Need-same-length
-same-length c = search needs
-
 returns-2 : tie.Need-returns-2
 returns-2 c =
     kept-row _ _ _ _ _
@@ -24,4 +18,4 @@ returns-3 : tie.Need-returns-3
 returns-3 c = kept-none _ _ _ _ _ (c .if1 .left) refl
 
 pub keep-row-spec : {M : Type 1} → statement M
-keep-row-spec = tie.close (tie.spec returns put-row-requires same-length returns-2 returns-3)
+keep-row-spec = tie.close (tie.spec returns (λ c κs. search needs) (λ c. search needs) returns-2 returns-3)

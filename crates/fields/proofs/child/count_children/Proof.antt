@@ -30,10 +30,6 @@ row-at-requires c κs =
     let if1 = c .if1 in
     omega (arith, start .pre .held, if1 .taken)
 
-is-child-requires : tie.Need-is-child-requires Inv-loop μ-loop
-is-child-requires c κs =
-    search needs
-
 add-count : tie.Need-add-count Inv-loop μ-loop
 add-count c =
     let start = c .before .before .before .before .before .before .before in
@@ -87,16 +83,5 @@ returns c =
 
 pub count-children-spec : {M : Type 1} → statement M
 count-children-spec =
-    tie.close
-    (tie.spec
-    Inv-loop
-    μ-loop
-    loop-holds
-    row-at-requires
-    is-child-requires
-    add-count
-    loop-less
-    loop-again
-    loop-less-2
-    loop-again-2
-    returns)
+    tie.close (tie.spec Inv-loop μ-loop loop-holds row-at-requires (λ c κs. search needs) add-count loop-less loop-again
+    loop-less-2 loop-again-2 returns)

@@ -29,10 +29,6 @@ row-at-requires c κs =
     let if1 = c .if1 in
     omega (arith, start .pre .held, if1 .taken)
 
-is-child-requires : tie.Need-is-child-requires Inv-loop μ-loop
-is-child-requires c κs =
-    search needs
-
 -- The row that a turn looked at.
 looked : (c : tie.After-is-child Inv-loop μ-loop)
     → let a = c .before .before .before .before .before .before .args in
@@ -75,15 +71,5 @@ returns c =
 
 pub last-child-spec : {M : Type 1} → statement M
 last-child-spec =
-    tie.close
-    (tie.spec
-    Inv-loop
-    μ-loop
-    loop-holds
-    row-at-requires
-    is-child-requires
-    loop-less
-    loop-again
-    loop-less-2
-    loop-again-2
-    returns)
+    tie.close (tie.spec Inv-loop μ-loop loop-holds row-at-requires (λ c κs. search needs) loop-less loop-again
+    loop-less-2 loop-again-2 returns)

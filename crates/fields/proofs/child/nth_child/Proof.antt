@@ -29,10 +29,6 @@ row-at-requires c κs =
     let if1 = c .if1 in
     omega (arith, start .pre .held, if1 .taken)
 
-is-child-requires : tie.Need-is-child-requires Inv-loop μ-loop
-is-child-requires c κs =
-    search needs
-
 returns : tie.Need-returns Inv-loop μ-loop
 returns c =
     let loop = c .before .before .before .before .before .before .loop in
@@ -92,17 +88,5 @@ returns-2 c =
 
 pub nth-child-spec : {M : Type 1} → statement M
 nth-child-spec =
-    tie.close
-    (tie.spec
-    Inv-loop
-    μ-loop
-    loop-holds
-    row-at-requires
-    is-child-requires
-    returns
-    sub-left
-    loop-less
-    loop-again
-    loop-less-2
-    loop-again-2
-    returns-2)
+    tie.close (tie.spec Inv-loop μ-loop loop-holds row-at-requires (λ c κs. search needs) returns sub-left loop-less
+    loop-again loop-less-2 loop-again-2 returns-2)

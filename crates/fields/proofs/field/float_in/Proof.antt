@@ -7,9 +7,6 @@ use borrow.Author.Needs.{needs}
 use Rattle.fields.proofs.field.float_in.Statement.{statement}
 use Rattle.fields.proofs.field.float_in.Tie as tie
 
-add-at : tie.Need-add-at
-add-at c = search needs
-
 big-endian-requires : tie.Need-big-endian-requires
 big-endian-requires c κs =
     let start = c .before .before in (
@@ -31,9 +28,6 @@ returns c =
     of-4 (start .args .recording .now) (start .args .row) _ (big-endian .ensures .0) _ (c .before .if1 .taken)
     (c .float-of-4 .ensures)
 
-float-of-8-requires : tie.Need-float-of-8-requires
-float-of-8-requires c κs = search needs
-
 returns-2 : tie.Need-returns-2
 returns-2 c =
     let start = c .before .before .before .before .before .before in
@@ -43,5 +37,5 @@ returns-2 c =
 
 pub float-in-spec : {M : Type 1} → statement M
 float-in-spec =
-    tie.close
-    (tie.spec add-at big-endian-requires float-of-4-requires returns float-of-8-requires returns-2)
+    tie.close (tie.spec (λ c. search needs) big-endian-requires float-of-4-requires returns (λ c κs. search needs)
+    returns-2)

@@ -6,26 +6,11 @@ use borrow.Author.Needs.{needs}
 use Rattle.fields.proofs.field.language_field.Statement.{statement}
 use Rattle.fields.proofs.field.language_field.Tie as tie
 
-last-child-requires : tie.Need-last-child-requires
-last-child-requires c κs = search needs
-
-enum-known-row : tie.Need-enum-known-row
-enum-known-row c = search needs
-
 range-of-requires : tie.Need-range-of-requires
 range-of-requires c κs =
     let start = c .before .before .before .before .before .before in
     let last-child = c .before .before .before .last-child in
     place-fits _ _ _ (last-holds _ _ _ _ _ (start .pre) _ _ (sym (c .before .row .given .1) ∙ last-child .ensures))
-
-enum-told : tie.Need-enum-told
-enum-told c = search needs
-
-last-child-requires-2 : tie.Need-last-child-requires-2
-last-child-requires-2 c κs = search needs
-
-enum-known-row-2 : tie.Need-enum-known-row-2
-enum-known-row-2 c = search needs
 
 range-of-requires-2 : tie.Need-range-of-requires-2
 range-of-requires-2 c κs =
@@ -33,9 +18,6 @@ range-of-requires-2 c κs =
     let last-child2 = c .before .before .before .last-child2 in
     place-fits _ _ _
     (last-holds _ _ _ _ _ (start .pre) _ _ (sym (c .before .row2 .given .1) ∙ last-child2 .ensures))
-
-enum-told-2 : tie.Need-enum-told-2
-enum-told-2 c = search needs
 
 returns : tie.Need-returns
 returns c =
@@ -62,16 +44,5 @@ returns-3 c =
 
 pub language-field-spec : {M : Type 1} → statement M
 language-field-spec =
-    tie.close
-    (tie.spec
-    last-child-requires
-    enum-known-row
-    range-of-requires
-    enum-told
-    last-child-requires-2
-    enum-known-row-2
-    range-of-requires-2
-    enum-told-2
-    returns
-    returns-2
-    returns-3)
+    tie.close (tie.spec (λ c κs. search needs) (λ c. search needs) range-of-requires (λ c. search needs)
+    (λ c κs. search needs) (λ c. search needs) range-of-requires-2 (λ c. search needs) returns returns-2 returns-3)

@@ -6,15 +6,6 @@ use borrow.Author.Needs.{needs}
 use Rattle.fields.proofs.field.part_field.Statement.{statement}
 use Rattle.fields.proofs.field.part_field.Tie as tie
 
-last-child-requires : tie.Need-last-child-requires
-last-child-requires c κs = search needs
-
-enum-told : tie.Need-enum-told
-enum-told c = search needs
-
-enum-known-row : tie.Need-enum-known-row
-enum-known-row c = search needs
-
 range-of-requires : tie.Need-range-of-requires
 range-of-requires c κs =
     let start = c .before .before .before .before .before .before in
@@ -34,5 +25,5 @@ returns-2 c =
 
 pub part-field-spec : {M : Type 1} → statement M
 part-field-spec =
-    tie.close
-    (tie.spec last-child-requires enum-told enum-known-row range-of-requires returns returns-2)
+    tie.close (tie.spec (λ c κs. search needs) (λ c. search needs) (λ c. search needs) range-of-requires returns
+    returns-2)

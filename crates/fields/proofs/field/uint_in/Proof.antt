@@ -5,16 +5,10 @@ use borrow.Author.Needs.{needs}
 use Rattle.fields.proofs.field.uint_in.Statement.{statement}
 use Rattle.fields.proofs.field.uint_in.Tie as tie
 
-add-at : tie.Need-add-at
-add-at c = search needs
-
 big-endian-requires : tie.Need-big-endian-requires
 big-endian-requires c κs =
     let start = c .before .before in
     (uint-size _ _ (start .pre), omega (arith, start .pre .sound .inside))
 
-returns : tie.Need-returns
-returns c = search needs
-
 pub uint-in-spec : {M : Type 1} → statement M
-uint-in-spec = tie.close (tie.spec add-at big-endian-requires returns)
+uint-in-spec = tie.close (tie.spec (λ c. search needs) big-endian-requires (λ c. search needs))

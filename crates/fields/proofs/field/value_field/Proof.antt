@@ -6,35 +6,11 @@ use borrow.Author.Needs.{needs}
 use Rattle.fields.proofs.field.value_field.Statement.{statement}
 use Rattle.fields.proofs.field.value_field.Tie as tie
 
-last-child-requires : tie.Need-last-child-requires
-last-child-requires c κs = search needs
-
-enum-told : tie.Need-enum-told
-enum-told c = search needs
-
-last-child-requires-2 : tie.Need-last-child-requires-2
-last-child-requires-2 c κs = search needs
-
-enum-told-2 : tie.Need-enum-told-2
-enum-told-2 c = search needs
-
-enum-known-row : tie.Need-enum-known-row
-enum-known-row c = search needs
-
 range-of-requires : tie.Need-range-of-requires
 range-of-requires c κs =
     let start = c .before .before .before .before .before .before .before .before .before in
     let last-child2 = c .before .before .before .last-child2 in
     place-fits _ _ _ (last-holds _ _ _ _ _ (start .pre) _ _ (sym (c .before .row .given .1) ∙ last-child2 .ensures))
-
-enum-known-first : tie.Need-enum-known-first
-enum-known-first c = search needs
-
-last-child-requires-3 : tie.Need-last-child-requires-3
-last-child-requires-3 c κs = search needs
-
-enum-told-3 : tie.Need-enum-told-3
-enum-told-3 c = search needs
 
 range-of-requires-2 : tie.Need-range-of-requires-2
 range-of-requires-2 c κs =
@@ -42,9 +18,6 @@ range-of-requires-2 c κs =
     let first = c .before .before .before .before .first in
     let last-child = c .before .before .before .before .before .before .last-child in
     place-fits _ _ _ (last-holds _ _ _ _ _ (start .pre) _ _ (sym (first .given .1) ∙ last-child .ensures))
-
-enum-known-second : tie.Need-enum-known-second
-enum-known-second c = search needs
 
 range-of-requires-3 : tie.Need-range-of-requires-3
 range-of-requires-3 c κs =
@@ -105,23 +78,7 @@ returns-5 c =
 
 pub value-field-spec : {M : Type 1} → statement M
 value-field-spec =
-    tie.close
-    (tie.spec
-    last-child-requires
-    enum-told
-    last-child-requires-2
-    enum-told-2
-    enum-known-row
-    range-of-requires
-    enum-known-first
-    last-child-requires-3
-    enum-told-3
-    range-of-requires-2
-    enum-known-second
-    range-of-requires-3
-    returns
-    range-of-requires-4
-    returns-2
-    returns-3
-    returns-4
-    returns-5)
+    tie.close (tie.spec (λ c κs. search needs) (λ c. search needs) (λ c κs. search needs) (λ c. search needs)
+    (λ c. search needs) range-of-requires (λ c. search needs) (λ c κs. search needs) (λ c. search needs)
+    range-of-requires-2 (λ c. search needs) range-of-requires-3 returns range-of-requires-4 returns-2 returns-3
+    returns-4 returns-5)

@@ -26,27 +26,12 @@ mul-value c =
     let l = c .before .loop in
     omega (arith, fits-in (l .i) 7 (l .value) (omega arith) (l .inv .2))
 
-add-wide : tie.Need-add-wide Inv-loop μ-loop
-add-wide c = search needs
-
-shared-slice-read-wide : tie.Need-shared-slice-read-wide Inv-loop μ-loop
-shared-slice-read-wide c = search needs
-
-wide-requires : tie.Need-wide-requires Inv-loop μ-loop
-wide-requires c κs = search needs
-
 add-value : tie.Need-add-value Inv-loop μ-loop
 add-value c =
     let l = c .before .before .before .loop in
     let a = c .before .before .before .before .before .args in
     let octet = c .before .shared-slice-known2 .given (a .at + l .i) in
     omega (arith, fits-in (l .i) 7 (l .value) (omega arith) (l .inv .2), c .wide .ensures, octet)
-
-add-i : tie.Need-add-i Inv-loop μ-loop
-add-i c = search needs
-
-loop-less : tie.Need-loop-less Inv-loop μ-loop
-loop-less c = search needs
 
 loop-again : tie.Need-loop-again Inv-loop μ-loop
 loop-again c =
@@ -67,17 +52,5 @@ returns c =
 
 pub big-endian-spec : {M : Type 1} → statement M
 big-endian-spec =
-    tie.close
-    (tie.spec
-    Inv-loop
-    μ-loop
-    loop-holds
-    mul-value
-    add-wide
-    shared-slice-read-wide
-    wide-requires
-    add-value
-    add-i
-    loop-less
-    loop-again
-    returns)
+    tie.close (tie.spec Inv-loop μ-loop loop-holds mul-value (λ c. search needs) (λ c. search needs)
+    (λ c κs. search needs) add-value (λ c. search needs) (λ c. search needs) loop-again returns)

@@ -8,32 +8,17 @@ use Rattle.header.proofs.Replies.{readReply, reply-too-long, reply-past
 use Rattle.header.proofs.reply.header_at.Statement.{statement}
 use Rattle.header.proofs.reply.header_at.Tie as tie
 
-bad-argument-requires : tie.Need-bad-argument-requires
-bad-argument-requires c κs = search needs
-
 returns : tie.Need-returns
 returns c =
     let a = c .before .before .before .args in
     let long = reply-too-long (a .recording .now) (a .at) (omega arith) in
     record { reply = ap refusalOf (c .bad-argument .ensures) ∙ long }
 
-bad-argument-requires-2 : tie.Need-bad-argument-requires-2
-bad-argument-requires-2 c κs = search needs
-
 returns-2 : tie.Need-returns-2
 returns-2 c =
     let a = c .before .before .before .before .args in
     let past = reply-past-end (a .recording .now) (a .at) (omega arith) (omega arith) in
     record { reply = ap refusalOf (c .bad-argument2 .ensures) ∙ past }
-
-header-requires : tie.Need-header-requires
-header-requires c κs = search needs
-
-enum-known-header : tie.Need-enum-known-header
-enum-known-header c = search needs
-
-enum-known-refusal : tie.Need-enum-known-refusal
-enum-known-refusal c = search needs
 
 returns-3 : tie.Need-returns-3
 returns-3 c =
@@ -57,14 +42,5 @@ returns-4 c =
 
 pub header-at-spec : {M : Type 1} → statement M
 header-at-spec =
-    tie.close
-    (tie.spec
-    bad-argument-requires
-    returns
-    bad-argument-requires-2
-    returns-2
-    header-requires
-    enum-known-header
-    enum-known-refusal
-    returns-3
-    returns-4)
+    tie.close (tie.spec (λ c κs. search needs) returns (λ c κs. search needs) returns-2 (λ c κs. search needs)
+    (λ c. search needs) (λ c. search needs) returns-3 returns-4)

@@ -5,19 +5,10 @@ use Rattle.kinds.proofs.Parents.{under-other, under-kept, under-lost}
 use Rattle.kinds.proofs.lookup.kind_in.Statement.{statement}
 use Rattle.kinds.proofs.lookup.kind_in.Tie as tie
 
-listed-number-requires : tie.Need-listed-number-requires
-listed-number-requires c κs = search needs
-
-of-number-requires : tie.Need-of-number-requires
-of-number-requires c κs = search needs
-
 returns : tie.Need-returns
 returns c =
     let number = c .before .before .listed-number .ensures in
     c .of-number .ensures ∙ under-other _ _ _ number (c .before .if1 .taken)
-
-stays-master-requires : tie.Need-stays-master-requires
-stays-master-requires c κs = search needs
 
 returns-2 : tie.Need-returns-2
 returns-2 c =
@@ -33,11 +24,5 @@ returns-3 c =
 
 pub kind-in-spec : {M : Type 1} → statement M
 kind-in-spec =
-    tie.close
-    (tie.spec
-    listed-number-requires
-    of-number-requires
-    returns
-    stays-master-requires
-    returns-2
+    tie.close (tie.spec (λ c κs. search needs) (λ c κs. search needs) returns (λ c κs. search needs) returns-2
     returns-3)

@@ -6,9 +6,6 @@ use Rattle.kinds.specs.Kinds.{numberOf}
 use Rattle.kinds.proofs.lookup.kind_of.Statement.{statement}
 use Rattle.kinds.proofs.lookup.kind_of.Tie as tie
 
-slice-aggregate-kind-in : tie.Need-slice-aggregate-kind-in
-slice-aggregate-kind-in c = search needs
-
 kind-in-requires : tie.Need-kind-in-requires
 unfolding elements
 kind-in-requires c κs = refl
@@ -17,4 +14,4 @@ returns : tie.Need-returns
 returns c = record { reply = ap numberOf (c .kind-in .ensures) }
 
 pub kind-of-spec : {M : Type 1} → statement M
-kind-of-spec = tie.close (tie.spec slice-aggregate-kind-in kind-in-requires returns)
+kind-of-spec = tie.close (tie.spec (λ c. search needs) kind-in-requires returns)

@@ -7,9 +7,6 @@ use Rattle.kinds.proofs.Listed.{list-rises, listed, unlisted}
 use Rattle.kinds.proofs.lookup.listed_number.Statement.{statement}
 use Rattle.kinds.proofs.lookup.listed_number.Tie as tie
 
-mul-place-of : tie.Need-mul-place-of
-mul-place-of c = search needs
-
 place-of-requires : tie.Need-place-of-requires
 place-of-requires c κs = list-rises _ (c .before .pre)
 
@@ -17,12 +14,6 @@ returns : tie.Need-returns
 returns c =
     let start = c .before .before .before in
     sym (ap numberOf (unlisted _ (start .pre) _ _ (c .before .place-of .ensures) (λ h. absurd (omega arith))))
-
-mul-entry : tie.Need-mul-entry
-mul-entry c = search needs
-
-shared-slice-read-entry : tie.Need-shared-slice-read-entry
-shared-slice-read-entry c = search needs
 
 returns-2 : tie.Need-returns-2
 returns-2 c =
@@ -37,12 +28,5 @@ returns-3 c =
 
 pub listed-number-spec : {M : Type 1} → statement M
 listed-number-spec =
-    tie.close
-    (tie.spec
-    mul-place-of
-    place-of-requires
-    returns
-    mul-entry
-    shared-slice-read-entry
-    returns-2
+    tie.close (tie.spec (λ c. search needs) place-of-requires returns (λ c. search needs) (λ c. search needs) returns-2
     returns-3)

@@ -51,5 +51,4 @@ returns-7 c =
     )
 
 pub stays-master-spec : {M : Type 1} → statement M
-stays-master-spec =
-    tie.close (tie.spec returns returns-2 returns-3 returns-4 returns-5 returns-6 returns-7)
+stays-master-spec = tie.close (tie.spec returns returns-2 returns-3 returns-4 returns-5 returns-6 returns-7)

@@ -57,42 +57,6 @@ module _ (c : tie.After-known-told2) where
   size-fits : VintFits 8 (Vint size-octets size-value after-size)
   size-fits = rw (c .before .size-octets .given .1) at (c .before .before .before .vint2 .ensures .1)
 
-vint-requires : tie.Need-vint-requires
-vint-requires c κs = search needs
-
-enum-told : tie.Need-enum-told
-enum-told c = search needs
-
-past-end-requires : tie.Need-past-end-requires
-past-end-requires c κs = search needs
-
-enum-told-2 : tie.Need-enum-told-2
-enum-told-2 c = search needs
-
-invalid-id-requires : tie.Need-invalid-id-requires
-invalid-id-requires c κs = search needs
-
-enum-known-id-octets : tie.Need-enum-known-id-octets
-enum-known-id-octets c = search needs
-
-vint-requires-2 : tie.Need-vint-requires-2
-vint-requires-2 c κs = search needs
-
-enum-told-3 : tie.Need-enum-told-3
-enum-told-3 c = search needs
-
-past-end-requires-2 : tie.Need-past-end-requires-2
-past-end-requires-2 c κs = search needs
-
-enum-told-4 : tie.Need-enum-told-4
-enum-told-4 c = search needs
-
-invalid-size-requires : tie.Need-invalid-size-requires
-invalid-size-requires c κs = search needs
-
-enum-known-size-octets : tie.Need-enum-known-size-octets
-enum-known-size-octets c = search needs
-
 cast-id : tie.Need-cast-id
 cast-id c =
     let i = c .before .before .before .before in
@@ -144,25 +108,7 @@ returns-5 c =
 
 pub header-spec : {M : Type 1} → statement M
 header-spec =
-    tie.close
-    (tie.spec
-    vint-requires
-    enum-told
-    past-end-requires
-    enum-told-2
-    invalid-id-requires
-    enum-known-id-octets
-    vint-requires-2
-    enum-told-3
-    past-end-requires-2
-    enum-told-4
-    invalid-size-requires
-    enum-known-size-octets
-    cast-id
-    vint-data-requires
-    add-length
-    returns
-    returns-2
-    returns-3
-    returns-4
-    returns-5)
+    tie.close (tie.spec (λ c κs. search needs) (λ c. search needs) (λ c κs. search needs) (λ c. search needs)
+    (λ c κs. search needs) (λ c. search needs) (λ c κs. search needs) (λ c. search needs) (λ c κs. search needs)
+    (λ c. search needs) (λ c κs. search needs) (λ c. search needs) cast-id vint-data-requires add-length returns
+    returns-2 returns-3 returns-4 returns-5)

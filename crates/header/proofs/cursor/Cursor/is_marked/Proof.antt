@@ -15,12 +15,6 @@ Inv-loop recording i₀ i = marked (widthAt recording i) ≡ marked (widthAt rec
 abbrev μ-loop : tie.MeasureT-loop
 μ-loop recording i₀ i = length recording - i
 
-loop-holds : tie.Need-loop-holds Inv-loop μ-loop
-loop-holds c = search needs
-
-shared-slice-read-if1 : tie.Need-shared-slice-read-if1 Inv-loop μ-loop
-shared-slice-read-if1 c = search needs
-
 returns : tie.Need-returns Inv-loop μ-loop
 unfolding marked
 returns c =
@@ -29,12 +23,6 @@ returns c =
     let octet = c .before .shared-slice-known .given (l .loop .i) .fits in
     sym (ap marked (width-one s (l .loop .i) (c .before .before .loop-test .taken) octet (c .if1 .taken)))
     ∙ l .loop .inv
-
-add-i : tie.Need-add-i Inv-loop μ-loop
-add-i c = search needs
-
-loop-less : tie.Need-loop-less Inv-loop μ-loop
-loop-less c = search needs
 
 loop-again : tie.Need-loop-again Inv-loop μ-loop
 loop-again c =
@@ -52,5 +40,5 @@ returns-2 c =
 
 pub is-marked-spec : {M : Type 1} → statement M
 is-marked-spec =
-    tie.close
-    (tie.spec Inv-loop μ-loop loop-holds shared-slice-read-if1 returns add-i loop-less loop-again returns-2)
+    tie.close (tie.spec Inv-loop μ-loop (λ c. search needs) (λ c. search needs) returns (λ c. search needs)
+    (λ c. search needs) loop-again returns-2)

@@ -18,12 +18,6 @@ returns-2 c =
     let a = c .before .before .before .args in
     (sym (number-ends (a .recording .now) (a .self .at) (a .n) (omega arith)), tt)
 
-big-endian-requires : tie.Need-big-endian-requires
-big-endian-requires c κs = search needs
-
-add-next : tie.Need-add-next
-add-next c = search needs
-
 returns-3 : tie.Need-returns-3
 returns-3 c =
     let a = c .before .before .before .before .args in (
@@ -33,4 +27,4 @@ returns-3 c =
     )
 
 pub number-spec : {M : Type 1} → statement M
-number-spec = tie.close (tie.spec returns returns-2 big-endian-requires add-next returns-3)
+number-spec = tie.close (tie.spec returns returns-2 (λ c κs. search needs) (λ c. search needs) returns-3)

@@ -16,15 +16,6 @@ returns c =
     let a = c .before .before .args in
     sym (ap octetsOf (width-end (a .recording .now) (a .self .at) (c .if1 .taken)))
 
-shared-slice-read-first : tie.Need-shared-slice-read-first
-shared-slice-read-first c = search needs
-
-add-second : tie.Need-add-second
-add-second c = search needs
-
-is-marked-requires : tie.Need-is-marked-requires
-is-marked-requires c κs = search needs
-
 returns-2 : tie.Need-returns-2
 returns-2 c =
     let a = c .before .before .before .before .before .before .args in
@@ -57,14 +48,5 @@ returns-4 c =
 
 pub octets-spec : {M : Type 1} → statement M
 octets-spec =
-    tie.close
-    (tie.spec
-    returns
-    shared-slice-read-first
-    add-second
-    is-marked-requires
-    returns-2
-    returns-3
-    cast-result
-    add-result
-    returns-4)
+    tie.close (tie.spec returns (λ c. search needs) (λ c. search needs) (λ c κs. search needs) returns-2 returns-3
+    cast-result add-result returns-4)

@@ -19,9 +19,6 @@ by-number c =
     (c .before .before .if1 .left) (omega arith)
     ∙ ap (asVint (o .result)) (sym (c .number .ensures .0))
 
-octets-requires : tie.Need-octets-requires
-octets-requires c κs = search needs
-
 returns : tie.Need-returns
 returns c =
     let a = c .before .before .before .args in
@@ -35,15 +32,6 @@ returns-2 c =
     let o = c .before .before .octets in
     (sym (vint-long (a .recording .now) (a .self .at) (a .most) (omega arith) (omega (arith, o .ensures))), tt)
 
-number-requires : tie.Need-number-requires
-number-requires c κs = search needs
-
-enum-told : tie.Need-enum-told
-enum-told c = search needs
-
-enum-known-value : tie.Need-enum-known-value
-enum-known-value c = search needs
-
 returns-3 : tie.Need-returns-3
 returns-3 c = let d = c .before .before in (sym (by-number d ∙ ap (asVint _) (c .enum-told .given .1)), tt)
 
@@ -56,5 +44,5 @@ returns-4 c =
 
 pub vint-spec : {M : Type 1} → statement M
 vint-spec =
-    tie.close
-    (tie.spec octets-requires returns returns-2 number-requires enum-told enum-known-value returns-3 returns-4)
+    tie.close (tie.spec (λ c κs. search needs) returns returns-2 (λ c κs. search needs) (λ c. search needs)
+    (λ c. search needs) returns-3 returns-4)

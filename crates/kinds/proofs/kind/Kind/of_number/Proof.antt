@@ -44,6 +44,4 @@ returns-8 c =
     (sym (either (eqb (c .before .args .number) 6) Binary))
 
 pub of-number-spec : {M : Type 1} → statement M
-of-number-spec =
-    tie.close
-    (tie.spec returns returns-2 returns-3 returns-4 returns-5 returns-6 returns-7 returns-8)
+of-number-spec = tie.close (tie.spec returns returns-2 returns-3 returns-4 returns-5 returns-6 returns-7 returns-8)
