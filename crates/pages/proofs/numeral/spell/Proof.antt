@@ -21,9 +21,6 @@ loop-holds c = spelling-starts _ (c .before .pre .1 .0) _ _ (c .before .pre .0) 
 sub-first : tie.Need-sub-first Inv-loop μ-loop
 sub-first c = let i = c .before .loop .inv .some in omega arith
 
-rem-glyph : tie.Need-rem-glyph Inv-loop μ-loop
-rem-glyph c = search needs
-
 glyph-requires : tie.Need-glyph-requires Inv-loop μ-loop
 glyph-requires c κs =
     let p2 = c .before .before .before in
@@ -39,9 +36,6 @@ slice-write-text c =
     let n = i .some in
     omega arith
 
-div-rest : tie.Need-div-rest Inv-loop μ-loop
-div-rest c = search needs
-
 loop-less : tie.Need-loop-less Inv-loop μ-loop
 loop-less c =
     let p2 = c .before .before .before .before in
@@ -56,9 +50,6 @@ loop-again c =
 
 sub-first-2 : tie.Need-sub-first-2 Inv-loop μ-loop
 sub-first-2 c = let i = c .before .loop .inv .some in omega arith
-
-glyph-requires-2 : tie.Need-glyph-requires-2 Inv-loop μ-loop
-glyph-requires-2 c κs = search needs
 
 slice-write-text-2 : tie.Need-slice-write-text-2 Inv-loop μ-loop
 slice-write-text-2 c =
@@ -83,20 +74,5 @@ returns c =
 
 pub spell-spec : {M : Type 1} → statement M
 spell-spec =
-    tie.close
-    (tie.spec
-    Inv-loop
-    μ-loop
-    loop-holds
-    sub-first
-    rem-glyph
-    glyph-requires
-    slice-write-text
-    div-rest
-    loop-less
-    loop-again
-    sub-first-2
-    glyph-requires-2
-    slice-write-text-2
-    same-length
-    returns)
+    tie.close (tie.spec Inv-loop μ-loop loop-holds sub-first (λ c. search needs) glyph-requires slice-write-text
+    (λ c. search needs) loop-less loop-again sub-first-2 (λ c κs. search needs) slice-write-text-2 same-length returns)

@@ -18,9 +18,6 @@ abbrev μ-loop : tie.MeasureT-loop
 loop-holds : tie.Need-loop-holds Inv-loop μ-loop
 loop-holds c = (omega arith, paste-zero (c .args .page .now) (c .args .held) (c .args .bytes .now))
 
-shared-slice-read-page : tie.Need-shared-slice-read-page Inv-loop μ-loop
-shared-slice-read-page c = search needs
-
 add-page : tie.Need-add-page Inv-loop μ-loop
 add-page c =
     let p2 = c .before .before .before in
@@ -37,12 +34,6 @@ slice-write-page c =
     let l = copied-long _ _ _ _ _ p (i .0) (i .1) in
     omega arith
 
-add-i : tie.Need-add-i Inv-loop μ-loop
-add-i c = search needs
-
-loop-less : tie.Need-loop-less Inv-loop μ-loop
-loop-less c = search needs
-
 loop-again : tie.Need-loop-again Inv-loop μ-loop
 loop-again c =
     let p3 = c .before .before .before in
@@ -50,9 +41,6 @@ loop-again c =
     let p = p3 .pre in
     let t = c .before .loop-test .taken in
     (omega arith, copied-on _ _ _ _ _ (omega arith) t (i .1))
-
-add-result : tie.Need-add-result Inv-loop μ-loop
-add-result c = search needs
 
 same-length : tie.Need-same-length Inv-loop μ-loop
 same-length c =
@@ -66,17 +54,5 @@ returns c =
 
 pub put-spec : {M : Type 1} → statement M
 put-spec =
-    tie.close
-    (tie.spec
-    Inv-loop
-    μ-loop
-    loop-holds
-    shared-slice-read-page
-    add-page
-    slice-write-page
-    add-i
-    loop-less
-    loop-again
-    add-result
-    same-length
-    returns)
+    tie.close (tie.spec Inv-loop μ-loop loop-holds (λ c. search needs) add-page slice-write-page (λ c. search needs)
+    (λ c. search needs) loop-again (λ c. search needs) same-length returns)

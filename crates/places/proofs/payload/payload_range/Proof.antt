@@ -6,30 +6,15 @@ use borrow.Author.Needs.{needs}
 use Rattle.places.proofs.payload.payload_range.Statement.{statement}
 use Rattle.places.proofs.payload.payload_range.Tie as tie
 
-is-allowed-requires : tie.Need-is-allowed-requires
-is-allowed-requires c κs = search needs
-
-bad-argument-requires : tie.Need-bad-argument-requires
-bad-argument-requires c κs = search needs
-
 returns : tie.Need-returns
 returns c =
     let a = failed _ _ (c .before .before .is-allowed .ensures) (c .before .if1 .taken) in
     not-allowed _ _ _ _ a (c .bad-argument .ensures)
 
-bad-argument-requires-2 : tie.Need-bad-argument-requires-2
-bad-argument-requires-2 c κs = search needs
-
 returns-2 : tie.Need-returns-2
 returns-2 c =
     let a = passed _ _ (c .before .before .before .is-allowed .ensures) (c .before .before .if1 .left) in
     no-row _ _ _ a _ (omega arith) (c .bad-argument2 .ensures)
-
-row-at-requires : tie.Need-row-at-requires
-row-at-requires c κs = search needs
-
-bad-argument-requires-3 : tie.Need-bad-argument-requires-3
-bad-argument-requires-3 c κs = search needs
 
 returns-3 : tie.Need-returns-3
 returns-3 c =
@@ -39,9 +24,6 @@ returns-3 c =
     past-end _ _ _ a (c .before .before .before .if2 .left) (r .result) (r .ensures) _
     (omega arith) (c .bad-argument3 .ensures)
 
-bad-argument-requires-4 : tie.Need-bad-argument-requires-4
-bad-argument-requires-4 c κs = search needs
-
 returns-4 : tie.Need-returns-4
 returns-4 c =
     let d = c .before .before .before .before .before in
@@ -50,9 +32,6 @@ returns-4 c =
     past-end _ _ _ a (c .before .before .before .before .if2 .left) (r .result) (r .ensures) _
     (omega arith) (c .bad-argument4 .ensures)
 
-bad-argument-requires-5 : tie.Need-bad-argument-requires-5
-bad-argument-requires-5 c κs = search needs
-
 returns-5 : tie.Need-returns-5
 returns-5 c =
     let d = c .before .before .before .before .before .before in
@@ -60,9 +39,6 @@ returns-5 c =
     let r = c .before .before .before .before .row-at in
     past-end _ _ _ a (c .before .before .before .before .before .if2 .left) (r .result) (r .ensures) _
     (omega arith) (c .bad-argument5 .ensures)
-
-add-at : tie.Need-add-at
-add-at c = search needs
 
 returns-6 : tie.Need-returns-6
 returns-6 c =
@@ -73,19 +49,6 @@ returns-6 c =
 
 pub payload-range-spec : {M : Type 1} → statement M
 payload-range-spec =
-    tie.close
-    (tie.spec
-    is-allowed-requires
-    bad-argument-requires
-    returns
-    bad-argument-requires-2
-    returns-2
-    row-at-requires
-    bad-argument-requires-3
-    returns-3
-    bad-argument-requires-4
-    returns-4
-    bad-argument-requires-5
-    returns-5
-    add-at
-    returns-6)
+    tie.close (tie.spec (λ c κs. search needs) (λ c κs. search needs) returns (λ c κs. search needs) returns-2
+    (λ c κs. search needs) (λ c κs. search needs) returns-3 (λ c κs. search needs) returns-4 (λ c κs. search needs)
+    returns-5 (λ c. search needs) returns-6)

@@ -5,29 +5,11 @@ use borrow.Author.Needs.{needs}
 use Rattle.places.proofs.payload.row_payload.Statement.{statement}
 use Rattle.places.proofs.payload.row_payload.Tie as tie
 
-payload-range-requires : tie.Need-payload-range-requires
-payload-range-requires c κs = search needs
-
-enum-told : tie.Need-enum-told
-enum-told c = search needs
-
-slice-aggregate-result : tie.Need-slice-aggregate-result
-slice-aggregate-result c = search needs
-
-enum-known-range : tie.Need-enum-known-range
-enum-known-range c = search needs
-
 add-end : tie.Need-add-end
 add-end c =
     let d = c .before .before in
     let i = range-inside _ _ _ _ (rw (d .range .given .1) at (d .before .before .payload-range .ensures)) in
     omega (arith, i .ends, i .short)
-
-sub-result : tie.Need-sub-result
-sub-result c = search needs
-
-part-result-start : tie.Need-part-result-start
-part-result-start c = search needs
 
 part-result-end : tie.Need-part-result-end
 part-result-end c =
@@ -47,15 +29,5 @@ returns-2 c =
 
 pub row-payload-spec : {M : Type 1} → statement M
 row-payload-spec =
-    tie.close
-    (tie.spec
-    payload-range-requires
-    enum-told
-    slice-aggregate-result
-    enum-known-range
-    add-end
-    sub-result
-    part-result-start
-    part-result-end
-    returns
-    returns-2)
+    tie.close (tie.spec (λ c κs. search needs) (λ c. search needs) (λ c. search needs) (λ c. search needs) add-end
+    (λ c. search needs) (λ c. search needs) part-result-end returns returns-2)

@@ -20,12 +20,6 @@ loop-holds c = walk-from _ _ _
 row-at-requires : tie.Need-row-at-requires Inv-loop μ-loop
 row-at-requires c κs = omega arith
 
-held-by-requires : tie.Need-held-by-requires Inv-loop μ-loop
-held-by-requires c κs = search needs
-
-enum-told : tie.Need-enum-told Inv-loop μ-loop
-enum-told c = search needs
-
 returns : tie.Need-returns Inv-loop μ-loop
 returns c =
     let d = c .before .before .before .before in
@@ -33,18 +27,12 @@ returns c =
     let q = sym (c .enum-told .given .1) ∙ c .before .before .held-by .ensures in
     sym (walk-step _ _ _ _ (d .before .loop .inv) (d .loop-test .taken) (r .result) (r .ensures) Header q)
 
-enum-told-2 : tie.Need-enum-told-2 Inv-loop μ-loop
-enum-told-2 c = search needs
-
 returns-2 : tie.Need-returns-2 Inv-loop μ-loop
 returns-2 c =
     let d = c .before .before .before .before in
     let r = c .before .before .before .row-at in
     let q = sym (c .enum-told2 .given .1) ∙ c .before .before .held-by .ensures in
     sym (walk-step _ _ _ _ (d .before .loop .inv) (d .loop-test .taken) (r .result) (r .ensures) Payload q)
-
-enum-told-3 : tie.Need-enum-told-3 Inv-loop μ-loop
-enum-told-3 c = search needs
 
 add-n : tie.Need-add-n Inv-loop μ-loop
 add-n c = omega arith
@@ -59,28 +47,10 @@ loop-again c =
     let q = sym (c .enum-told3 .given .1) ∙ c .before .before .held-by .ensures in
     walk-on _ _ _ _ (d .before .loop .inv) (d .loop-test .taken) (r .result) (r .ensures) q
 
-outside-requires : tie.Need-outside-requires Inv-loop μ-loop
-outside-requires c κs = search needs
-
 returns-3 : tie.Need-returns-3 Inv-loop μ-loop
 returns-3 c = walk-ends _ _ _ _ (c .before .before .loop .inv) _ (c .outside .ensures) (c .before .loop-test .left)
 
 pub find-spec : {M : Type 1} → statement M
 find-spec =
-    tie.close
-    (tie.spec
-    Inv-loop
-    μ-loop
-    loop-holds
-    row-at-requires
-    held-by-requires
-    enum-told
-    returns
-    enum-told-2
-    returns-2
-    enum-told-3
-    add-n
-    loop-less
-    loop-again
-    outside-requires
-    returns-3)
+    tie.close (tie.spec Inv-loop μ-loop loop-holds row-at-requires (λ c κs. search needs) (λ c. search needs) returns
+    (λ c. search needs) returns-2 (λ c. search needs) add-n loop-less loop-again (λ c κs. search needs) returns-3)

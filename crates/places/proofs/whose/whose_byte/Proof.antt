@@ -7,33 +7,12 @@ use borrow.Author.Needs.{needs}
 use Rattle.places.proofs.whose.whose_byte.Statement.{statement}
 use Rattle.places.proofs.whose.whose_byte.Tie as tie
 
-clear-requires : tie.Need-clear-requires
-clear-requires c κs = search needs
-
-is-allowed-requires : tie.Need-is-allowed-requires
-is-allowed-requires c κs = search needs
-
-bad-argument-requires : tie.Need-bad-argument-requires
-bad-argument-requires c κs = search needs
-
-same-length : tie.Need-same-length
-same-length c = search needs
-
 returns : tie.Need-returns
 returns c =
     let d = c .before .before in
     let k = d .before .before .before .before .clear in
     let a = failed _ _ (d .is-allowed .ensures ∙ allowed-as _ _ (k .kept .0)) (c .before .if1 .taken) in
     asked-broken _ _ _ _ _ _ _ _ a (c .bad-argument .ensures) (k .ensures)
-
-is-within-requires : tie.Need-is-within-requires
-is-within-requires c κs = search needs
-
-outside-requires : tie.Need-outside-requires
-outside-requires c κs = search needs
-
-same-length-2 : tie.Need-same-length-2
-same-length-2 c = search needs
 
 returns-2 : tie.Need-returns-2
 returns-2 c =
@@ -49,19 +28,10 @@ fill-requires c κs =
     let k = d .before .before .before .before .before .clear in
     (passed _ _ (d .before .is-allowed .ensures) (d .if1 .left), k .ensures ∙ zeros-as (sym (k .kept .0)))
 
-enum-known-refusal : tie.Need-enum-known-refusal
-enum-known-refusal c = search needs
-
-enum-known-rows : tie.Need-enum-known-rows
-enum-known-rows c = search needs
-
 find-requires : tie.Need-find-requires
 find-requires c κs =
     let d = c .before .before in
     asked-rows _ _ _ _ _ _ _ (rw (d .rows .given .1) at (d .before .before .before .before .fill .ensures))
-
-same-length-3 : tie.Need-same-length-3
-same-length-3 c = search needs
 
 returns-3 : tie.Need-returns-3
 returns-3 c =
@@ -73,9 +43,6 @@ returns-3 c =
     let w = passed _ _ (d .before .is-within .ensures) (d .if2 .left) in
     let p = rw (b .refusal .given .1) at (b .before .before .before .before .fill .ensures) in
     asked-refused _ _ _ _ _ _ _ a w _ (as-lent _ _ _ _ _ _ _ _ (k .kept .0) p)
-
-same-length-4 : tie.Need-same-length-4
-same-length-4 c = search needs
 
 returns-4 : tie.Need-returns-4
 returns-4 c =
@@ -90,22 +57,6 @@ returns-4 c =
 
 pub whose-byte-spec : {M : Type 1} → statement M
 whose-byte-spec =
-    tie.close
-    (tie.spec
-    clear-requires
-    is-allowed-requires
-    bad-argument-requires
-    same-length
-    returns
-    is-within-requires
-    outside-requires
-    same-length-2
-    returns-2
-    fill-requires
-    enum-known-refusal
-    enum-known-rows
-    find-requires
-    same-length-3
-    returns-3
-    same-length-4
-    returns-4)
+    tie.close (tie.spec (λ c κs. search needs) (λ c κs. search needs) (λ c κs. search needs) (λ c. search needs) returns
+    (λ c κs. search needs) (λ c κs. search needs) (λ c. search needs) returns-2 fill-requires (λ c. search needs)
+    (λ c. search needs) find-requires (λ c. search needs) returns-3 (λ c. search needs) returns-4)

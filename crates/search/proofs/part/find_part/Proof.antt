@@ -10,18 +10,6 @@ use borrow.Author.Needs.{needs}
 use Rattle.search.proofs.part.find_part.Statement.{statement}
 use Rattle.search.proofs.part.find_part.Tie as tie
 
-clear-requires : tie.Need-clear-requires
-clear-requires c κs = search needs
-
-is-allowed-requires : tie.Need-is-allowed-requires
-is-allowed-requires c κs = search needs
-
-bad-argument-requires : tie.Need-bad-argument-requires
-bad-argument-requires c κs = search needs
-
-same-length : tie.Need-same-length
-same-length c = search needs
-
 returns : tie.Need-returns
 returns c =
     let b = c .before .before in
@@ -29,36 +17,12 @@ returns c =
     let a = failed _ _ (b .is-allowed .ensures ∙ allowed-as _ _ (k .kept .0)) (c .before .if1 .taken) in
     find-broken _ _ _ _ _ a (c .bad-argument .ensures) (k .ensures)
 
-parent-of-requires : tie.Need-parent-of-requires
-parent-of-requires c κs = search needs
-
-enum-told : tie.Need-enum-told
-enum-told c = search needs
-
-bad-argument-requires-2 : tie.Need-bad-argument-requires-2
-bad-argument-requires-2 c κs = search needs
-
-enum-known-parent : tie.Need-enum-known-parent
-enum-known-parent c = search needs
-
-slice-aggregate-place-of : tie.Need-slice-aggregate-place-of
-slice-aggregate-place-of c = search needs
-
 place-of-requires : tie.Need-place-of-requires
 unfolding elements
 place-of-requires c κs =
     let b = c .before .before .before .before in
     let w = within _ _ _ (passed _ _ (b .before .before .is-allowed .ensures) (b .before .if1 .left)) in
     record { listed = refl; small = w .bytes }
-
-enum-known-refusal : tie.Need-enum-known-refusal
-enum-known-refusal c = search needs
-
-enum-known-heads : tie.Need-enum-known-heads
-enum-known-heads c = search needs
-
-enum-known-at : tie.Need-enum-known-at
-enum-known-at c = search needs
 
 fill-requires : tie.Need-fill-requires
 fill-requires c κs =
@@ -69,15 +33,6 @@ fill-requires c κs =
     let w = sym (c .before .before .at .given .1) ∙ p .place-of .ensures in
     (found-allowed _ _ _ _ _ _ a w, k .ensures ∙ zeros-as (sym (k .kept .0)))
 
-enum-known-refusal-2 : tie.Need-enum-known-refusal-2
-enum-known-refusal-2 c = search needs
-
-enum-known-rows : tie.Need-enum-known-rows
-enum-known-rows c = search needs
-
-same-length-2 : tie.Need-same-length-2
-same-length-2 c = search needs
-
 returns-2 : tie.Need-returns-2
 returns-2 c =
     let b = c .before .before .before in
@@ -85,9 +40,6 @@ returns-2 c =
     let a = passed _ _ (b .before .before .is-allowed .ensures ∙ allowed-as _ _ (k .kept .0)) (b .before .if1 .left) in
     let i = sym (b .parent-of .ensures) ∙ c .before .enum-told .given .1 in
     find-none _ _ _ a _ _ i (c .bad-argument2 .ensures) (k .ensures)
-
-same-length-3 : tie.Need-same-length-3
-same-length-3 c = search needs
 
 returns-3 : tie.Need-returns-3
 returns-3 c =
@@ -98,9 +50,6 @@ returns-3 c =
     let i = sym (b .parent-of .ensures) ∙ p .before .before .before .parent .given .1 in
     find-stopped _ _ _ a _ i _ _ (sym (c .before .refusal .given .1) ∙ p .place-of .ensures) (k .ensures)
 
-same-length-4 : tie.Need-same-length-4
-same-length-4 c = search needs
-
 returns-4 : tie.Need-returns-4
 returns-4 c =
     let p = c .before .before .before in
@@ -109,9 +58,6 @@ returns-4 c =
     let a = passed _ _ (b .before .before .is-allowed .ensures ∙ allowed-as _ _ (k .kept .0)) (b .before .if1 .left) in
     let i = sym (b .parent-of .ensures) ∙ p .before .before .before .parent .given .1 in
     find-absent _ _ _ a _ i _ _ (sym (c .before .heads .given .1) ∙ p .place-of .ensures) (k .ensures)
-
-same-length-5 : tie.Need-same-length-5
-same-length-5 c = search needs
 
 returns-5 : tie.Need-returns-5
 returns-5 c =
@@ -124,9 +70,6 @@ returns-5 c =
     let w = sym (f .before .before .before .at .given .1) ∙ p .place-of .ensures in
     let r = rw (c .before .refusal2 .given .1) at (f .fill .ensures) in
     find-refused _ _ _ a _ i _ _ _ w _ _ (as-lent _ _ _ _ _ _ _ _ (k .kept .0) r)
-
-same-length-6 : tie.Need-same-length-6
-same-length-6 c = search needs
 
 returns-6 : tie.Need-returns-6
 returns-6 c =
@@ -142,32 +85,8 @@ returns-6 c =
 
 pub find-part-spec : {M : Type 1} → statement M
 find-part-spec =
-    tie.close
-    (tie.spec
-    clear-requires
-    is-allowed-requires
-    bad-argument-requires
-    same-length
-    returns
-    parent-of-requires
-    enum-told
-    bad-argument-requires-2
-    enum-known-parent
-    slice-aggregate-place-of
-    place-of-requires
-    enum-known-refusal
-    enum-known-heads
-    enum-known-at
-    fill-requires
-    enum-known-refusal-2
-    enum-known-rows
-    same-length-2
-    returns-2
-    same-length-3
-    returns-3
-    same-length-4
-    returns-4
-    same-length-5
-    returns-5
-    same-length-6
-    returns-6)
+    tie.close (tie.spec (λ c κs. search needs) (λ c κs. search needs) (λ c κs. search needs) (λ c. search needs) returns
+    (λ c κs. search needs) (λ c. search needs) (λ c κs. search needs) (λ c. search needs) (λ c. search needs)
+    place-of-requires (λ c. search needs) (λ c. search needs) (λ c. search needs) fill-requires (λ c. search needs)
+    (λ c. search needs) (λ c. search needs) returns-2 (λ c. search needs) returns-3 (λ c. search needs) returns-4
+    (λ c. search needs) returns-5 (λ c. search needs) returns-6)

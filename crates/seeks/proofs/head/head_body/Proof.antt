@@ -21,12 +21,6 @@ loop-holds c =
     gathered-holds (start .args .recording .now) (start .args .wanted) (start .args .old) (start .args .from)
     (start .args .size) (start .pre .inside)
 
-header-requires : tie.Need-header-requires Inv-loop μ-loop
-header-requires c κs = search needs
-
-enum-known-refusal : tie.Need-enum-known-refusal Inv-loop μ-loop
-enum-known-refusal c = search needs
-
 returns : tie.Need-returns Inv-loop μ-loop
 returns c =
     let start = c .before .before .before .before .before .before .before .before in
@@ -38,9 +32,6 @@ returns c =
     (start .args .size) (loop .place) (loop .left) (loop .table) (loop .inv) (loop-test .taken)
     (refusal .given .0 .0) (sym (header .ensures) ∙ refusal .given .1)
 
-enum-known-header : tie.Need-enum-known-header Inv-loop μ-loop
-enum-known-header c = search needs
-
 head-child-requires : tie.Need-head-child-requires Inv-loop μ-loop
 head-child-requires c κs =
     let start = c .before .before .before .before .before .before .before .before in
@@ -50,9 +41,6 @@ head-child-requires c κs =
     let there = header-there (start .args .recording .now) (loop .place .at) (header2 .given .0 .0)
     (header2 .given .0 .1 .0) (sym (header .ensures) ∙ header2 .given .1) in
     record { listed = start .pre .listed; small = start .pre .small; inside = there .inside }
-
-enum-known-refusal-2 : tie.Need-enum-known-refusal-2 Inv-loop μ-loop
-enum-known-refusal-2 c = search needs
 
 returns-2 : tie.Need-returns-2 Inv-loop μ-loop
 returns-2 c =
@@ -69,9 +57,6 @@ returns-2 c =
     (refusal2 .given .0 .0)
     (head-child .ensures .refusal (refusal2 .given .0 .0) (refusal2 .given .1))
 
-enum-known-more : tie.Need-enum-known-more Inv-loop μ-loop
-enum-known-more c = search needs
-
 add-used : tie.Need-add-used Inv-loop μ-loop
 add-used c =
     let start = c .before .before .before .before .before .before .before .before .before .before .before
@@ -82,9 +67,6 @@ add-used c =
     let there = header-there (start .args .recording .now) (loop .place .at) (header2 .given .0 .0)
     (header2 .given .0 .1 .0) (sym (header .ensures) ∙ header2 .given .1) in
     omega (arith, there .sized, there .behind, there .inside, start .pre .small)
-
-overrun-requires : tie.Need-overrun-requires Inv-loop μ-loop
-overrun-requires c κs = search needs
 
 returns-3 : tie.Need-returns-3 Inv-loop μ-loop
 returns-3 c =
@@ -163,23 +145,6 @@ returns-4 c =
 
 pub head-body-spec : {M : Type 1} → statement M
 head-body-spec =
-    tie.close
-    (tie.spec
-    Inv-loop
-    μ-loop
-    loop-holds
-    header-requires
-    enum-known-refusal
-    returns
-    enum-known-header
-    head-child-requires
-    enum-known-refusal-2
-    returns-2
-    enum-known-more
-    add-used
-    overrun-requires
-    returns-3
-    add-next
-    loop-less
-    loop-again
-    returns-4)
+    tie.close (tie.spec Inv-loop μ-loop loop-holds (λ c κs. search needs) (λ c. search needs) returns
+    (λ c. search needs) head-child-requires (λ c. search needs) returns-2 (λ c. search needs) add-used
+    (λ c κs. search needs) returns-3 add-next loop-less loop-again returns-4)

@@ -6,18 +6,6 @@ use mathlib.Core.Path.{sym, _∙_}
 use native.Mathlib.Omega.{arith}
 use Rattle.seeks.proofs.Members.{child-refusal, seek-refusal, seek-more, other-more}
 
-seek-body-requires : tie.Need-seek-body-requires
-seek-body-requires c κs = search needs
-
-enum-known-refusal : tie.Need-enum-known-refusal
-enum-known-refusal c = search needs
-
-enum-known-seek : tie.Need-enum-known-seek
-enum-known-seek c = search needs
-
-insert-requires : tie.Need-insert-requires
-insert-requires c κs = search needs
-
 returns : tie.Need-returns
 returns c =
     let start = c .before .before .before .before .before .before .before .before in
@@ -44,12 +32,6 @@ skim-body-requires c κs =
     let start = c .before .before .before .before in
     (start .pre, omega arith)
 
-enum-known-refusal-2 : tie.Need-enum-known-refusal-2
-enum-known-refusal-2 c = search needs
-
-enum-told : tie.Need-enum-told
-enum-told c = search needs
-
 returns-3 : tie.Need-returns-3
 returns-3 c =
     let start = c .before .before .before .before .before .before .before .before in
@@ -71,16 +53,5 @@ returns-4 c =
 
 pub head-child-spec : {M : Type 1} → statement M
 head-child-spec =
-    tie.close
-    (tie.spec
-    seek-body-requires
-    enum-known-refusal
-    enum-known-seek
-    insert-requires
-    returns
-    returns-2
-    skim-body-requires
-    enum-known-refusal-2
-    enum-told
-    returns-3
-    returns-4)
+    tie.close (tie.spec (λ c κs. search needs) (λ c. search needs) (λ c. search needs) (λ c κs. search needs) returns
+    returns-2 skim-body-requires (λ c. search needs) (λ c. search needs) returns-3 returns-4)

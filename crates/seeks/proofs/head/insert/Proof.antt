@@ -5,12 +5,6 @@ use Rattle.seeks.proofs.head.insert.Tie as tie
 use Rattle.seeks.specs.Table.{latestFrom}
 use mathlib.Core.Path.{refl}
 
-later-requires : tie.Need-later-requires
-later-requires c κs = search needs
-
-later-requires-2 : tie.Need-later-requires-2
-later-requires-2 c κs = search needs
-
 returns : tie.Need-returns
 unfolding latestFrom
 returns c =
@@ -19,4 +13,4 @@ returns c =
     rw (later .ensures, later2 .ensures) refl
 
 pub insert-spec : {M : Type 1} → statement M
-insert-spec = tie.close (tie.spec later-requires later-requires-2 returns)
+insert-spec = tie.close (tie.spec (λ c κs. search needs) (λ c κs. search needs) returns)

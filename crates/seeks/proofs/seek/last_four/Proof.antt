@@ -7,9 +7,6 @@ use native.Mathlib.Omega.{arith}
 use Rattle.header.proofs.BigEndian.{fits-in}
 use Rattle.seeks.proofs.Positions.{few, last-octets}
 
-fewer-requires : tie.Need-fewer-requires
-fewer-requires c κs = search needs
-
 sub-first : tie.Need-sub-first
 sub-first c =
     let start = c .before .before .before in
@@ -48,5 +45,4 @@ returns c =
     (start .args .range .length))
 
 pub last-four-spec : {M : Type 1} → statement M
-last-four-spec =
-    tie.close (tie.spec fewer-requires sub-first add-first big-endian-requires cast-result returns)
+last-four-spec = tie.close (tie.spec (λ c κs. search needs) sub-first add-first big-endian-requires cast-result returns)

@@ -21,12 +21,6 @@ loop-holds c =
     let start = c .before .before in
     members-hold (start .args .recording .now) (start .args .from) (start .args .size) (start .pre .inside)
 
-header-requires : tie.Need-header-requires Inv-loop μ-loop
-header-requires c κs = search needs
-
-enum-known-refusal : tie.Need-enum-known-refusal Inv-loop μ-loop
-enum-known-refusal c = search needs
-
 returns : tie.Need-returns Inv-loop μ-loop
 returns c =
     let start = c .before .before .before .before .before .before .before .before in
@@ -37,9 +31,6 @@ returns c =
     member-unread (start .args .recording .now) (start .args .from) (start .args .size) (loop .place) (loop .left)
     (loop .seek) (loop .inv) (loop-test .taken) (refusal .given .0 .0) (sym (header .ensures) ∙ refusal .given .1)
 
-enum-known-header : tie.Need-enum-known-header Inv-loop μ-loop
-enum-known-header c = search needs
-
 seek-member-requires : tie.Need-seek-member-requires Inv-loop μ-loop
 seek-member-requires c κs =
     let start = c .before .before .before .before .before .before .before .before in
@@ -49,9 +40,6 @@ seek-member-requires c κs =
     let there = header-there (start .args .recording .now) (loop .place .at) (header2 .given .0 .0)
     (header2 .given .0 .1 .0) (sym (header .ensures) ∙ header2 .given .1) in
     record { listed = start .pre .listed; small = start .pre .small; inside = there .inside }
-
-enum-known-refusal-2 : tie.Need-enum-known-refusal-2 Inv-loop μ-loop
-enum-known-refusal-2 c = search needs
 
 returns-2 : tie.Need-returns-2 Inv-loop μ-loop
 returns-2 c =
@@ -67,9 +55,6 @@ returns-2 c =
     (sym (header .ensures) ∙ header2 .given .1) (refusal2 .given .0 .0)
     (seek-member .ensures .refusal (refusal2 .given .0 .0) (refusal2 .given .1))
 
-enum-known-more : tie.Need-enum-known-more Inv-loop μ-loop
-enum-known-more c = search needs
-
 add-used : tie.Need-add-used Inv-loop μ-loop
 add-used c =
     let start = c .before .before .before .before .before .before .before .before .before .before .before
@@ -80,9 +65,6 @@ add-used c =
     let there = header-there (start .args .recording .now) (loop .place .at) (header2 .given .0 .0)
     (header2 .given .0 .1 .0) (sym (header .ensures) ∙ header2 .given .1) in
     omega (arith, there .sized, there .behind, there .inside, start .pre .small)
-
-overrun-requires : tie.Need-overrun-requires Inv-loop μ-loop
-overrun-requires c κs = search needs
 
 returns-3 : tie.Need-returns-3 Inv-loop μ-loop
 returns-3 c =
@@ -162,23 +144,6 @@ returns-4 c =
 
 pub seek-body-spec : {M : Type 1} → statement M
 seek-body-spec =
-    tie.close
-    (tie.spec
-    Inv-loop
-    μ-loop
-    loop-holds
-    header-requires
-    enum-known-refusal
-    returns
-    enum-known-header
-    seek-member-requires
-    enum-known-refusal-2
-    returns-2
-    enum-known-more
-    add-used
-    overrun-requires
-    returns-3
-    add-next
-    loop-less
-    loop-again
-    returns-4)
+    tie.close (tie.spec Inv-loop μ-loop loop-holds (λ c κs. search needs) (λ c. search needs) returns
+    (λ c. search needs) seek-member-requires (λ c. search needs) returns-2 (λ c. search needs) add-used
+    (λ c κs. search needs) returns-3 add-next loop-less loop-again returns-4)

@@ -10,12 +10,6 @@ skim-body-requires c κs =
     let start = c .before .before in
     (start .pre, omega arith)
 
-enum-known-refusal : tie.Need-enum-known-refusal
-enum-known-refusal c = search needs
-
-enum-known-body : tie.Need-enum-known-body
-enum-known-body c = search needs
-
 noted-requires : tie.Need-noted-requires
 noted-requires c κs =
     let start = c .before .before .before .before .before .before in
@@ -44,11 +38,4 @@ returns-2 c =
 
 pub seek-member-spec : {M : Type 1} → statement M
 seek-member-spec =
-    tie.close
-    (tie.spec
-    skim-body-requires
-    enum-known-refusal
-    enum-known-body
-    noted-requires
-    returns
-    returns-2)
+    tie.close (tie.spec skim-body-requires (λ c. search needs) (λ c. search needs) noted-requires returns returns-2)

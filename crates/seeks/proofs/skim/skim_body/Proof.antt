@@ -6,18 +6,6 @@ use mathlib.Core.Path.{refl, sym, _∙_}
 use native.Mathlib.Omega.{arith}
 use Rattle.seeks.proofs.Skims.{skim-leaf, skim-refused, skim-master}
 
-kind-in-requires : tie.Need-kind-in-requires
-kind-in-requires c κs = search needs
-
-number-requires : tie.Need-number-requires
-number-requires c κs = search needs
-
-add-below : tie.Need-add-below
-add-below c = search needs
-
-slice-aggregate-master-body : tie.Need-slice-aggregate-master-body
-slice-aggregate-master-body c = search needs
-
 master-body-requires : tie.Need-master-body-requires
 master-body-requires c κs =
     let start = c .before .before .before .before .before .before in
@@ -28,12 +16,6 @@ master-body-requires c κs =
       few = omega arith;
       room = λ kept. omega arith;
     }
-
-enum-known-refusal : tie.Need-enum-known-refusal
-enum-known-refusal c = search needs
-
-enum-known-next : tie.Need-enum-known-next
-enum-known-next c = search needs
 
 returns : tie.Need-returns
 returns c =
@@ -59,9 +41,6 @@ returns-2 c =
     (start .args .depth) (sym (number .ensures ∙ rw (kind-in .ensures) refl) ∙ if1 .taken) (start .pre .0 .inside) _
     _ (sym (next′ .given .1) ∙ master-body .ensures .reply)
 
-read-body-requires : tie.Need-read-body-requires
-read-body-requires c κs = search needs
-
 returns-3 : tie.Need-returns-3
 returns-3 c =
     let start = c .before .before .before .before .before .before in
@@ -75,16 +54,5 @@ returns-3 c =
 
 pub skim-body-spec : {M : Type 1} → statement M
 skim-body-spec =
-    tie.close
-    (tie.spec
-    kind-in-requires
-    number-requires
-    add-below
-    slice-aggregate-master-body
-    master-body-requires
-    enum-known-refusal
-    enum-known-next
-    returns
-    returns-2
-    read-body-requires
-    returns-3)
+    tie.close (tie.spec (λ c κs. search needs) (λ c κs. search needs) (λ c. search needs) (λ c. search needs)
+    master-body-requires (λ c. search needs) (λ c. search needs) returns returns-2 (λ c κs. search needs) returns-3)

@@ -5,13 +5,10 @@ use Rattle.seektable.proofs.heads.is_too_far.Tie as tie
 use native.Mathlib.Omega.{arith}
 use Rattle.seektable.proofs.Positions.{too-far}
 
-sub-result : tie.Need-sub-result
-sub-result c = search needs
-
 returns : tie.Need-returns
 returns c =
     let start = c in
     too-far (start .args .start) (start .args .position) (omega arith)
 
 pub is-too-far-spec : {M : Type 1} → statement M
-is-too-far-spec = tie.close (tie.spec sub-result returns)
+is-too-far-spec = tie.close (tie.spec (λ c. search needs) returns)

@@ -29,9 +29,6 @@ head-body-requires c κs =
     let loop = c .loop in
     record { listed = start .pre .0 .listed; small = start .pre .0 .small; inside = loop .inv .inside }
 
-enum-known-refusal : tie.Need-enum-known-refusal Inv-loop μ-loop
-enum-known-refusal c = search needs
-
 same-length : tie.Need-same-length Inv-loop μ-loop
 same-length c =
     let loop = c .before .before .before .before .loop in
@@ -48,9 +45,6 @@ returns c =
     (loop .seen) (loop .n) (loop .head) (loop .table) (loop .inv) (refusal .given .0 .0)
     (sym (refusal .given .1) ∙ head-body .ensures)
 
-enum-known-found : tie.Need-enum-known-found Inv-loop μ-loop
-enum-known-found c = search needs
-
 mul-seen : tie.Need-mul-seen Inv-loop μ-loop
 mul-seen c =
     let loop = c .before .before .before .before .loop in
@@ -65,9 +59,6 @@ add-read : tie.Need-add-read Inv-loop μ-loop
 add-read c =
     let loop = c .before .before .before .before .loop in
     omega (arith, loop .inv .few)
-
-enum-told : tie.Need-enum-told Inv-loop μ-loop
-enum-told c = search needs
 
 same-length-2 : tie.Need-same-length-2 Inv-loop μ-loop
 same-length-2 c =
@@ -86,15 +77,6 @@ returns-2 c =
     chaining-ends (start .args .recording .now) (start .args .wanted) (start .args .start) (start .args .first)
     (loop .seen) (loop .n) (loop .head) (loop .table) (loop .inv) (found .given .0 .0)
     (sym (found .given .1) ∙ head-body .ensures) (enum-told .given .1)
-
-enum-known-link : tie.Need-enum-known-link Inv-loop μ-loop
-enum-known-link c = search needs
-
-is-too-far-requires : tie.Need-is-too-far-requires Inv-loop μ-loop
-is-too-far-requires c κs = search needs
-
-invalid-seek-head-requires : tie.Need-invalid-seek-head-requires Inv-loop μ-loop
-invalid-seek-head-requires c κs = search needs
 
 same-length-3 : tie.Need-same-length-3 Inv-loop μ-loop
 same-length-3 c =
@@ -141,9 +123,6 @@ contains-requires c κs =
           (start .args .first) (loop .seen) (loop .n) (loop .head) (loop .table) (loop .inv),
     )
 
-head-again-requires : tie.Need-head-again-requires Inv-loop μ-loop
-head-again-requires c κs = search needs
-
 same-length-4 : tie.Need-same-length-4 Inv-loop μ-loop
 same-length-4 c =
     let start = c .before .before .before .before .before .before .before .before .before .before .before
@@ -172,9 +151,6 @@ returns-4 c =
     (start .args .start) (start .args .first) (loop .seen) (loop .n) (loop .head) (loop .table) (loop .inv)
     (found .given .0 .0) (sym (found .given .1) ∙ head-body .ensures) (link .given .0 .0) (link .given .1)
     (sym (is-too-far .ensures) ∙ if1 .left) (sym (contains .ensures) ∙ if2 .taken))
-
-too-many-heads-requires : tie.Need-too-many-heads-requires Inv-loop μ-loop
-too-many-heads-requires c κs = search needs
 
 same-length-5 : tie.Need-same-length-5 Inv-loop μ-loop
 same-length-5 c =
@@ -205,12 +181,6 @@ returns-5 c =
     (start .args .start) (start .args .first) (loop .seen) (loop .n) (loop .head) (loop .table) (loop .inv)
     (found .given .0 .0) (sym (found .given .1) ∙ head-body .ensures) (link .given .0 .0) (link .given .1)
     (sym (is-too-far .ensures) ∙ if1 .left) (sym (contains .ensures) ∙ if2 .left) (omega (arith, if3 .taken)))
-
-sought-requires : tie.Need-sought-requires Inv-loop μ-loop
-sought-requires c κs = search needs
-
-enum-known-refusal-2 : tie.Need-enum-known-refusal-2 Inv-loop μ-loop
-enum-known-refusal-2 c = search needs
 
 same-length-6 : tie.Need-same-length-6 Inv-loop μ-loop
 same-length-6 c =
@@ -244,9 +214,6 @@ returns-6 c =
     (sym (found .given .1) ∙ head-body .ensures) (link .given .0 .0) (link .given .1)
     (sym (is-too-far .ensures) ∙ if1 .left) (sym (contains .ensures) ∙ if2 .left) (omega (arith, if3 .left))
     (refusal2 .given .0 .0) (sym (refusal2 .given .1) ∙ sought .ensures)
-
-enum-known-header : tie.Need-enum-known-header Inv-loop μ-loop
-enum-known-header c = search needs
 
 loop-less : tie.Need-loop-less Inv-loop μ-loop
 loop-less c =
@@ -284,39 +251,8 @@ loop-again c =
 
 pub linked-heads-spec : {M : Type 1} → statement M
 linked-heads-spec =
-    tie.close
-    (tie.spec
-    Inv-loop
-    μ-loop
-    loop-holds
-    head-body-requires
-    enum-known-refusal
-    same-length
-    returns
-    enum-known-found
-    mul-seen
-    slice-write-seen
-    add-read
-    enum-told
-    same-length-2
-    returns-2
-    enum-known-link
-    is-too-far-requires
-    invalid-seek-head-requires
-    same-length-3
-    returns-3
-    add-address
-    contains-requires
-    head-again-requires
-    same-length-4
-    returns-4
-    too-many-heads-requires
-    same-length-5
-    returns-5
-    sought-requires
-    enum-known-refusal-2
-    same-length-6
-    returns-6
-    enum-known-header
-    loop-less
-    loop-again)
+    tie.close (tie.spec Inv-loop μ-loop loop-holds head-body-requires (λ c. search needs) same-length returns
+    (λ c. search needs) mul-seen slice-write-seen add-read (λ c. search needs) same-length-2 returns-2
+    (λ c. search needs) (λ c κs. search needs) (λ c κs. search needs) same-length-3 returns-3 add-address
+    contains-requires (λ c κs. search needs) same-length-4 returns-4 (λ c κs. search needs) same-length-5 returns-5
+    (λ c κs. search needs) (λ c. search needs) same-length-6 returns-6 (λ c. search needs) loop-less loop-again)

@@ -5,18 +5,6 @@ use Rattle.seektable.proofs.heads.sought.Tie as tie
 use mathlib.Core.Path.{sym, _∙_}
 use Rattle.seektable.proofs.Chains.{no-header-there, stale-there, sought-there}
 
-header-requires : tie.Need-header-requires
-header-requires c κs = search needs
-
-enum-known-refusal : tie.Need-enum-known-refusal
-enum-known-refusal c = search needs
-
-enum-known-header : tie.Need-enum-known-header
-enum-known-header c = search needs
-
-stale-entry-requires : tie.Need-stale-entry-requires
-stale-entry-requires c κs = search needs
-
 returns : tie.Need-returns
 returns c =
     let stale-entry = c .stale-entry in
@@ -46,12 +34,5 @@ returns-3 c =
 
 pub sought-spec : {M : Type 1} → statement M
 sought-spec =
-    tie.close
-    (tie.spec
-    header-requires
-    enum-known-refusal
-    enum-known-header
-    stale-entry-requires
-    returns
-    returns-2
-    returns-3)
+    tie.close (tie.spec (λ c κs. search needs) (λ c. search needs) (λ c. search needs) (λ c κs. search needs) returns
+    returns-2 returns-3)

@@ -7,31 +7,10 @@ use native.Mathlib.Omega.{arith}
 use Rattle.seektable.proofs.Positions.{near}
 use Rattle.seektable.proofs.Lookups.{chain-broken, not-named, named-too-far, named-refused, named-found}
 
-slice-aggregate-linked-heads : tie.Need-slice-aggregate-linked-heads
-slice-aggregate-linked-heads c = search needs
-
 linked-heads-requires : tie.Need-linked-heads-requires
 linked-heads-requires c κs =
     let start = c .before .before .before in
     (start .pre, refl)
-
-enum-known-refusal : tie.Need-enum-known-refusal
-enum-known-refusal c = search needs
-
-enum-known-part : tie.Need-enum-known-part
-enum-known-part c = search needs
-
-enum-told : tie.Need-enum-told
-enum-told c = search needs
-
-enum-known-part-2 : tie.Need-enum-known-part-2
-enum-known-part-2 c = search needs
-
-is-too-far-requires : tie.Need-is-too-far-requires
-is-too-far-requires c κs = search needs
-
-invalid-seek-head-requires : tie.Need-invalid-seek-head-requires
-invalid-seek-head-requires c κs = search needs
 
 returns : tie.Need-returns
 returns c =
@@ -57,15 +36,6 @@ add-address c =
     let is-too-far = c .before .is-too-far in
     let if1 = c .if1 in
     omega (arith, near (start .args .start) (part2 .given .0 .0) (sym (is-too-far .ensures) ∙ if1 .left))
-
-sought-requires : tie.Need-sought-requires
-sought-requires c κs = search needs
-
-enum-known-refusal-2 : tie.Need-enum-known-refusal-2
-enum-known-refusal-2 c = search needs
-
-enum-known-header : tie.Need-enum-known-header
-enum-known-header c = search needs
 
 returns-2 : tie.Need-returns-2
 returns-2 c =
@@ -120,22 +90,6 @@ returns-5 c =
 
 pub by-heads-spec : {M : Type 1} → statement M
 by-heads-spec =
-    tie.close
-    (tie.spec
-    slice-aggregate-linked-heads
-    linked-heads-requires
-    enum-known-refusal
-    enum-known-part
-    enum-told
-    enum-known-part-2
-    is-too-far-requires
-    invalid-seek-head-requires
-    returns
-    add-address
-    sought-requires
-    enum-known-refusal-2
-    enum-known-header
-    returns-2
-    returns-3
-    returns-4
-    returns-5)
+    tie.close (tie.spec (λ c. search needs) linked-heads-requires (λ c. search needs) (λ c. search needs)
+    (λ c. search needs) (λ c. search needs) (λ c κs. search needs) (λ c κs. search needs) returns add-address
+    (λ c κs. search needs) (λ c. search needs) (λ c. search needs) returns-2 returns-3 returns-4 returns-5)

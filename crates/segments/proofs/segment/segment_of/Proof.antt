@@ -17,19 +17,10 @@ abbrev μ-loop : tie.MeasureT-loop
 loop-holds : tie.Need-loop-holds Inv-loop μ-loop
 loop-holds c = open-holds _
 
-header-requires : tie.Need-header-requires Inv-loop μ-loop
-header-requires c κs = search needs
-
-enum-known-refusal : tie.Need-enum-known-refusal Inv-loop μ-loop
-enum-known-refusal c = search needs
-
 returns : tie.Need-returns Inv-loop μ-loop
 returns c =
     let b = c .before .before .before in
     open-refused _ _ (b .before .loop .inv) _ (sym (b .header .ensures) ∙ c .before .refusal .given .1)
-
-enum-known-header : tie.Need-enum-known-header Inv-loop μ-loop
-enum-known-header c = search needs
 
 returns-2 : tie.Need-returns-2 Inv-loop μ-loop
 returns-2 c =
@@ -60,16 +51,5 @@ loop-again c =
 
 pub segment-of-spec : {M : Type 1} → statement M
 segment-of-spec =
-    tie.close
-    (tie.spec
-    Inv-loop
-    μ-loop
-    loop-holds
-    header-requires
-    enum-known-refusal
-    returns
-    enum-known-header
-    returns-2
-    add-next
-    loop-less
-    loop-again)
+    tie.close (tie.spec Inv-loop μ-loop loop-holds (λ c κs. search needs) (λ c. search needs) returns
+    (λ c. search needs) returns-2 add-next loop-less loop-again)

@@ -9,12 +9,6 @@ use Rattle.segments.proofs.walk.place_of.Tie as tie
 segment-of-requires : tie.Need-segment-of-requires
 segment-of-requires c κs = c .before .before .pre .small
 
-enum-known-refusal : tie.Need-enum-known-refusal
-enum-known-refusal c = search needs
-
-enum-known-header : tie.Need-enum-known-header
-enum-known-header c = search needs
-
 walk-requires : tie.Need-walk-requires
 walk-requires c κs =
     let b = c .before .before .before in
@@ -35,11 +29,4 @@ returns-2 c =
 
 pub place-of-spec : {M : Type 1} → statement M
 place-of-spec =
-    tie.close
-    (tie.spec
-    segment-of-requires
-    enum-known-refusal
-    enum-known-header
-    walk-requires
-    returns
-    returns-2)
+    tie.close (tie.spec segment-of-requires (λ c. search needs) (λ c. search needs) walk-requires returns returns-2)

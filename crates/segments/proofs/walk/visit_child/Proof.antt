@@ -4,9 +4,6 @@ use borrow.Author.Needs.{needs}
 use Rattle.segments.proofs.walk.visit_child.Statement.{statement}
 use Rattle.segments.proofs.walk.visit_child.Tie as tie
 
-by-heads-requires : tie.Need-by-heads-requires
-by-heads-requires c κs = search needs
-
 returns : tie.Need-returns
 returns c = visit-head _ _ _ _ _ _ (c .before .if1 .taken) _ (c .by-heads .ensures)
 
@@ -17,4 +14,4 @@ returns-3 : tie.Need-returns-3
 returns-3 c = visit-over _ _ _ _ _ _ (c .before .before .if1 .left) (c .if2 .left)
 
 pub visit-child-spec : {M : Type 1} → statement M
-visit-child-spec = tie.close (tie.spec by-heads-requires returns returns-2 returns-3)
+visit-child-spec = tie.close (tie.spec (λ c κs. search needs) returns returns-2 returns-3)

@@ -25,12 +25,6 @@ add-end c =
 loop-holds : tie.Need-loop-holds Inv-loop μ-loop
 loop-holds c = pass-holds _ _ _ _
 
-header-requires : tie.Need-header-requires Inv-loop μ-loop
-header-requires c κs = search needs
-
-enum-known-refusal : tie.Need-enum-known-refusal Inv-loop μ-loop
-enum-known-refusal c = search needs
-
 returns : tie.Need-returns Inv-loop μ-loop
 returns c =
     let b = c .before .before .before in
@@ -38,18 +32,12 @@ returns c =
     pass-refused _ _ _ _ _ _ (d .loop .inv) (b .before .if1 .taken) _
     (sym (b .header .ensures) ∙ c .before .refusal .given .1)
 
-enum-known-header : tie.Need-enum-known-header Inv-loop μ-loop
-enum-known-header c = search needs
-
 visit-child-requires : tie.Need-visit-child-requires Inv-loop μ-loop
 visit-child-requires c κs =
     let b = c .before .before .before in
     let (r, l) = b .before .before .before .before .before .before .pre in
     let t = header-there _ _ _ _ (sym (b .header .ensures) ∙ c .before .header2 .given .1) in
     record { listed = r .listed; small = r .small; inside = t .inside }
-
-enum-known-found : tie.Need-enum-known-found Inv-loop μ-loop
-enum-known-found c = search needs
 
 returns-2 : tie.Need-returns-2 Inv-loop μ-loop
 returns-2 c =
@@ -60,9 +48,6 @@ returns-2 c =
     pass-ended _ _ _ _ _ _ (d .loop .inv) (b .before .if1 .taken) _ _ q _
     (sym (c .before .found .given .1) ∙ v .visit-child .ensures)
 
-enum-told : tie.Need-enum-told Inv-loop μ-loop
-enum-told c = search needs
-
 add-next : tie.Need-add-next Inv-loop μ-loop
 add-next c =
     let v = c .before .before .before .before in
@@ -70,9 +55,6 @@ add-next c =
     let (r, l) = b .before .before .before .before .before .before .pre in
     let f = next-fits _ _ _ _ (sym (b .header .ensures) ∙ v .before .before .header2 .given .1) (r .small) in
     omega (arith, f)
-
-overrun-requires : tie.Need-overrun-requires Inv-loop μ-loop
-overrun-requires c κs = search needs
 
 returns-3 : tie.Need-returns-3 Inv-loop μ-loop
 returns-3 c =
@@ -107,23 +89,6 @@ returns-4 c = pass-ends _ _ _ _ _ _ (c .before .before .loop .inv) (c .if1 .left
 
 pub walk-spec : {M : Type 1} → statement M
 walk-spec =
-    tie.close
-    (tie.spec
-    Inv-loop
-    μ-loop
-    add-end
-    loop-holds
-    header-requires
-    enum-known-refusal
-    returns
-    enum-known-header
-    visit-child-requires
-    enum-known-found
-    returns-2
-    enum-told
-    add-next
-    overrun-requires
-    returns-3
-    loop-less
-    loop-again
-    returns-4)
+    tie.close (tie.spec Inv-loop μ-loop add-end loop-holds (λ c κs. search needs) (λ c. search needs) returns
+    (λ c. search needs) visit-child-requires (λ c. search needs) returns-2 (λ c. search needs) add-next
+    (λ c κs. search needs) returns-3 loop-less loop-again returns-4)

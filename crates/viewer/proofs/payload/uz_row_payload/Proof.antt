@@ -4,18 +4,6 @@ use borrow.Author.Needs.{needs}
 use Rattle.viewer.proofs.payload.uz_row_payload.Statement.{statement}
 use Rattle.viewer.proofs.payload.uz_row_payload.Tie as tie
 
-payload-range-requires : tie.Need-payload-range-requires
-payload-range-requires c κs = search needs
-
-enum-known-range : tie.Need-enum-known-range
-enum-known-range c = search needs
-
-enum-known-refusal : tie.Need-enum-known-refusal
-enum-known-refusal c = search needs
-
-cast-t8 : tie.Need-cast-t8
-cast-t8 c = search needs
-
 returns : tie.Need-returns
 returns c =
     range-crosses _ _ _ _ (rw (c .before .range .given .1) at
@@ -28,5 +16,5 @@ returns-2 c =
 
 pub uz-row-payload-spec : {M : Type 1} → statement M
 uz-row-payload-spec =
-    tie.close
-    (tie.spec payload-range-requires enum-known-range enum-known-refusal cast-t8 returns returns-2)
+    tie.close (tie.spec (λ c κs. search needs) (λ c. search needs) (λ c. search needs) (λ c. search needs) returns
+    returns-2)
