@@ -3,6 +3,7 @@ pub mod Ways
 pub mod Inner
 pub mod Lists
 pub mod Settled
+pub mod Told
 pub mod Unique
 pub mod Addressed
 pub mod IsRead

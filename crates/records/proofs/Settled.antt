@@ -1,5 +1,5 @@
--- A question settled: what `locate` came to, what the record is then, and the table that is left. Assumes nothing.
-use Prim.Native.Nat.{ℕ, _+_, _-_, _*_, _/_, _≤_}
+-- A question settled: what `locate` came to, and the table that is left. Assumes nothing.
+use Prim.Native.Nat.{ℕ, _-_, _*_, _/_, _≤_}
 use mathlib.Core.Path.{_≡_, refl, sym, ap, _∙_, subst}
 use mathlib.Core.List.{List, [], _∷_, _++_}
 use native.Mathlib.Omega.{arith}
@@ -24,15 +24,11 @@ use Rattle.elements.proofs.Readback.{accepted-read}
 use Rattle.elements.proofs.Sound.{rows-sound}
 use Rattle.elements.proofs.Whole.{zeros-as}
 use Rattle.fields.proofs.Enough.{all-jump}
-use Rattle.fields.specs.Children.{rowsIn}
 use Rattle.fields.specs.Contract.{BelowIs}
-use Rattle.fields.specs.Values.{Value}
 use Rattle.fields.specs.declared.child.Below.{Below}
 use Rattle.records.specs.Steps.{reached}
 use Rattle.records.specs.Asked.{Asked, found, refusing, settled, sought, asked, tableAfter}
-use Rattle.records.specs.Told.{fields, refuses}
 use Rattle.records.specs.Contract.{LocatePromise}
-use Rattle.records.specs.Promise.{answerOf, RecordPromise, ofBelow}
 use Rattle.records.specs.Theorems.{RecordIsRead}
 use Rattle.records.specs.declared.locate.Step.{Step}
 use Rattle.records.specs.declared.locate.Spot.{Spot}
@@ -123,33 +119,6 @@ module _ (s : List ℕ) (start size parent : ℕ) (t : List ℕ) (first second t
           );
           table = kept ∙ sym (ap (tableAfter (length t)) d);
         }
-
--- ---- the record
-
-module _ (s : List ℕ) (a : Asked) (numbers : ℕ) (t′ : List ℕ) where
-  pub is-refused :
-      (values : List Row → ℕ → List Value) (e : Refusal) → LocatePromise s a numbers (Refused e) t′
-      → RecordPromise values a numbers (refuses e) t′
-  is-refused values e p = record { reply = sym (ap (answerOf values) (p .reply)); table = p .table }
-
-  module _ (n : ℕ) (b : Below) (p : LocatePromise s a numbers (At b n) t′) where
-    pub is-found :
-        (values : List Row → ℕ → List Value) (vs : List Value) → vs ≡ values (rowsOf t′ n) (b .parent)
-        → RecordPromise values a numbers (fields vs n) t′
-    is-found values vs q =
-        record {
-          reply =
-              ap (λ (x : List Value). fields x n) q
-              ∙ ap (fields (values (rowsOf t′ n) (b .parent))) (sym (length-rows-of t′ n))
-              ∙ sym (ap (answerOf values) (p .reply .0));
-          table = p .table;
-        }
-
-    -- The same of a record that is built of the rows below its master.
-    pub is-below :
-        (values : ℕ → List Row → List Value) (vs : List Value) → vs ≡ values (b .parent) (rowsIn t′ b)
-        → RecordPromise (ofBelow values) a numbers (fields vs n) t′
-    is-below values vs q = is-found (ofBelow values) vs (q ∙ ap (values (b .parent)) (p .reply .1 .below .are))
 
 -- ---- a question that is not refused is a read
 

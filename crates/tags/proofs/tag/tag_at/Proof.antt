@@ -1,53 +1,19 @@
 -- `tag_at` meets its contract: the master is found, and its fields are told. Assumes nothing.
-use Rattle.tags.specs.Records.{tagOf}
-use Rattle.records.proofs.Settled.{is-refused, is-found}
+use Rattle.records.proofs.Told.{stands-at, told-refused, told-found}
 use borrow.Author.Needs.{needs}
 use Rattle.tags.proofs.tag.tag_at.Statement.{statement}
 use Rattle.tags.proofs.tag.tag_at.Tie as tie
 
-locate-requires : tie.Need-locate-requires
-locate-requires c κs = search needs
-
-enum-known-refusal : tie.Need-enum-known-refusal
-enum-known-refusal c = search needs
-
-enum-known-master : tie.Need-enum-known-master
-enum-known-master c = search needs
-
 tag-in-requires : tie.Need-tag-in-requires
-tag-in-requires c κs =
-    let master = c .before .before .master in
-    let locate = c .before .before .before .before .before .before .locate in
-    (rw (master .given .1) at (locate .ensures)) .reply .1
-
-same-length : tie.Need-same-length
-same-length c = search needs
+tag-in-requires c κs = search stands-at
 
 returns : tie.Need-returns
-returns c =
-    let locate = c .before .before .before .before .before .locate in
-    is-refused _ _ _ _ _ _ (rw (c .before .refusal .given .1) at (locate .ensures))
-
-same-length-2 : tie.Need-same-length-2
-same-length-2 c = search needs
+returns c = search told-refused
 
 returns-2 : tie.Need-returns-2
-returns-2 c =
-    let master = c .before .before .before .master in
-    let locate = c .before .before .before .before .before .before .before .locate in
-    let start = c .before .before .before .before .before .before .before .before .before .before .before in
-    is-found _ _ _ _ _ _ (rw (master .given .1) at (locate .ensures))
-    (tagOf (start .args .recording .now)) _ (c .tag-in .ensures)
+returns-2 c = search told-found
 
 pub tag-at-spec : {M : Type 1} → statement M
 tag-at-spec =
-    tie.close
-    (tie.spec
-    locate-requires
-    enum-known-refusal
-    enum-known-master
-    tag-in-requires
-    same-length
-    returns
-    same-length-2
-    returns-2)
+    tie.close (tie.spec (λ c κs. search needs) (λ c. search needs) (λ c. search needs) tag-in-requires
+    (λ c. search needs) returns (λ c. search needs) returns-2)

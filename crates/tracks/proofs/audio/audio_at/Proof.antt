@@ -1,54 +1,20 @@
 -- `audio_at` meets its contract: the master is found, and its fields are told. Assumes nothing.
 use Rattle.tracks.specs.Records.{audioOf}
-use Rattle.records.proofs.Ways.{readable}
-use Rattle.records.proofs.Settled.{is-refused, is-below}
+use Rattle.records.proofs.Told.{readable-at, told-refused, told-below}
 use borrow.Author.Needs.{needs}
 use Rattle.tracks.proofs.audio.audio_at.Statement.{statement}
 use Rattle.tracks.proofs.audio.audio_at.Tie as tie
 
-locate-requires : tie.Need-locate-requires
-locate-requires c κs = search needs
-
-enum-known-refusal : tie.Need-enum-known-refusal
-enum-known-refusal c = search needs
-
-enum-known-master : tie.Need-enum-known-master
-enum-known-master c = search needs
-
 audio-in-requires : tie.Need-audio-in-requires
-audio-in-requires c κs =
-    let master = c .before .before .master in
-    let locate = c .before .before .before .before .before .before .locate in
-    readable _ _ _ _ ((rw (master .given .1) at (locate .ensures)) .reply .1)
-
-same-length : tie.Need-same-length
-same-length c = search needs
+audio-in-requires c κs = search readable-at
 
 returns : tie.Need-returns
-returns c =
-    let locate = c .before .before .before .before .before .locate in
-    is-refused _ _ _ _ _ _ (rw (c .before .refusal .given .1) at (locate .ensures))
-
-same-length-2 : tie.Need-same-length-2
-same-length-2 c = search needs
+returns c = search told-refused
 
 returns-2 : tie.Need-returns-2
-returns-2 c =
-    let master = c .before .before .before .master in
-    let locate = c .before .before .before .before .before .before .before .locate in
-    let start = c .before .before .before .before .before .before .before .before .before .before .before in
-    is-below _ _ _ _ _ _ (rw (master .given .1) at (locate .ensures))
-    (audioOf (start .args .recording .now)) _ (c .audio-in .ensures)
+returns-2 c = search (told-below audioOf)
 
 pub audio-at-spec : {M : Type 1} → statement M
 audio-at-spec =
-    tie.close
-    (tie.spec
-    locate-requires
-    enum-known-refusal
-    enum-known-master
-    audio-in-requires
-    same-length
-    returns
-    same-length-2
-    returns-2)
+    tie.close (tie.spec (λ c κs. search needs) (λ c. search needs) (λ c. search needs) audio-in-requires
+    (λ c. search needs) returns (λ c. search needs) returns-2)
