@@ -10,59 +10,6 @@ use borrow.Author.Needs.{needs}
 use Rattle.entries.proofs.track.track_in.Statement.{statement}
 use Rattle.entries.proofs.track.track_in.Tie as tie
 
-number-field-requires : tie.Need-number-field-requires
-number-field-requires c κs =
-    let start = c .before .before in
-    readable _ _ _ _ (start .pre)
-
-number-field-requires-2 : tie.Need-number-field-requires-2
-number-field-requires-2 c κs =
-    let start = c .before .before .before in
-    readable _ _ _ _ (start .pre)
-
-number-field-requires-3 : tie.Need-number-field-requires-3
-number-field-requires-3 c κs =
-    let start = c .before .before .before .before in
-    readable _ _ _ _ (start .pre)
-
-typed-of-requires : tie.Need-typed-of-requires
-typed-of-requires c κs = search needs
-
-flag-field-requires : tie.Need-flag-field-requires
-flag-field-requires c κs =
-    let start = c .before .before .before .before .before .before in
-    readable _ _ _ _ (start .pre)
-
-flag-field-requires-2 : tie.Need-flag-field-requires-2
-flag-field-requires-2 c κs =
-    let start = c .before .before .before .before .before .before .before in
-    readable _ _ _ _ (start .pre)
-
-flag-field-requires-3 : tie.Need-flag-field-requires-3
-flag-field-requires-3 c κs =
-    let start = c .before .before .before .before .before .before .before .before in
-    readable _ _ _ _ (start .pre)
-
-flag-field-requires-4 : tie.Need-flag-field-requires-4
-flag-field-requires-4 c κs =
-    let start = c .before .before .before .before .before .before .before .before .before in
-    readable _ _ _ _ (start .pre)
-
-number-field-requires-4 : tie.Need-number-field-requires-4
-number-field-requires-4 c κs =
-    let start = c .before .before .before .before .before .before .before .before .before .before in
-    readable _ _ _ _ (start .pre)
-
-part-field-requires : tie.Need-part-field-requires
-part-field-requires c κs =
-    let start = c .before .before .before .before .before .before .before .before .before .before .before in
-    readable _ _ _ _ (start .pre)
-
-language-field-requires : tie.Need-language-field-requires
-language-field-requires c κs =
-    let start = c .before .before .before .before .before .before .before .before .before .before .before .before in
-    readable _ _ _ _ (start .pre)
-
 part-field-requires-2 : tie.Need-part-field-requires-2
 part-field-requires-2 c κs =
     let near = c .before .before .before .before .before .before in
@@ -129,21 +76,7 @@ returns c =
 
 pub track-in-spec : {M : Type 1} → statement M
 track-in-spec =
-    tie.close
-    (tie.spec
-    number-field-requires
-    number-field-requires-2
-    number-field-requires-3
-    typed-of-requires
-    flag-field-requires
-    flag-field-requires-2
-    flag-field-requires-3
-    flag-field-requires-4
-    number-field-requires-4
-    part-field-requires
-    language-field-requires
-    part-field-requires-2
-    part-field-requires-3
-    part-field-requires-4
-    settings-in-requires
-    returns)
+    tie.close (tie.spec (λ c κs. search readable) (λ c κs. search readable) (λ c κs. search readable)
+    (λ c κs. search needs) (λ c κs. search readable) (λ c κs. search readable) (λ c κs. search readable)
+    (λ c κs. search readable) (λ c κs. search readable) (λ c κs. search readable) (λ c κs. search readable)
+    part-field-requires-2 part-field-requires-3 part-field-requires-4 settings-in-requires returns)
