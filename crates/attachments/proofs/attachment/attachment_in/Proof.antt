@@ -6,18 +6,6 @@ use borrow.Author.Needs.{needs}
 use Rattle.attachments.proofs.attachment.attachment_in.Statement.{statement}
 use Rattle.attachments.proofs.attachment.attachment_in.Tie as tie
 
-part-field-requires : tie.Need-part-field-requires
-part-field-requires c κs = search needs
-
-part-field-requires-2 : tie.Need-part-field-requires-2
-part-field-requires-2 c κs = search needs
-
-part-field-requires-3 : tie.Need-part-field-requires-3
-part-field-requires-3 c κs = search needs
-
-part-field-requires-4 : tie.Need-part-field-requires-4
-part-field-requires-4 c κs = search needs
-
 returns : tie.Need-returns
 unfolding attachmentOf
 returns c =
@@ -30,10 +18,5 @@ returns c =
 
 pub attachment-in-spec : {M : Type 1} → statement M
 attachment-in-spec =
-    tie.close
-    (tie.spec
-    part-field-requires
-    part-field-requires-2
-    part-field-requires-3
-    part-field-requires-4
+    tie.close (tie.spec (λ c κs. search needs) (λ c κs. search needs) (λ c κs. search needs) (λ c κs. search needs)
     returns)

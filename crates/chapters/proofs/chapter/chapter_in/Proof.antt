@@ -6,30 +6,6 @@ use borrow.Author.Needs.{needs}
 use Rattle.chapters.proofs.chapter.chapter_in.Statement.{statement}
 use Rattle.chapters.proofs.chapter.chapter_in.Tie as tie
 
-number-field-requires : tie.Need-number-field-requires
-number-field-requires c κs = search needs
-
-number-field-requires-2 : tie.Need-number-field-requires-2
-number-field-requires-2 c κs = search needs
-
-number-field-requires-3 : tie.Need-number-field-requires-3
-number-field-requires-3 c κs = search needs
-
-flag-field-requires : tie.Need-flag-field-requires
-flag-field-requires c κs = search needs
-
-flag-field-requires-2 : tie.Need-flag-field-requires-2
-flag-field-requires-2 c κs = search needs
-
-part-field-requires : tie.Need-part-field-requires
-part-field-requires c κs = search needs
-
-number-field-requires-4 : tie.Need-number-field-requires-4
-number-field-requires-4 c κs = search needs
-
-count-children-requires : tie.Need-count-children-requires
-count-children-requires c κs = search needs
-
 returns : tie.Need-returns
 unfolding chapterOf
 returns c =
@@ -50,14 +26,5 @@ returns c =
 
 pub chapter-in-spec : {M : Type 1} → statement M
 chapter-in-spec =
-    tie.close
-    (tie.spec
-    number-field-requires
-    number-field-requires-2
-    number-field-requires-3
-    flag-field-requires
-    flag-field-requires-2
-    part-field-requires
-    number-field-requires-4
-    count-children-requires
-    returns)
+    tie.close (tie.spec (λ c κs. search needs) (λ c κs. search needs) (λ c κs. search needs) (λ c κs. search needs)
+    (λ c κs. search needs) (λ c κs. search needs) (λ c κs. search needs) (λ c κs. search needs) returns)

@@ -6,21 +6,6 @@ use borrow.Author.Needs.{needs}
 use Rattle.chapters.proofs.edition.edition_in.Statement.{statement}
 use Rattle.chapters.proofs.edition.edition_in.Tie as tie
 
-number-field-requires : tie.Need-number-field-requires
-number-field-requires c κs = search needs
-
-flag-field-requires : tie.Need-flag-field-requires
-flag-field-requires c κs = search needs
-
-flag-field-requires-2 : tie.Need-flag-field-requires-2
-flag-field-requires-2 c κs = search needs
-
-flag-field-requires-3 : tie.Need-flag-field-requires-3
-flag-field-requires-3 c κs = search needs
-
-count-children-requires : tie.Need-count-children-requires
-count-children-requires c κs = search needs
-
 returns : tie.Need-returns
 unfolding editionOf
 returns c =
@@ -35,11 +20,5 @@ returns c =
 
 pub edition-in-spec : {M : Type 1} → statement M
 edition-in-spec =
-    tie.close
-    (tie.spec
-    number-field-requires
-    flag-field-requires
-    flag-field-requires-2
-    flag-field-requires-3
-    count-children-requires
-    returns)
+    tie.close (tie.spec (λ c κs. search needs) (λ c κs. search needs) (λ c κs. search needs) (λ c κs. search needs)
+    (λ c κs. search needs) returns)

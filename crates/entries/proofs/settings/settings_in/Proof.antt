@@ -8,21 +8,6 @@ use borrow.Author.Needs.{needs}
 use Rattle.entries.proofs.settings.settings_in.Statement.{statement}
 use Rattle.entries.proofs.settings.settings_in.Tie as tie
 
-last-child-requires : tie.Need-last-child-requires
-last-child-requires c κs = search needs
-
-last-child-requires-2 : tie.Need-last-child-requires-2
-last-child-requires-2 c κs = search needs
-
-later-requires : tie.Need-later-requires
-later-requires c κs = search needs
-
-enum-told : tie.Need-enum-told
-enum-told c = search needs
-
-enum-known-number : tie.Need-enum-known-number
-enum-known-number c = search needs
-
 add-rows-below : tie.Need-add-rows-below
 add-rows-below c =
     let start = c .before .before .before .before .before .before .before .before in
@@ -52,9 +37,6 @@ video-in-requires : tie.Need-video-in-requires
 video-in-requires c κs =
     let start = c .before .before .before .before .before .before .before .before .before in
     readable _ _ _ _ (inner-stands _ _ _ _ (start .pre) _ _ (c .rows-below .ensures))
-
-enum-known-number-2 : tie.Need-enum-known-number-2
-enum-known-number-2 c = search needs
 
 add-rows-below-2 : tie.Need-add-rows-below-2
 add-rows-below-2 c =
@@ -117,20 +99,6 @@ returns-3 c =
 
 pub settings-in-spec : {M : Type 1} → statement M
 settings-in-spec =
-    tie.close
-    (tie.spec
-    last-child-requires
-    last-child-requires-2
-    later-requires
-    enum-told
-    enum-known-number
-    add-rows-below
-    rows-below-requires
-    video-in-requires
-    enum-known-number-2
-    add-rows-below-2
-    rows-below-requires-2
-    audio-in-requires
-    returns
-    returns-2
-    returns-3)
+    tie.close (tie.spec (λ c κs. search needs) (λ c κs. search needs) (λ c κs. search needs) (λ c. search needs)
+    (λ c. search needs) add-rows-below rows-below-requires video-in-requires (λ c. search needs) add-rows-below-2
+    rows-below-requires-2 audio-in-requires returns returns-2 returns-3)

@@ -8,18 +8,6 @@ use borrow.Author.Needs.{needs}
 use Rattle.entries.proofs.typed.typed_of.Statement.{statement}
 use Rattle.entries.proofs.typed.typed_of.Tie as tie
 
-enum-told : tie.Need-enum-told
-enum-told c = search needs
-
-enum-known-number : tie.Need-enum-known-number
-enum-known-number c = search needs
-
-new-requires : tie.Need-new-requires
-new-requires c κs = search needs
-
-returns : tie.Need-returns
-returns c = search needs
-
 returns-2 : tie.Need-returns-2
 unfolding typed
 returns-2 c =
@@ -27,4 +15,5 @@ returns-2 c =
     ∙ ap (said typed) (sym (c .before .before .number .given .1))
 
 pub typed-of-spec : {M : Type 1} → statement M
-typed-of-spec = tie.close (tie.spec enum-told enum-known-number new-requires returns returns-2)
+typed-of-spec =
+    tie.close (tie.spec (λ c. search needs) (λ c. search needs) (λ c κs. search needs) (λ c. search needs) returns-2)

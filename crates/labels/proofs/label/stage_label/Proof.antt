@@ -5,12 +5,6 @@ use borrow.Author.Needs.{needs}
 use Rattle.labels.proofs.label.stage_label.Statement.{statement}
 use Rattle.labels.proofs.label.stage_label.Tie as tie
 
-enum-told : tie.Need-enum-told
-enum-told c = search needs
-
-enum-known-string : tie.Need-enum-known-string
-enum-known-string c = search needs
-
 returns : tie.Need-returns
 returns c =
     let string = c .before .before .string in
@@ -20,18 +14,6 @@ returns-2 : tie.Need-returns-2
 returns-2 c =
     let string = c .before .before .before .string in
     label-outside _ _ _ _ (string .given .1) (omega (arith, c .before .if1 .left, c .if2 .taken))
-
-add-past : tie.Need-add-past
-add-past c = search needs
-
-sub-result : tie.Need-sub-result
-sub-result c = search needs
-
-part-result-start : tie.Need-part-result-start
-part-result-start c = search needs
-
-part-result-end : tie.Need-part-result-end
-part-result-end c = search needs
 
 returns-3 : tie.Need-returns-3
 returns-3 c = label-unset _ _ _ (c .enum-told .given .1)
@@ -44,15 +26,5 @@ returns-4 c =
 
 pub stage-label-spec : {M : Type 1} → statement M
 stage-label-spec =
-    tie.close
-    (tie.spec
-    enum-told
-    enum-known-string
-    returns
-    returns-2
-    add-past
-    sub-result
-    part-result-start
-    part-result-end
-    returns-3
-    returns-4)
+    tie.close (tie.spec (λ c. search needs) (λ c. search needs) returns returns-2 (λ c. search needs)
+    (λ c. search needs) (λ c. search needs) (λ c. search needs) returns-3 returns-4)

@@ -5,30 +5,12 @@ use borrow.Author.Needs.{needs}
 use Rattle.labels.proofs.shown.shown_text.Statement.{statement}
 use Rattle.labels.proofs.shown.shown_text.Tie as tie
 
-text-range-requires : tie.Need-text-range-requires
-text-range-requires c κs = search needs
-
-enum-told : tie.Need-enum-told
-enum-told c = search needs
-
-slice-aggregate-result : tie.Need-slice-aggregate-result
-slice-aggregate-result c = search needs
-
-enum-known-range : tie.Need-enum-known-range
-enum-known-range c = search needs
-
 add-end : tie.Need-add-end
 add-end c =
     let range = c .before .before .range in
     let text-range = c .before .before .before .before .text-range in
     let i = shown-inside _ _ _ _ (rw (range .given .1) at (text-range .ensures)) in
     omega (arith, i .ends, i .short)
-
-sub-result : tie.Need-sub-result
-sub-result c = search needs
-
-part-result-start : tie.Need-part-result-start
-part-result-start c = search needs
 
 part-result-end : tie.Need-part-result-end
 part-result-end c =
@@ -50,15 +32,5 @@ returns-2 c =
 
 pub shown-text-spec : {M : Type 1} → statement M
 shown-text-spec =
-    tie.close
-    (tie.spec
-    text-range-requires
-    enum-told
-    slice-aggregate-result
-    enum-known-range
-    add-end
-    sub-result
-    part-result-start
-    part-result-end
-    returns
-    returns-2)
+    tie.close (tie.spec (λ c κs. search needs) (λ c. search needs) (λ c. search needs) (λ c. search needs) add-end
+    (λ c. search needs) (λ c. search needs) part-result-end returns returns-2)

@@ -5,22 +5,10 @@ use borrow.Author.Needs.{needs}
 use Rattle.labels.proofs.shown.text_range.Statement.{statement}
 use Rattle.labels.proofs.shown.text_range.Tie as tie
 
-payload-range-requires : tie.Need-payload-range-requires
-payload-range-requires c κs = search needs
-
-enum-known-refusal : tie.Need-enum-known-refusal
-enum-known-refusal c = search needs
-
-enum-known-range : tie.Need-enum-known-range
-enum-known-range c = search needs
-
 row-at-requires : tie.Need-row-at-requires
 row-at-requires c κs =
     let payload-range = c .before .before .before .payload-range in
     row-there _ _ _ _ (rw (c .before .range .given .1) at (payload-range .ensures))
-
-is-text-requires : tie.Need-is-text-requires
-is-text-requires c κs = search needs
 
 returns : tie.Need-returns
 returns c =
@@ -29,9 +17,6 @@ returns c =
     let row-at = c .before .before .row-at in
     is-shown _ _ _ _ (rw (range .given .1) at (payload-range .ensures)) _ (row-at .ensures)
     (sym (c .if1 .taken) ∙ c .before .is-text .ensures)
-
-bad-argument-requires : tie.Need-bad-argument-requires
-bad-argument-requires c κs = search needs
 
 returns-2 : tie.Need-returns-2
 returns-2 c =
@@ -49,14 +34,5 @@ returns-3 c =
 
 pub text-range-spec : {M : Type 1} → statement M
 text-range-spec =
-    tie.close
-    (tie.spec
-    payload-range-requires
-    enum-known-refusal
-    enum-known-range
-    row-at-requires
-    is-text-requires
-    returns
-    bad-argument-requires
-    returns-2
-    returns-3)
+    tie.close (tie.spec (λ c κs. search needs) (λ c. search needs) (λ c. search needs) row-at-requires
+    (λ c κs. search needs) returns (λ c κs. search needs) returns-2 returns-3)

@@ -7,35 +7,17 @@ use borrow.Author.Needs.{needs}
 use Rattle.records.proofs.locate.enter.Statement.{statement}
 use Rattle.records.proofs.locate.enter.Tie as tie
 
-enum-told : tie.Need-enum-told
-enum-told c = search needs
-
-enum-known-from : tie.Need-enum-known-from
-enum-known-from c = search needs
-
-enum-told-2 : tie.Need-enum-told-2
-enum-told-2 c = search needs
-
-enum-known-step : tie.Need-enum-known-step
-enum-known-step c = search needs
-
 returns : tie.Need-returns
 returns c =
     let from = c .before .before .before .before .before .from in
     let step = c .before .before .step in
     only-here _ _ _ _ _ (from .given .1) (step .given .1) (c .if1 .taken)
 
-enum-known-step-2 : tie.Need-enum-known-step-2
-enum-known-step-2 c = search needs
-
 rows-below-requires : tie.Need-rows-below-requires
 rows-below-requires c κs =
     let start = c .before .before .before .before .before .before .before in
     let from = c .before .before .before .before .from in
     (start .pre .0, known-at _ _ _ (start .pre .1) (from .given .1), start .pre .2)
-
-nth-child-requires : tie.Need-nth-child-requires
-nth-child-requires c κs = search needs
 
 spot-of-requires : tie.Need-spot-of-requires
 spot-of-requires c κs =
@@ -45,17 +27,11 @@ spot-of-requires c κs =
     (omega (arith, start .fits .rows))
     (c .nth-child .ensures)
 
-enum-known-step-3 : tie.Need-enum-known-step-3
-enum-known-step-3 c = search needs
-
 rows-below-requires-2 : tie.Need-rows-below-requires-2
 rows-below-requires-2 c κs =
     let start = c .before .before .before .before .before .before .before in
     let from = c .before .before .before .before .from in
     (start .pre .0, known-at _ _ _ (start .pre .1) (from .given .1), start .pre .2)
-
-last-child-requires : tie.Need-last-child-requires
-last-child-requires c κs = search needs
 
 spot-of-requires-2 : tie.Need-spot-of-requires-2
 spot-of-requires-2 c κs =
@@ -64,9 +40,6 @@ spot-of-requires-2 c κs =
     last-numbered _ _ _ _ (known-at _ _ _ (start .pre .1) (from .given .1)) (c .before .rows-below2 .ensures) _ _
     (omega (arith, start .fits .rows))
     (c .last-child .ensures)
-
-returns-2 : tie.Need-returns-2
-returns-2 c = search needs
 
 returns-3 : tie.Need-returns-3
 returns-3 c =
@@ -103,23 +76,7 @@ returns-6 c =
 
 pub enter-spec : {M : Type 1} → statement M
 enter-spec =
-    tie.close
-    (tie.spec
-    enum-told
-    enum-known-from
-    enum-told-2
-    enum-known-step
-    returns
-    enum-known-step-2
-    rows-below-requires
-    nth-child-requires
-    spot-of-requires
-    enum-known-step-3
-    rows-below-requires-2
-    last-child-requires
-    spot-of-requires-2
-    returns-2
-    returns-3
-    returns-4
-    returns-5
+    tie.close (tie.spec (λ c. search needs) (λ c. search needs) (λ c. search needs) (λ c. search needs) returns
+    (λ c. search needs) rows-below-requires (λ c κs. search needs) spot-of-requires (λ c. search needs)
+    rows-below-requires-2 (λ c κs. search needs) spot-of-requires-2 (λ c. search needs) returns-3 returns-4 returns-5
     returns-6)

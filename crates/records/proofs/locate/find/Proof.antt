@@ -4,9 +4,6 @@ use borrow.Author.Needs.{needs}
 use Rattle.records.proofs.locate.find.Statement.{statement}
 use Rattle.records.proofs.locate.find.Tie as tie
 
-enter-requires : tie.Need-enter-requires
-enter-requires c κs = search needs
-
 enter-requires-2 : tie.Need-enter-requires-2
 enter-requires-2 c κs =
     let start = c .before .before in (
@@ -31,4 +28,4 @@ returns c =
     way _ _ _ _ _ _ _ (enter .ensures) (c .before .enter2 .ensures) (c .enter3 .ensures)
 
 pub find-spec : {M : Type 1} → statement M
-find-spec = tie.close (tie.spec enter-requires enter-requires-2 enter-requires-3 returns)
+find-spec = tie.close (tie.spec (λ c κs. search needs) enter-requires-2 enter-requires-3 returns)

@@ -7,33 +7,12 @@ use borrow.Author.Needs.{needs}
 use Rattle.records.proofs.locate.locate.Statement.{statement}
 use Rattle.records.proofs.locate.locate.Tie as tie
 
-read-requires : tie.Need-read-requires
-read-requires c κs = search needs
-
-enum-known-refusal : tie.Need-enum-known-refusal
-enum-known-refusal c = search needs
-
-enum-known-count : tie.Need-enum-known-count
-enum-known-count c = search needs
-
 find-requires : tie.Need-find-requires
 find-requires c κs =
     let count = c .before .before .count in
     let read = c .before .before .before .before .before .before .read in
     let p = rw (count .given .1) at (read .ensures) in
     (rows-held _ _ _ _ _ _ _ p, all-jump _ _ _ _ _ _ _ p)
-
-enum-told : tie.Need-enum-told
-enum-told c = search needs
-
-clear-requires : tie.Need-clear-requires
-clear-requires c κs = search needs
-
-no-record-requires : tie.Need-no-record-requires
-no-record-requires c κs = search needs
-
-enum-known-number : tie.Need-enum-known-number
-enum-known-number c = search needs
 
 rows-below-requires : tie.Need-rows-below-requires
 rows-below-requires c κs =
@@ -46,16 +25,10 @@ rows-below-requires c κs =
       all-jump _ _ _ _ _ _ _ (rw (count .given .1) at (read .ensures)),
     )
 
-same-length : tie.Need-same-length
-same-length c = search needs
-
 returns : tie.Need-returns
 returns c =
     let read = c .before .before .before .before .before .read in
     read-refused _ _ _ _ _ _ _ _ _ _ (rw (c .before .refusal .given .1) at (read .ensures))
-
-same-length-2 : tie.Need-same-length-2
-same-length-2 c = search needs
 
 returns-2 : tie.Need-returns-2
 returns-2 c =
@@ -70,9 +43,6 @@ returns-2 c =
     ∙ find .ensures)
     (c .no-record .ensures) (clear .ensures)
 
-same-length-3 : tie.Need-same-length-3
-same-length-3 c = search needs
-
 returns-3 : tie.Need-returns-3
 returns-3 c =
     let count = c .before .before .before .before .before .before .before .before .count in
@@ -86,20 +56,6 @@ returns-3 c =
 
 pub locate-spec : {M : Type 1} → statement M
 locate-spec =
-    tie.close
-    (tie.spec
-    read-requires
-    enum-known-refusal
-    enum-known-count
-    find-requires
-    enum-told
-    clear-requires
-    no-record-requires
-    enum-known-number
-    rows-below-requires
-    same-length
-    returns
-    same-length-2
-    returns-2
-    same-length-3
-    returns-3)
+    tie.close (tie.spec (λ c κs. search needs) (λ c. search needs) (λ c. search needs) find-requires (λ c. search needs)
+    (λ c κs. search needs) (λ c κs. search needs) (λ c. search needs) rows-below-requires (λ c. search needs) returns
+    (λ c. search needs) returns-2 (λ c. search needs) returns-3)

@@ -5,12 +5,6 @@ use borrow.Author.Needs.{needs}
 use Rattle.records.proofs.locate.spot_of.Statement.{statement}
 use Rattle.records.proofs.locate.spot_of.Tie as tie
 
-enum-told : tie.Need-enum-told
-enum-told c = search needs
-
-enum-known-child : tie.Need-enum-known-child
-enum-known-child c = search needs
-
 add-t4 : tie.Need-add-t4
 add-t4 c =
     let start = c .before .before .before in
@@ -20,11 +14,8 @@ add-t4 c =
     (child .given .1) in
     omega (arith, l)
 
-returns : tie.Need-returns
-returns c = search needs
-
 returns-2 : tie.Need-returns-2
 returns-2 c = spot-at _ _ _ (c .before .child .given .1)
 
 pub spot-of-spec : {M : Type 1} → statement M
-spot-of-spec = tie.close (tie.spec enum-told enum-known-child add-t4 returns returns-2)
+spot-of-spec = tie.close (tie.spec (λ c. search needs) (λ c. search needs) add-t4 (λ c. search needs) returns-2)

@@ -6,18 +6,6 @@ use borrow.Author.Needs.{needs}
 use Rattle.tags.proofs.simple.simple_in.Statement.{statement}
 use Rattle.tags.proofs.simple.simple_in.Tie as tie
 
-part-field-requires : tie.Need-part-field-requires
-part-field-requires c κs = search needs
-
-language-field-requires : tie.Need-language-field-requires
-language-field-requires c κs = search needs
-
-flag-field-requires : tie.Need-flag-field-requires
-flag-field-requires c κs = search needs
-
-value-field-requires : tie.Need-value-field-requires
-value-field-requires c κs = search needs
-
 returns : tie.Need-returns
 unfolding simpleOf
 returns c =
@@ -30,10 +18,5 @@ returns c =
 
 pub simple-in-spec : {M : Type 1} → statement M
 simple-in-spec =
-    tie.close
-    (tie.spec
-    part-field-requires
-    language-field-requires
-    flag-field-requires
-    value-field-requires
+    tie.close (tie.spec (λ c κs. search needs) (λ c κs. search needs) (λ c κs. search needs) (λ c κs. search needs)
     returns)

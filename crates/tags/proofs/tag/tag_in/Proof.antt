@@ -4,12 +4,6 @@ use borrow.Author.Needs.{needs}
 use Rattle.tags.proofs.tag.tag_in.Statement.{statement}
 use Rattle.tags.proofs.tag.tag_in.Tie as tie
 
-targets-in-requires : tie.Need-targets-in-requires
-targets-in-requires c κs = search needs
-
-count-children-requires : tie.Need-count-children-requires
-count-children-requires c κs = search needs
-
 returns : tie.Need-returns
 returns c =
     let start = c .before .before .before .before in
@@ -17,4 +11,4 @@ returns c =
     tag-is _ _ _ _ (start .pre) (targets-in .result) _ (targets-in .ensures) (c .count-children .ensures)
 
 pub tag-in-spec : {M : Type 1} → statement M
-tag-in-spec = tie.close (tie.spec targets-in-requires count-children-requires returns)
+tag-in-spec = tie.close (tie.spec (λ c κs. search needs) (λ c κs. search needs) returns)

@@ -6,24 +6,6 @@ use borrow.Author.Needs.{needs}
 use Rattle.tags.proofs.tag.target_in.Statement.{statement}
 use Rattle.tags.proofs.tag.target_in.Tie as tie
 
-number-field-requires : tie.Need-number-field-requires
-number-field-requires c κs = search needs
-
-part-field-requires : tie.Need-part-field-requires
-part-field-requires c κs = search needs
-
-count-children-requires : tie.Need-count-children-requires
-count-children-requires c κs = search needs
-
-count-children-requires-2 : tie.Need-count-children-requires-2
-count-children-requires-2 c κs = search needs
-
-count-children-requires-3 : tie.Need-count-children-requires-3
-count-children-requires-3 c κs = search needs
-
-count-children-requires-4 : tie.Need-count-children-requires-4
-count-children-requires-4 c κs = search needs
-
 returns : tie.Need-returns
 unfolding targetOf
 returns c =
@@ -40,12 +22,5 @@ returns c =
 
 pub target-in-spec : {M : Type 1} → statement M
 target-in-spec =
-    tie.close
-    (tie.spec
-    number-field-requires
-    part-field-requires
-    count-children-requires
-    count-children-requires-2
-    count-children-requires-3
-    count-children-requires-4
-    returns)
+    tie.close (tie.spec (λ c κs. search needs) (λ c κs. search needs) (λ c κs. search needs) (λ c κs. search needs)
+    (λ c κs. search needs) (λ c κs. search needs) returns)

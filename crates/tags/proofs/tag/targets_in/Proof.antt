@@ -8,15 +8,6 @@ use borrow.Author.Needs.{needs}
 use Rattle.tags.proofs.tag.targets_in.Statement.{statement}
 use Rattle.tags.proofs.tag.targets_in.Tie as tie
 
-last-child-requires : tie.Need-last-child-requires
-last-child-requires c κs = search needs
-
-enum-told : tie.Need-enum-told
-enum-told c = search needs
-
-enum-known-number : tie.Need-enum-known-number
-enum-known-number c = search needs
-
 add-rows-below : tie.Need-add-rows-below
 add-rows-below c =
     let start = c .before .before .before .before .before .before in
@@ -60,13 +51,5 @@ returns-2 c =
 
 pub targets-in-spec : {M : Type 1} → statement M
 targets-in-spec =
-    tie.close
-    (tie.spec
-    last-child-requires
-    enum-told
-    enum-known-number
-    add-rows-below
-    rows-below-requires
-    target-in-requires
-    returns
-    returns-2)
+    tie.close (tie.spec (λ c κs. search needs) (λ c. search needs) (λ c. search needs) add-rows-below
+    rows-below-requires target-in-requires returns returns-2)

@@ -6,15 +6,6 @@ use borrow.Author.Needs.{needs}
 use Rattle.tracks.proofs.audio.audio_in.Statement.{statement}
 use Rattle.tracks.proofs.audio.audio_in.Tie as tie
 
-real-field-requires : tie.Need-real-field-requires
-real-field-requires c κs = search needs
-
-number-field-requires : tie.Need-number-field-requires
-number-field-requires c κs = search needs
-
-number-field-requires-2 : tie.Need-number-field-requires-2
-number-field-requires-2 c κs = search needs
-
 returns : tie.Need-returns
 unfolding audioOf
 returns c =
@@ -24,5 +15,4 @@ returns c =
     (then (c .number-field2 .ensures) refl))
 
 pub audio-in-spec : {M : Type 1} → statement M
-audio-in-spec =
-    tie.close (tie.spec real-field-requires number-field-requires number-field-requires-2 returns)
+audio-in-spec = tie.close (tie.spec (λ c κs. search needs) (λ c κs. search needs) (λ c κs. search needs) returns)

@@ -12,21 +12,6 @@ use Rattle.tracks.proofs.video.interlaced_of.Tie as tie
 neither : (n : ℕ) → (n ≡ 1 → ⊥) → (n ≡ 2 → ⊥) → interlaced n ≡ unset
 neither n a b = rw (ne-eqb n 1 a, ne-eqb n 2 b) refl
 
-enum-told : tie.Need-enum-told
-enum-told c = search needs
-
-enum-known-number : tie.Need-enum-known-number
-enum-known-number c = search needs
-
-returns : tie.Need-returns
-returns c = search needs
-
-returns-2 : tie.Need-returns-2
-returns-2 c = search needs
-
-returns-3 : tie.Need-returns-3
-returns-3 c = search needs
-
 returns-4 : tie.Need-returns-4
 returns-4 c =
     let number = c .before .before .number in
@@ -35,4 +20,5 @@ returns-4 c =
 
 pub interlaced-of-spec : {M : Type 1} → statement M
 interlaced-of-spec =
-    tie.close (tie.spec enum-told enum-known-number returns returns-2 returns-3 returns-4)
+    tie.close (tie.spec (λ c. search needs) (λ c. search needs) (λ c. search needs) (λ c. search needs)
+    (λ c. search needs) returns-4)

@@ -8,33 +8,6 @@ use borrow.Author.Needs.{needs}
 use Rattle.tracks.proofs.video.video_in.Statement.{statement}
 use Rattle.tracks.proofs.video.video_in.Tie as tie
 
-number-field-requires : tie.Need-number-field-requires
-number-field-requires c κs = search needs
-
-number-field-requires-2 : tie.Need-number-field-requires-2
-number-field-requires-2 c κs = search needs
-
-number-field-requires-3 : tie.Need-number-field-requires-3
-number-field-requires-3 c κs = search needs
-
-number-field-requires-4 : tie.Need-number-field-requires-4
-number-field-requires-4 c κs = search needs
-
-number-field-requires-5 : tie.Need-number-field-requires-5
-number-field-requires-5 c κs = search needs
-
-interlaced-of-requires : tie.Need-interlaced-of-requires
-interlaced-of-requires c κs = search needs
-
-number-field-requires-6 : tie.Need-number-field-requires-6
-number-field-requires-6 c κs = search needs
-
-stereo-of-requires : tie.Need-stereo-of-requires
-stereo-of-requires c κs = search needs
-
-real-field-requires : tie.Need-real-field-requires
-real-field-requires c κs = search needs
-
 returns : tie.Need-returns
 unfolding videoOf
 returns c =
@@ -56,15 +29,6 @@ returns c =
 
 pub video-in-spec : {M : Type 1} → statement M
 video-in-spec =
-    tie.close
-    (tie.spec
-    number-field-requires
-    number-field-requires-2
-    number-field-requires-3
-    number-field-requires-4
-    number-field-requires-5
-    interlaced-of-requires
-    number-field-requires-6
-    stereo-of-requires
-    real-field-requires
+    tie.close (tie.spec (λ c κs. search needs) (λ c κs. search needs) (λ c κs. search needs) (λ c κs. search needs)
+    (λ c κs. search needs) (λ c κs. search needs) (λ c κs. search needs) (λ c κs. search needs) (λ c κs. search needs)
     returns)
