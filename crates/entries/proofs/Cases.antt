@@ -23,7 +23,7 @@ use Rattle.records.specs.Cases.{Hold}
 use Rattle.tracks.specs.Said.{saidOf}
 use Rattle.tracks.specs.Video.{stereo}
 use Rattle.tracks.specs.Records.{audioOf, videoOf}
-use Rattle.tracks.specs.Tracktypes.{typeIn}
+use Rattle.codes.specs.Tracktypes.{typeIn}
 use Rattle.entries.specs.Typed.{typed}
 use Rattle.entries.specs.Settings.{settingsOf}
 use Rattle.entries.specs.Records.{entryOf, trackOf}

@@ -9,10 +9,10 @@ use Rattle.fields.specs.declared.field.Language.{Language}
 use Rattle.fields.proofs.Once.{number-once, flag-once, part-once, language-once}
 use Rattle.records.proofs.Lists.{first, rest}
 use Rattle.records.proofs.Unique.{same-refused, one-answer}
-use Rattle.tracks.specs.Tracktypes.{typeIn, tracktypeOf}
-use Rattle.tracks.specs.declared.tracktype.Tracktype.{Tracktype}
-use Rattle.tracks.specs.declared.tracktype.Tracktype.the-variants.{Video as VideoType, Audio as AudioType}
-use Rattle.tracks.specs.declared.tracktype.Tracktype.the-variants.{Complex, Logo, Subtitle, Buttons, Control, Unknown}
+use Rattle.codes.specs.Tracktypes.{typeIn, tracktypeOf}
+use Rattle.codes.specs.declared.tracktype.Tracktype.{Tracktype}
+use Rattle.codes.specs.declared.tracktype.Tracktype.the-variants.{Video as VideoType, Audio as AudioType}
+use Rattle.codes.specs.declared.tracktype.Tracktype.the-variants.{Complex, Logo, Subtitle, Buttons, Control, Unknown}
 use Rattle.tracks.proofs.Unique.{audio-once, video-once}
 use Rattle.entries.specs.Typed.{typeNumber}
 use Rattle.entries.specs.Records.{trackOf}

@@ -1,10 +1,10 @@
 -- A track's type among the values of a record: by its number.
 use Prim.Native.Nat.{ℕ}
 use Rattle.fields.specs.Values.{Value, number}
-use Rattle.tracks.specs.Tracktypes.{tracktypeOf}
-use Rattle.tracks.specs.declared.tracktype.Tracktype.{Tracktype}
-use Rattle.tracks.specs.declared.tracktype.Tracktype.the-variants.{Video, Audio, Complex, Logo}
-use Rattle.tracks.specs.declared.tracktype.Tracktype.the-variants.{Subtitle, Buttons, Control, Unknown}
+use Rattle.codes.specs.Tracktypes.{tracktypeOf}
+use Rattle.codes.specs.declared.tracktype.Tracktype.{Tracktype}
+use Rattle.codes.specs.declared.tracktype.Tracktype.the-variants.{Video, Audio, Complex, Logo}
+use Rattle.codes.specs.declared.tracktype.Tracktype.the-variants.{Subtitle, Buttons, Control, Unknown}
 
 -- The number of each type; Unknown has 0, which no type has.
 abbrev pub typeNumber : Tracktype → ℕ

@@ -4,7 +4,7 @@ ghost use Rattle.tracks.specs.Said.{said};
 ghost use Rattle.entries.specs.Typed.{typed};
 ghost use Rattle.entries.specs.Told.{typedTold};
 use fields::Number;
-use tracks::Tracktype;
+use codes::Tracktype;
 
 pub enum Typed {
     Unset,

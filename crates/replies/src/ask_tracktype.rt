@@ -2,7 +2,7 @@
 use lines::out;
 use lines::words;
 use questions::asked::Asked;
-use tracks::Tracktype;
+use codes::Tracktype;
 
 pub fn tracktype(asked: Asked, out: &mut [u8; 65536], held: usize) -> usize {
     name_told(Tracktype::new(asked.k), out, held)

@@ -15,7 +15,8 @@ use Rattle.fields.specs.declared.child.Child.the-variants.{At as ChildAt, Absen
 use Rattle.records.specs.Theorems.{Placed, AllPlaced}
 use Rattle.records.proofs.Addressed.{numbers, reals, asked-addressed}
 use Rattle.tracks.specs.Said.{saidIn, saidOf}
-use Rattle.tracks.specs.Video.{interlaced, modes, stereo}
+use Rattle.codes.specs.Stereo.{modes}
+use Rattle.tracks.specs.Video.{interlaced, stereo}
 use Rattle.tracks.specs.Records.{audioOf, videoOf}
 use Rattle.tracks.specs.Theorems.{TracksAddressed}
 

@@ -3,7 +3,6 @@ pub mod Said
 pub mod Video
 pub mod Records
 pub mod Told
-pub mod Tracktypes
 pub mod Promise
 pub mod Theorems
 pub mod Cases

@@ -1,18 +1,13 @@
--- What the question for the settings of an audio track promises of its reply and of the table, and what is promised
--- of a track's type and of a stereo mode's number.
+-- What the question for the settings of an audio track promises of its reply and of the table.
 use Prim.Native.Nat.{ℕ}
-use mathlib.Core.Path.{_≡_}
 use mathlib.Core.List.{List}
 use lib.ListN.{length}
 use Rattle.records.specs.Asked.{Asked, asked}
 use Rattle.records.specs.Promise.{RecordPromise, ofBelow}
 use Rattle.records.specs.declared.locate.Step.the-variants.{Here, Only}
 use Rattle.tracks.specs.Records.{audioOf}
-use Rattle.tracks.specs.Told.{stereoNumber, audioTold}
-use Rattle.tracks.specs.Tracktypes.{tracktypeOf}
+use Rattle.tracks.specs.Told.{audioTold}
 use Rattle.tracks.specs.declared.audio.AudioReply.{AudioReply}
-use Rattle.tracks.specs.declared.stereo.StereoMode.{StereoMode}
-use Rattle.tracks.specs.declared.tracktype.Tracktype.{Tracktype}
 
 -- ---- the questions, with a table of so many numbers
 
@@ -27,9 +22,3 @@ module _ (s : List ℕ) (start size k : ℕ) where
 abbrev pub AudioPromise : List ℕ → ℕ → ℕ → ℕ → List ℕ → AudioReply → List ℕ → Type 0
 AudioPromise s start size k t r t′ =
     RecordPromise (ofBelow (audioOf s)) (audioAsked s start size k (length t)) (length t) (audioTold r) t′
-
-abbrev pub TracktypePromise : ℕ → Tracktype → Type 0
-TracktypePromise number r = r ≡ tracktypeOf number
-
-abbrev pub StereoModePromise : StereoMode → ℕ → Type 0
-StereoModePromise mode r = r ≡ stereoNumber mode

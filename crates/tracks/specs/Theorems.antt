@@ -1,17 +1,13 @@
 -- What is proved of the definitions beside the contracts: the statements of the theorems.
-use Prim.Native.Nat.{ℕ, _<_}
+use Prim.Native.Nat.{ℕ}
 use mathlib.Core.Path.{_≡_}
 use mathlib.Core.List.{List}
 use lib.ListN.{length}
 use Rattle.records.specs.Promise.{ofBelow}
 use Rattle.records.specs.Theorems.{Addressed}
-use Rattle.tracks.specs.Video.{modes}
 use Rattle.tracks.specs.Records.{audioOf}
-use Rattle.tracks.specs.Told.{stereoNumber}
-use Rattle.tracks.specs.Promise.{audioAsked, AudioPromise, TracktypePromise, StereoModePromise}
+use Rattle.tracks.specs.Promise.{audioAsked, AudioPromise}
 use Rattle.tracks.specs.declared.audio.AudioReply.{AudioReply}
-use Rattle.tracks.specs.declared.stereo.StereoMode.{StereoMode}
-use Rattle.tracks.specs.declared.tracktype.Tracktype.{Tracktype}
 
 -- Any two replies and tables that a promise permits to one question are equal (document 01, Strength of the promises).
 -- The numbers that stood in the lent table do not matter, only how many there are.
@@ -19,17 +15,6 @@ abbrev pub OneAudio : Type 0
 OneAudio =
     (s : List ℕ) (start size k : ℕ) (t u : List ℕ) (r r′ : AudioReply) (t′ u′ : List ℕ) → length t ≡ length u
     → AudioPromise s start size k t r t′ → AudioPromise s start size k u r′ u′ → (r ≡ r′) × (t′ ≡ u′)
-
-abbrev pub OneTracktype : Type 0
-OneTracktype = (n : ℕ) (r r′ : Tracktype) → TracktypePromise n r → TracktypePromise n r′ → r ≡ r′
-
-abbrev pub OneStereoMode : Type 0
-OneStereoMode = (m : StereoMode) (r r′ : ℕ) → StereoModePromise m r → StereoModePromise m r′ → r ≡ r′
-
--- Each mode has a number of its own, below 15.
-pub record ModesNumbered : Type 0 where
-  pub own : (m m′ : StereoMode) → stereoNumber m ≡ stereoNumber m′ → m ≡ m′
-  pub below : (m : StereoMode) → stereoNumber m < modes
 
 -- Every address in a record that is told is the payload's place of one of the rows that the table holds at exit.
 pub record TracksAddressed : Type 0 where

@@ -4,36 +4,15 @@ use mathlib.Core.List.{List, [], _∷_}
 use Rattle.fields.specs.Values.{Value, unset, number}
 use Rattle.fields.specs.Told.{numberTold, flagTold, realTold}
 use Rattle.records.specs.Told.{Answer, fields, refuses}
+use Rattle.codes.specs.Stereo.{stereoNumber}
 use Rattle.tracks.specs.declared.audio.Audio.{Audio}
 use Rattle.tracks.specs.declared.audio.AudioReply.{AudioReply}
 use Rattle.tracks.specs.declared.audio.AudioReply.the-variants.{Audio as IsAudio, Refused as NoAudio}
-use Rattle.tracks.specs.declared.stereo.EyeOrder.{EyeOrder}
-use Rattle.tracks.specs.declared.stereo.EyeOrder.the-variants.{LeftFirst, RightFirst}
-use Rattle.tracks.specs.declared.stereo.StereoColors.the-variants.{CyanRed, GreenMagenta}
-use Rattle.tracks.specs.declared.stereo.StereoMode.{StereoMode}
-use Rattle.tracks.specs.declared.stereo.StereoMode.the-variants.{Mono, SideBySide, TopBottom, Checkboard}
-use Rattle.tracks.specs.declared.stereo.StereoMode.the-variants.{RowInterleaved, ColumnInterleaved}
-use Rattle.tracks.specs.declared.stereo.StereoMode.the-variants.{Anaglyph, Interlaced}
 use Rattle.tracks.specs.declared.stereo.Stereo.{Stereo}
 use Rattle.tracks.specs.declared.stereo.Stereo.the-variants.{Unset, Is}
 use Rattle.tracks.specs.declared.video.Video.{Video}
 
--- ---- a stereo mode, by its number in the crate's `Video::build`
-
-abbrev pub byOrder : EyeOrder → (left right : ℕ) → ℕ
-byOrder LeftFirst left right = left
-byOrder RightFirst left right = right
-
-abbrev pub stereoNumber : StereoMode → ℕ
-stereoNumber Mono = 0
-stereoNumber (SideBySide order) = byOrder order 1 11
-stereoNumber (TopBottom order) = byOrder order 3 2
-stereoNumber (Checkboard order) = byOrder order 5 4
-stereoNumber (RowInterleaved order) = byOrder order 7 6
-stereoNumber (ColumnInterleaved order) = byOrder order 9 8
-stereoNumber (Anaglyph CyanRed) = 10
-stereoNumber (Anaglyph GreenMagenta) = 12
-stereoNumber (Interlaced order) = byOrder order 13 14
+-- ---- a stereo mode, by its number
 
 abbrev pub stereoTold : Stereo → Value
 stereoTold Unset = unset

@@ -2,7 +2,7 @@
 use mathlib.Core.Path.{ap, sym, _∙_}
 use Rattle.fields.specs.Values.{number}
 use Rattle.tracks.specs.Said.{said}
-use Rattle.tracks.specs.declared.tracktype.Tracktype.{Tracktype}
+use Rattle.codes.specs.declared.tracktype.Tracktype.{Tracktype}
 use Rattle.entries.specs.Typed.{typeNumber, typed}
 use borrow.Author.Needs.{needs}
 use Rattle.entries.proofs.typed.typed_of.Statement.{statement}

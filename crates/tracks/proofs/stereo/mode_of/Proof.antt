@@ -3,7 +3,8 @@ use Prim.Native.Nat.{_≤_}
 use mathlib.Core.Path.{refl, ap, sym}
 use native.Mathlib.Omega.{arith}
 use borrow.Author.Tests.{le-ltb}
-use Rattle.tracks.specs.Video.{modes, stereo}
+use Rattle.codes.specs.Stereo.{modes}
+use Rattle.tracks.specs.Video.{stereo}
 use Rattle.tracks.proofs.stereo.mode_of.Statement.{statement}
 use Rattle.tracks.proofs.stereo.mode_of.Tie as tie
 

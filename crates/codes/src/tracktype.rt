@@ -1,5 +1,5 @@
 // The type of a track by its number.
-ghost use Rattle.tracks.specs.Promise.{TracktypePromise};
+ghost use Rattle.codes.specs.Promise.{TracktypePromise};
 
 pub enum Tracktype {
     Video,

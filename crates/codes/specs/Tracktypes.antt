@@ -3,9 +3,9 @@ use Prim.Native.Nat.{ℕ}
 use mathlib.Core.List.{List, [], _∷_}
 use mathlib.Core.Bool.{cond}
 use lib.Dec.{eqb}
-use Rattle.tracks.specs.declared.tracktype.Tracktype.{Tracktype}
-use Rattle.tracks.specs.declared.tracktype.Tracktype.the-variants.{Video, Audio, Complex, Logo}
-use Rattle.tracks.specs.declared.tracktype.Tracktype.the-variants.{Subtitle, Buttons, Control, Unknown}
+use Rattle.codes.specs.declared.tracktype.Tracktype.{Tracktype}
+use Rattle.codes.specs.declared.tracktype.Tracktype.the-variants.{Video, Audio, Complex, Logo}
+use Rattle.codes.specs.declared.tracktype.Tracktype.the-variants.{Subtitle, Buttons, Control, Unknown}
 
 -- A type with its number.
 pub record Entry : Type 0 where

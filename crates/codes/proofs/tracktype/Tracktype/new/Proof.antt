@@ -1,9 +1,9 @@
 -- `Tracktype::new` meets its contract: each number is an arm of its own. Assumes nothing.
 use mathlib.Core.Path.{refl, ap, sym}
 use borrow.Author.Tests.{ne-eqb}
-use Rattle.tracks.specs.Tracktypes.{typeIn, tracktypeOf}
-use Rattle.tracks.proofs.tracktype.Tracktype.new.Statement.{statement}
-use Rattle.tracks.proofs.tracktype.Tracktype.new.Tie as tie
+use Rattle.codes.specs.Tracktypes.{typeIn, tracktypeOf}
+use Rattle.codes.proofs.tracktype.Tracktype.new.Statement.{statement}
+use Rattle.codes.proofs.tracktype.Tracktype.new.Tie as tie
 
 returns : tie.Need-returns
 unfolding typeIn

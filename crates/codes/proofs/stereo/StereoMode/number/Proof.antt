@@ -1,9 +1,9 @@
 -- `StereoMode::number` meets its contract: mode by mode. Assumes nothing.
 use mathlib.Core.Path.{ap, sym, _∙_}
 use borrow.Author.Needs.{needs}
-use Rattle.tracks.specs.Told.{stereoNumber}
-use Rattle.tracks.proofs.stereo.StereoMode.number.Statement.{statement}
-use Rattle.tracks.proofs.stereo.StereoMode.number.Tie as tie
+use Rattle.codes.specs.Stereo.{stereoNumber}
+use Rattle.codes.proofs.stereo.StereoMode.number.Statement.{statement}
+use Rattle.codes.proofs.stereo.StereoMode.number.Tie as tie
 
 returns-2 : tie.Need-returns-2
 returns-2 c =

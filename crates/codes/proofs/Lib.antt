@@ -1,0 +1,2 @@
+-- The theorems of `codes`.
+pub mod Unique
