@@ -2,8 +2,8 @@
 use Prim.Native.Nat.{ℕ}
 use mathlib.Core.Path.{_≡_, ap, _∙_}
 use native.Mathlib.Omega.{arith}
-use Rattle.fields.specs.declared.field.Part.{Part}
-use Rattle.fields.proofs.Once.{part-once}
+use Rattle.fields.specs.declared.field.Content.{Content}
+use Rattle.fields.proofs.Once.{content-once}
 use Rattle.records.specs.Promise.{ofBelow}
 use Rattle.records.proofs.Lists.{first, rest}
 use Rattle.records.proofs.Unique.{same-refused, one-answer}
@@ -22,12 +22,12 @@ use Rattle.attachments.specs.declared.attachment.AttachmentReply.the-var
 attachment-once : (a b : Attachment) → attachmentValues a ≡ attachmentValues b → a ≡ b
 attachment-once a b q =
     same
-    (part-once (a .description) (b .description) (first q))
-    (part-once (a .name) (b .name) (first (rest q)))
-    (part-once (a .«mime_type») (b .«mime_type») (first (rest (rest q))))
-    (part-once (a .«data») (b .«data») (first (rest (rest (rest q)))))
+    (content-once (a .description) (b .description) (first q))
+    (content-once (a .name) (b .name) (first (rest q)))
+    (content-once (a .«mime_type») (b .«mime_type») (first (rest (rest q))))
+    (content-once (a .«data») (b .«data») (first (rest (rest (rest q)))))
   where
-    same : {x0 y0 : Part} {x1 y1 : Part} {x2 y2 : Part} {x3 y3 : Part}
+    same : {x0 y0 : Content} {x1 y1 : Content} {x2 y2 : Content} {x3 y3 : Content}
         → x0 ≡ y0 → x1 ≡ y1 → x2 ≡ y2 → x3 ≡ y3
         → _≡_ {A = Attachment} (record { description = x0; name = x1; «mime_type» = x2; «data» = x3 })
         (record { description = y0; name = y1; «mime_type» = y2; «data» = y3 })

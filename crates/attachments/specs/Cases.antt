@@ -3,7 +3,7 @@
 use Prim.Native.Nat.{ℕ}
 use mathlib.Core.List.{List, [], _∷_}
 use lib.ListN.{length}
-use Rattle.fields.specs.Values.{unset, part}
+use Rattle.fields.specs.Values.{unset, content}
 use Rattle.records.specs.Told.{Answer, fields}
 use Rattle.records.specs.Promise.{answerOf, ofBelow}
 use Rattle.records.specs.Cases.{Case, case, numbers}
@@ -23,5 +23,5 @@ abbrev pub cases : List Case
 cases =
     -- Records are counted from 0.
     attachment twoFiles 0 (fields (unset ∷ unset ∷ unset ∷ unset ∷ []) 4)
-    ∷ attachment twoFiles 1 (fields (unset ∷ part 9 1 ∷ unset ∷ part 13 1 ∷ []) 4)
+    ∷ attachment twoFiles 1 (fields (unset ∷ content 9 1 ∷ unset ∷ content 13 1 ∷ []) 4)
     ∷ []

@@ -5,14 +5,14 @@ use mathlib.Core.List.{List, [], _∷_}
 use Rattle.kinds.specs.declared.kind.Kind.the-variants.{String, Utf8, Binary}
 use Rattle.elements.specs.declared.row.Row.{Row}
 use Rattle.fields.specs.Values.{Value}
-use Rattle.fields.specs.Fields.{partOf}
+use Rattle.fields.specs.Fields.{contentOf}
 
 -- Of a master in a recording, with the rows below it.
 module _ (s : List ℕ) (parent : ℕ) (below : List Row) where
   unfoldable pub attachmentOf : List Value
   attachmentOf =
-      partOf s parent below 0x467E Utf8  -- description
-      ∷ partOf s parent below 0x466E Utf8  -- name
-      ∷ partOf s parent below 0x4660 String  -- mime type
-      ∷ partOf s parent below 0x465C Binary  -- data
+      contentOf s parent below 0x467E Utf8  -- description
+      ∷ contentOf s parent below 0x466E Utf8  -- name
+      ∷ contentOf s parent below 0x4660 String  -- mime type
+      ∷ contentOf s parent below 0x465C Binary  -- data
       ∷ []

@@ -1,7 +1,7 @@
 -- Document 01's values for the fields of an attached file.
 use mathlib.Core.List.{List, [], _∷_}
 use Rattle.fields.specs.Values.{Value}
-use Rattle.fields.specs.Told.{partTold}
+use Rattle.fields.specs.Told.{contentTold}
 use Rattle.records.specs.Told.{Answer, fields, refuses}
 use Rattle.attachments.specs.declared.attachment.Attachment.{Attachment}
 use Rattle.attachments.specs.declared.attachment.AttachmentReply.{AttachmentReply}
@@ -12,7 +12,7 @@ use Rattle.attachments.specs.declared.attachment.AttachmentReply.the-var
 
 abbrev pub attachmentValues : Attachment → List Value
 attachmentValues a =
-    partTold (a .description) ∷ partTold (a .name) ∷ partTold (a .«mime_type») ∷ partTold (a .data) ∷ []
+    contentTold (a .description) ∷ contentTold (a .name) ∷ contentTold (a .«mime_type») ∷ contentTold (a .data) ∷ []
 
 -- ---- the replies
 

@@ -6,8 +6,8 @@ ghost use Rattle.attachments.specs.Records.{attachmentOf};
 ghost use Rattle.attachments.specs.Told.{attachmentValues};
 ghost use Rattle.attachments.specs.Promise.{AttachmentPromise};
 use fields::Below;
-use fields::Part;
-use fields::part_field;
+use fields::Content;
+use fields::content_field;
 use header::Refusal;
 use kinds::Kind;
 use kinds::ids;
@@ -16,10 +16,10 @@ use records::locate::Step;
 use records::locate::locate;
 
 pub struct Attachment {
-    pub description: Part,
-    pub name: Part,
-    pub mime_type: Part,
-    pub data: Part,
+    pub description: Content,
+    pub name: Content,
+    pub mime_type: Content,
+    pub data: Content,
 }
 
 // The record with how many rows the table holds, or a refusal.
@@ -34,10 +34,10 @@ fn attachment_in(recording: &[u8], table: &[u64], master: Below) -> Attachment
         (master .parent) (rowsIn (now (table .entry)) master) ⌝ }
 {
     Attachment {
-        description: part_field(recording, table, master, ids::FILEDESCRIPTION, Kind::Utf8),
-        name: part_field(recording, table, master, ids::FILENAME, Kind::Utf8),
-        mime_type: part_field(recording, table, master, ids::FILEMIMETYPE, Kind::String),
-        data: part_field(recording, table, master, ids::FILEDATA, Kind::Binary),
+        description: content_field(recording, table, master, ids::FILEDESCRIPTION, Kind::Utf8),
+        name: content_field(recording, table, master, ids::FILENAME, Kind::Utf8),
+        mime_type: content_field(recording, table, master, ids::FILEMIMETYPE, Kind::String),
+        data: content_field(recording, table, master, ids::FILEDATA, Kind::Binary),
     }
 }
 

@@ -41,10 +41,10 @@ module _ (s : List ℕ) (id parent at n : ℕ) where
 
   -- What was read by the kind that the id has under the parent.
   pub reply-read :
-      (k : Kind) (r : BodyRead) → numberOf k ≡ numberOf (kindUnder parent id) → r ≡ bodyRead k s at n
+      (k : Kind) (r : BodyRead) → numberOf k ≡ numberOf (kindUnder id parent) → r ≡ bodyRead k s at n
       → length s ≤ mostBytes → at ≤ length s → readReply r ≡ bodyReply s id parent at n
   unfolding bodyRead bodyReply
   reply-read k r same read h l =
-      let kind = number-tells k (kindUnder parent id) same in
+      let kind = number-tells k (kindUnder id parent) same in
       ap readReply read ∙ told-back at n (bodyOf s at n k)
       ∙ rw (le-leb (length s) mostBytes h, le-leb at (length s) l) (ap (bodyOf s at n) kind)

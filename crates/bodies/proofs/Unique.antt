@@ -1,7 +1,7 @@
 -- Any two replies that the promise of `body_at` permits are equal. Assumes nothing.
 use mathlib.Core.Path.{_≡_, refl, ap, sym, _∙_}
 use Rattle.bodies.specs.Bodies.{Told, integer, unsigned, float, date, text, bytes, master, refusal}
-use Rattle.bodies.specs.Promise.{told}
+use Rattle.bodies.specs.Promise.{bodyTold}
 use Rattle.bodies.specs.Theorems.{OneReply}
 use Rattle.bodies.specs.declared.reply.BodyReply.{BodyReply}
 use Rattle.bodies.specs.declared.reply.BodyReply.the-variants.{Body as BodyIs, Refused}
@@ -18,7 +18,7 @@ replied (bytes at length) = BodyIs (Bytes (record { at = at; length = length }))
 replied master = BodyIs Master
 replied (refusal number id) = Refused (record { number = number; id = id })
 
-replied-back : (r : BodyReply) → replied (told r) ≡ r
+replied-back : (r : BodyReply) → replied (bodyTold r) ≡ r
 replied-back (BodyIs (Integer z)) = refl
 replied-back (BodyIs (Unsigned v)) = refl
 replied-back (BodyIs (Float x)) = refl

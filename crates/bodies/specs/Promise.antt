@@ -24,15 +24,15 @@ valuesOf (Text r) = text (r .at) (r .length)
 valuesOf (Bytes r) = bytes (r .at) (r .length)
 valuesOf Master = master
 
-abbrev pub told : BodyReply → Told
-told (BodyIs b) = valuesOf b
-told (Refused e) = refuses e
+abbrev pub bodyTold : BodyReply → Told
+bodyTold (BodyIs b) = valuesOf b
+bodyTold (Refused e) = refuses e
 
 -- The reply to the question for a body: 14 for a recording that is too long or a place past its end, else the body
 -- by the kind of the id under the parent.
 unfoldable pub bodyReply : List ℕ → ℕ → ℕ → ℕ → ℕ → Told
 bodyReply s id parent at size =
-    cond (leb (length s) mostBytes && leb at (length s)) (bodyOf s at size (kindUnder parent id)) (refuses badArgument)
+    cond (leb (length s) mostBytes && leb at (length s)) (bodyOf s at size (kindUnder id parent)) (refuses badArgument)
 
 pub record BodyPromise (s : List ℕ) (id parent at size : ℕ) (r : BodyReply) : Type 0 where
-  pub reply : told r ≡ bodyReply s id parent at size
+  pub reply : bodyTold r ≡ bodyReply s id parent at size

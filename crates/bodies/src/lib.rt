@@ -4,7 +4,7 @@
 mod body;
 mod float;
 mod integer;
-mod part;
+mod range;
 mod reply;
 mod typed;
 

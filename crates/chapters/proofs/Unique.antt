@@ -4,9 +4,9 @@ use mathlib.Core.Path.{_≡_, ap, _∙_}
 use native.Mathlib.Omega.{arith}
 use Rattle.fields.specs.declared.field.Number.{Number}
 use Rattle.fields.specs.declared.field.Flag.{Flag}
-use Rattle.fields.specs.declared.field.Part.{Part}
+use Rattle.fields.specs.declared.field.Content.{Content}
 use Rattle.fields.specs.declared.field.Language.{Language}
-use Rattle.fields.proofs.Once.{number-once, flag-once, part-once, language-once}
+use Rattle.fields.proofs.Once.{number-once, flag-once, content-once, language-once}
 use Rattle.records.specs.Promise.{ofBelow}
 use Rattle.records.proofs.Lists.{first, rest, count-once}
 use Rattle.records.proofs.Unique.{same-refused, one-answer}
@@ -50,12 +50,12 @@ chapter-once a b q =
     (number-once (a .«time_end») (b .«time_end») (first (rest (rest q))))
     (flag-once (a .hidden) (b .hidden) (first (rest (rest (rest q)))))
     (flag-once (a .enabled) (b .enabled) (first (rest (rest (rest (rest q))))))
-    (part-once (a .«segment_uid») (b .«segment_uid») (first (rest (rest (rest (rest (rest q)))))))
+    (content-once (a .«segment_uid») (b .«segment_uid») (first (rest (rest (rest (rest (rest q)))))))
     (number-once (a .«segment_edition_uid») (b .«segment_edition_uid»)
     (first (rest (rest (rest (rest (rest (rest q))))))))
     (count-once (a .displays) (b .displays) (first (rest (rest (rest (rest (rest (rest (rest q)))))))))
   where
-    same : {x0 y0 : Number} {x1 y1 : Number} {x2 y2 : Number} {x3 y3 : Flag} {x4 y4 : Flag} {x5 y5 : Part}
+    same : {x0 y0 : Number} {x1 y1 : Number} {x2 y2 : Number} {x3 y3 : Flag} {x4 y4 : Flag} {x5 y5 : Content}
         {x6 y6 : Number} {x7 y7 : ℕ}
         → x0 ≡ y0 → x1 ≡ y1 → x2 ≡ y2 → x3 ≡ y3 → x4 ≡ y4 → x5 ≡ y5 → x6 ≡ y6 → x7 ≡ y7
         → _≡_ {A = Chapter}
@@ -87,10 +87,10 @@ chapter-once a b q =
 display-once : (a b : ChapterDisplay) → displayValues a ≡ displayValues b → a ≡ b
 display-once a b q =
     same
-    (part-once (a .string) (b .string) (first q))
+    (content-once (a .string) (b .string) (first q))
     (language-once (a .language) (b .language) (first (rest q)))
   where
-    same : {x0 y0 : Part} {x1 y1 : Language}
+    same : {x0 y0 : Content} {x1 y1 : Language}
         → x0 ≡ y0 → x1 ≡ y1
         → _≡_ {A = ChapterDisplay} (record { string = x0; language = x1 })
         (record { string = y0; language = y1 })

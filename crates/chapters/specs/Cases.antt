@@ -4,7 +4,7 @@ use Prim.Native.Nat.{ℕ}
 use mathlib.Core.List.{List, [], _∷_}
 use mathlib.Core.Bool.{true}
 use lib.ListN.{length}
-use Rattle.fields.specs.Values.{unset, number, flag, part, iso, ietf, count}
+use Rattle.fields.specs.Values.{unset, number, flag, content, iso, ietf, count}
 use Rattle.records.specs.Told.{Answer, fields, refusal}
 use Rattle.records.specs.Promise.{answerOf, ofBelow}
 use Rattle.records.specs.Cases.{Case, case, numbers}
@@ -54,10 +54,10 @@ cases =
     (fields (unset ∷ number 2 ∷ unset ∷ unset ∷ unset ∷ unset ∷ unset ∷ count 0 ∷ []) 7)
     ∷ chapter nestedAtom 0 1 (refusal 15 0)
     -- A set empty string is set; an ISO 639 language never replaces an IETF one.
-    ∷ display emptyString 0 0 0 (fields (part 9 0 ∷ ietf 12 1 ∷ []) 6)
+    ∷ display emptyString 0 0 0 (fields (content 9 0 ∷ ietf 12 1 ∷ []) 6)
     -- The first display has no string; the second has one.
     ∷ display twoDisplays 0 0 0 (fields (unset ∷ unset ∷ []) 6)
-    ∷ display twoDisplays 0 0 1 (fields (part 11 1 ∷ iso 15 1 ∷ []) 6)
+    ∷ display twoDisplays 0 0 1 (fields (content 11 1 ∷ iso 15 1 ∷ []) 6)
     -- The read's refusals come before 15: here a number of 9 bytes, and no second edition.
     ∷ edition (0x45 ∷ 0xB9 ∷ 0x83 ∷ 0x45 ∷ 0xBC ∷ 0x89 ∷ []) 1 (refusal 4 0)
     ∷ []

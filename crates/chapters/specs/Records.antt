@@ -5,7 +5,7 @@ use mathlib.Core.List.{List, [], _∷_}
 use Rattle.kinds.specs.declared.kind.Kind.the-variants.{Master, Utf8, Binary}
 use Rattle.elements.specs.declared.row.Row.{Row}
 use Rattle.fields.specs.Values.{Value}
-use Rattle.fields.specs.Fields.{numberOf, flagOf, partOf, languageOf, countOf}
+use Rattle.fields.specs.Fields.{numberOf, flagOf, contentOf, languageOf, countOf}
 
 -- Of a master in a recording, with the rows below it.
 module _ (s : List ℕ) (parent : ℕ) (below : List Row) where
@@ -26,13 +26,13 @@ module _ (s : List ℕ) (parent : ℕ) (below : List Row) where
       ∷ numberOf s parent below 0x92  -- end
       ∷ flagOf s parent below 0x98  -- hidden
       ∷ flagOf s parent below 0x4598  -- enabled
-      ∷ partOf s parent below 0x6E67 Binary  -- segment uid
+      ∷ contentOf s parent below 0x6E67 Binary  -- segment uid
       ∷ numberOf s parent below 0x6EBC  -- segment edition uid
       ∷ countOf s parent below 0x80 Master  -- displays
       ∷ []
 
   unfoldable pub displayOf : List Value
   displayOf =
-      partOf s parent below 0x85 Utf8  -- string
+      contentOf s parent below 0x85 Utf8  -- string
       ∷ languageOf s parent below 0x437C 0x437D  -- language: ISO 639, IETF
       ∷ []

@@ -1,7 +1,7 @@
 -- Document 01's values for the fields of each record of Chapters.
 use mathlib.Core.List.{List, [], _∷_}
 use Rattle.fields.specs.Values.{Value, count}
-use Rattle.fields.specs.Told.{numberTold, flagTold, partTold, languageTold}
+use Rattle.fields.specs.Told.{numberTold, flagTold, contentTold, languageTold}
 use Rattle.records.specs.Told.{Answer, fields, refuses}
 use Rattle.chapters.specs.declared.edition.ChapterEdition.{ChapterEdition}
 use Rattle.chapters.specs.declared.edition.EditionReply.{EditionReply}
@@ -31,13 +31,13 @@ chapterValues c =
     ∷ numberTold (c .«time_end»)
     ∷ flagTold (c .hidden)
     ∷ flagTold (c .enabled)
-    ∷ partTold (c .«segment_uid»)
+    ∷ contentTold (c .«segment_uid»)
     ∷ numberTold (c .«segment_edition_uid»)
     ∷ count (c .displays)
     ∷ []
 
 abbrev pub displayValues : ChapterDisplay → List Value
-displayValues d = partTold (d .string) ∷ languageTold (d .language) ∷ []
+displayValues d = contentTold (d .string) ∷ languageTold (d .language) ∷ []
 
 -- ---- the replies
 

@@ -8,11 +8,11 @@ ghost use Rattle.chapters.specs.Promise.{ChapterPromise};
 use fields::Below;
 use fields::Flag;
 use fields::Number;
-use fields::Part;
+use fields::Content;
 use fields::count_children;
 use fields::flag_field;
 use fields::number_field;
-use fields::part_field;
+use fields::content_field;
 use header::Refusal;
 use kinds::Kind;
 use kinds::ids;
@@ -26,7 +26,7 @@ pub struct Chapter {
     pub time_end: Number,
     pub hidden: Flag,
     pub enabled: Flag,
-    pub segment_uid: Part,
+    pub segment_uid: Content,
     pub segment_edition_uid: Number,
     // How many displays it has.
     pub displays: u64,
@@ -49,7 +49,7 @@ fn chapter_in(recording: &[u8], table: &[u64], master: Below) -> Chapter
         time_end: number_field(recording, table, master, ids::CHAPTERTIMEEND),
         hidden: flag_field(recording, table, master, ids::CHAPTERFLAGHIDDEN),
         enabled: flag_field(recording, table, master, ids::CHAPTERFLAGENABLED),
-        segment_uid: part_field(
+        segment_uid: content_field(
             recording,
             table,
             master,

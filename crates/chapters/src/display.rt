@@ -7,9 +7,9 @@ ghost use Rattle.chapters.specs.Told.{displayValues};
 ghost use Rattle.chapters.specs.Promise.{DisplayPromise};
 use fields::Below;
 use fields::Language;
-use fields::Part;
+use fields::Content;
 use fields::language_field;
-use fields::part_field;
+use fields::content_field;
 use header::Refusal;
 use kinds::Kind;
 use kinds::ids;
@@ -18,7 +18,7 @@ use records::locate::Step;
 use records::locate::locate;
 
 pub struct ChapterDisplay {
-    pub string: Part,
+    pub string: Content,
     pub language: Language,
 }
 
@@ -34,7 +34,7 @@ fn display_in(recording: &[u8], table: &[u64], master: Below) -> ChapterDisplay
         (master .parent) (rowsIn (now (table .entry)) master) ⌝ }
 {
     ChapterDisplay {
-        string: part_field(recording, table, master, ids::CHAPSTRING, Kind::Utf8),
+        string: content_field(recording, table, master, ids::CHAPSTRING, Kind::Utf8),
         language: language_field(
             recording,
             table,

@@ -18,7 +18,7 @@ use Rattle.elements.specs.Cases.{cases, Hold}
 
 pub cases-hold : Hold cases
 unfolding octetBits bits oneMore widthOf bigEndianFrom bigEndian ofWidth vintOf sized named headerOf headerReply
-    elements kindIn member keeps demoted kindUnder utf8Char behind anyOf goesOn utf8 signedOf bodyOf bodyReply
+    elements kindIn member keeps demoted kindUnder behind utf8Char anyOf goesOn utf8 signedOf bodyOf bodyReply
     span count join refuseIf full siblings element masterBody rows flat flatten isTable allowed filled readOf tableOf
 cases-hold =
     let read-cases : Hold (drop 16 cases) = ((refl, refl), ((refl, refl), ((refl, refl), tt))) in

@@ -6,9 +6,9 @@ use native.Mathlib.Omega.{arith}
 use lib.ListN.{length, length-append}
 use Rattle.kinds.specs.Kinds.{numberOf, kindUnder}
 use Rattle.elements.specs.Forest.{Element, Forest, none, node, whole, count}
-use Rattle.elements.specs.Rows.{rowOf, rows}
+use Rattle.elements.specs.Rows.{rowOf, rows, nth}
 use Rattle.elements.specs.Stands.{Stands}
-use Rattle.elements.specs.Theorems.{nth, Under, direct, below, Family, ParentsBefore}
+use Rattle.elements.specs.Theorems.{Under, direct, below, Family, ParentsBefore}
 use Rattle.elements.specs.declared.row.Row.{Row}
 use Rattle.elements.proofs.Forests.{length-rows}
 use Rattle.elements.proofs.Standing.{read-stands}
@@ -42,12 +42,12 @@ module _ (parent : ℕ) where
       let m = length-append before more in
       among p (omega arith) a (b ∙ ap (λ (r : Row). suc (r .depth)) e) (c ∙ ap (λ (r : Row). r .id) e)
 
-  under : (before : List Row) (row depth id at after : ℕ) (e : Element) → e .kind ≡ kindUnder id (e .header .id)
+  under : (before : List Row) (row depth id at after : ℕ) (e : Element) → e .kind ≡ kindUnder (e .header .id) id
       → Parent parent before row depth id → Under parent before (rowOf e row depth at after)
   under before row depth id at after e k (caller a b c) =
-      direct a b (ap numberOf k ∙ ap (λ (i : ℕ). numberOf (kindUnder i (e .header .id))) c)
+      direct a b (ap numberOf k ∙ ap (λ (i : ℕ). numberOf (kindUnder (e .header .id) i)) c)
   under before row depth id at after e k (among p l a b c) =
-      below p l a b (ap numberOf k ∙ ap (λ (i : ℕ). numberOf (kindUnder i (e .header .id))) c)
+      below p l a b (ap numberOf k ∙ ap (λ (i : ℕ). numberOf (kindUnder (e .header .id) i)) c)
 
   family-append : (before rs ss : List Row) → Family parent before rs → Family parent (before ++ rs) ss
       → Family parent before (rs ++ ss)

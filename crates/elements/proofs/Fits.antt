@@ -54,7 +54,7 @@ module _ (s : List ℕ) (cap : ℕ) where
       let o = of-element s keeping cap levels parent at n f q in
       let h = o .header in
       let more = free n (o .free) in
-      of-held (bodyOf s (at + h .length) (h .size) (kindUnder parent (h .id))) _ (o .kids) (o .inner)
+      of-held (bodyOf s (at + h .length) (h .size) (kindUnder (h .id) parent)) _ (o .kids) (o .inner)
       (λ b u.
       let i = siblings-fit (element s keeping cap levels (h .id)) (element-fit levels (h .id)) (h .size)
       (at + h .length) (h .size) (n + 1) (o .kids) more u in

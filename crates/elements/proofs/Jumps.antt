@@ -16,9 +16,9 @@ use Rattle.kinds.specs.Kinds.{kindIn, keeps, kindUnder}
 use Rattle.bodies.specs.Bodies.{bodyOf}
 use Rattle.elements.specs.Forest.{Forest, none, node, whole, span, count, join}
 use Rattle.elements.specs.Reading.{Outcome, refuseIf, full, siblings, element, masterBody}
-use Rattle.elements.specs.Rows.{rows, width, flat, flatten}
+use Rattle.elements.specs.Rows.{rows, width, flat, flatten, nth}
 use Rattle.elements.specs.Promise.{isTable, allowed, filled, readOf, replyOf, tableOf}
-use Rattle.elements.specs.Theorems.{nth, Each}
+use Rattle.elements.specs.Theorems.{Each}
 use Rattle.elements.specs.Jumps.{Descends, child, deeper, Jump, JumpsOver, nested, nestedTable, NestedJumps}
 use Rattle.elements.specs.declared.row.Row.{Row}
 use Rattle.elements.proofs.Forests.{length-rows}
@@ -335,7 +335,7 @@ computed = (replyOf read-nested ≡ accepted (4 ∷ [])) × (tableOf 0 (4 * widt
 
 nested-read : computed
 unfolding computed octetBits bits oneMore widthOf bigEndianFrom bigEndian ofWidth vintOf sized named headerOf
-    elements kindIn keeps kindUnder bodyOf span count join refuseIf full siblings element masterBody rows flat flatten
+    elements kindIn keeps kindUnder span bodyOf count join refuseIf full siblings element masterBody rows flat flatten
     isTable allowed filled readOf tableOf
 nested-read = (refl, refl)
 

@@ -6,8 +6,8 @@ use native.Mathlib.Omega.{arith}
 use native.Mathlib.Nat.{sub-zero}
 use lib.ListN.{length, drop}
 use lib.Seq.{drop-drop}
-use Rattle.elements.specs.Rows.{width, firstRow, rowAt, rowsOf}
-use Rattle.elements.specs.Theorems.{Each, nth}
+use Rattle.elements.specs.Rows.{width, firstRow, rowAt, rowsOf, nth}
+use Rattle.elements.specs.Theorems.{Each}
 use Rattle.elements.specs.declared.row.Row.{Row}
 
 pub length-rows-of : (t : List ℕ) (n : ℕ) → length (rowsOf t n) ≡ n

@@ -51,7 +51,7 @@ module _ (s : List ℕ) (mode : Mode) (cap : ℕ) where
     pub kids : Forest
     pub is : f ≡ node (elementOf parent header) kids none
     pub inner :
-        held (bodyOf s (at + header .length) (header .size) (kindUnder parent (header .id)))
+        held (bodyOf s (at + header .length) (header .size) (kindUnder (header .id) parent))
         (siblings (element s mode cap levels (header .id)) (header .size) (at + header .length) (header .size) (n + 1))
         ≡ done kids
 

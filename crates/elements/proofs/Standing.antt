@@ -97,7 +97,7 @@ module _ (s : List ℕ) where
       let kids = o .kids in
       let a = o .is in
       let i = header-inside s at h e in
-      let k = kindUnder parent (h .id) in
+      let k = kindUnder (h .id) parent in
       of-held (bodyOf s (at + h .length) (h .size) k) _ kids (o .inner)
       (λ b u.
       let m = is-master (at + h .length) (h .size) k b in

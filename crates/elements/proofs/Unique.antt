@@ -3,7 +3,7 @@ use Prim.Native.Nat.{ℕ}
 use mathlib.Core.Path.{_≡_, refl, ap, sym, _∙_}
 use lib.ListN.{getD}
 use Rattle.header.specs.Reply.{Reply, accepted, refusal}
-use Rattle.elements.specs.Promise.{readOf, replyOf, tableOf, told}
+use Rattle.elements.specs.Promise.{readOf, replyOf, tableOf, readTold}
 use Rattle.elements.specs.Theorems.{OneReply}
 use Rattle.elements.specs.declared.reply.ReadReply.{ReadReply}
 use Rattle.elements.specs.declared.reply.ReadReply.the-variants.{Rows, Refused}
@@ -13,7 +13,7 @@ abbrev replied : Reply → ReadReply
 replied (accepted values) = Rows (getD values 0 0)
 replied (refusal number id) = Refused (record { number = number; id = id })
 
-replied-back : (r : ReadReply) → replied (told r) ≡ r
+replied-back : (r : ReadReply) → replied (readTold r) ≡ r
 replied-back (Rows n) = refl
 replied-back (Refused e) = refl
 

@@ -15,7 +15,7 @@ use Rattle.bodies.specs.Bodies.{bodyOf}
 use Rattle.elements.specs.Forest.{Forest, span, count, join}
 use Rattle.elements.specs.Reading.{Outcome, done, refused, refuseIf, full, siblings, element, masterBody}
 use Rattle.elements.specs.Rows.{rows, width, flat, flatten}
-use Rattle.elements.specs.Promise.{isTable, allowed, filled, readOf, replyOf, zeros, tableOf, told}
+use Rattle.elements.specs.Promise.{isTable, allowed, filled, readOf, replyOf, zeros, tableOf, readTold}
 use Rattle.elements.specs.Useless.{trackEntry, blockGroup, NotAllRefused, NotOneTable, NotUntouched}
 use Rattle.elements.specs.declared.reply.ReadReply.{ReadReply}
 use Rattle.elements.specs.declared.reply.ReadReply.the-variants.{Rows, Refused}
@@ -33,11 +33,11 @@ computed =
 
 both-read : computed
 unfolding computed octetBits bits oneMore widthOf bigEndianFrom bigEndian ofWidth vintOf sized named headerOf
-    elements kindIn keeps kindUnder bodyOf span count join refuseIf full siblings element masterBody rows flat flatten
+    elements kindIn keeps kindUnder span bodyOf count join refuseIf full siblings element masterBody rows flat flatten
     isTable allowed filled readOf tableOf
 both-read = (refl, refl, refl)
 
-pub rows-told : (r : ReadReply) (n : ℕ) → told r ≡ accepted (n ∷ []) → r ≡ Rows n
+pub rows-told : (r : ReadReply) (n : ℕ) → readTold r ≡ accepted (n ∷ []) → r ≡ Rows n
 rows-told (Rows m) n q = cc
 rows-told (Refused e) n q = let z : _≡_ {A = ℕ} 0 1 = cc in absurd (omega arith)
 
@@ -69,7 +69,7 @@ beyond start numbers f k l =
     ∙ getD-append-add (flatten (rows 0 0 start 0 f)) (zeros (numbers - count f * width)) (k - count f * width) 0
     ∙ zeros-at (numbers - count f * width) (k - count f * width)
 
-cleared-of : (start numbers : ℕ) (o : Outcome) (e : Refusal) (t′ : List ℕ) → told (Refused e) ≡ replyOf o
+cleared-of : (start numbers : ℕ) (o : Outcome) (e : Refusal) (t′ : List ℕ) → readTold (Refused e) ≡ replyOf o
     → t′ ≡ tableOf start numbers o → t′ ≡ zeros numbers
 unfolding tableOf
 cleared-of start numbers (done f) e t′ q w = let z : _≡_ {A = ℕ} 0 1 = cc in absurd (omega arith)

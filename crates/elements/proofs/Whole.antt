@@ -14,7 +14,7 @@ use Rattle.elements.specs.Forest.{Forest, count}
 use Rattle.elements.specs.Reading.{Outcome, done, refused, masterBody}
 use Rattle.elements.specs.Rows.{rows, width, flatten}
 use Rattle.elements.specs.Promise.{keeping, allowed, filled, readOf, replyOf, zeros, tableOf}
-use Rattle.elements.specs.Promise.{told, ReadPromise}
+use Rattle.elements.specs.Promise.{readTold, ReadPromise}
 use Rattle.elements.specs.Contract.{written, Met}
 use Rattle.elements.specs.declared.element.ElementRead.the-variants.{Read, Refused as ReadRefused}
 use Rattle.elements.specs.declared.reply.ReadReply.{ReadReply}
@@ -35,7 +35,7 @@ allowed-as s start e = ap (allowed s start) e
 
 -- A reply and a table that tell an outcome.
 pub record Gives (start numbers : ℕ) (o : Outcome) (r : ReadReply) (t : List ℕ) : Type 0 where
-  pub reply : told r ≡ replyOf o
+  pub reply : readTold r ≡ replyOf o
   pub table : t ≡ tableOf start numbers o
 
 module _ (start numbers : ℕ) (o : Outcome) (t : List ℕ) where

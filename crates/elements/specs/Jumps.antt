@@ -4,9 +4,8 @@ use Prim.Native.Nat.{ℕ, suc, _*_, _≤_, _<_}
 use mathlib.Core.Path.{_≡_}
 use mathlib.Core.List.{List, [], _∷_}
 use lib.ListN.{length}
-use Rattle.elements.specs.Rows.{width, rowsOf}
+use Rattle.elements.specs.Rows.{width, rowsOf, nth}
 use Rattle.elements.specs.Promise.{ReadPromise}
-use Rattle.elements.specs.Theorems.{nth}
 use Rattle.elements.specs.declared.row.Row.{Row}
 use Rattle.elements.specs.declared.reply.ReadReply.{ReadReply}
 use Rattle.elements.specs.declared.reply.ReadReply.the-variants.{Rows}

@@ -55,10 +55,10 @@ tableOf start numbers (done f) = flatten (rows 0 0 start 0 f) ++ zeros (numbers 
 tableOf start numbers (refused e) = zeros numbers
 
 -- Document 01's number and values for each case of `ReadReply`.
-abbrev pub told : ReadReply → Reply
-told (Rows n) = accepted (n ∷ [])
-told (Refused e) = refusalOf e
+abbrev pub readTold : ReadReply → Reply
+readTold (Rows n) = accepted (n ∷ [])
+readTold (Refused e) = refusalOf e
 
 pub record ReadPromise (s : List ℕ) (start size parent : ℕ) (t : List ℕ) (r : ReadReply) (t′ : List ℕ) : Type 0 where
-  pub reply : told r ≡ replyOf (readOf s start size parent (length t))
+  pub reply : readTold r ≡ replyOf (readOf s start size parent (length t))
   pub table : t′ ≡ tableOf start (length t) (readOf s start size parent (length t))

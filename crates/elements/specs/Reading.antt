@@ -71,7 +71,7 @@ siblings read (suc most) at left n =
     (prepend f (siblings read most (at + span f) (left - span f) (n + count f)))))
 
 abbrev pub elementOf : ℕ → Header → Element
-elementOf parent h = record { header = h; kind = kindUnder parent (h .id) }
+elementOf parent h = record { header = h; kind = kindUnder (h .id) parent }
 
 -- One element at a place, under a parent id, with n of `cap` rows taken; `levels` tells how many depths are left. The
 -- order: header; 12; 13; body.
@@ -81,7 +81,7 @@ element s mode cap (suc levels) parent at n =
     headed (headerOf (drop at s)) (λ h.
     refuseIf (full mode cap n) noFreeRow
     (above (elementOf parent h)
-    (held (bodyOf s (at + h .length) (h .size) (kindUnder parent (h .id)))
+    (held (bodyOf s (at + h .length) (h .size) (kindUnder (h .id) parent))
     (siblings (element s mode cap levels (h .id)) (h .size) (at + h .length) (h .size) (n + 1)))))
 
 -- A read's direct rows have depth 0; the deepest row has depth 15.

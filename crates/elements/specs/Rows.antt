@@ -2,7 +2,7 @@
 -- document 02, C-15).
 use Prim.Native.Nat.{ℕ, zero, suc, _+_, _*_}
 use mathlib.Core.List.{List, [], _∷_, _++_}
-use lib.ListN.{getD, drop}
+use lib.ListN.{getD, take, drop}
 use Rattle.kinds.specs.Kinds.{numberOf}
 use Rattle.elements.specs.Forest.{Element, Forest, none, node, whole, count}
 use Rattle.elements.specs.declared.row.Row.{Row}
@@ -68,3 +68,13 @@ rowAt t k = firstRow (drop (k * width) t)
 unfoldable pub rowsOf : List ℕ → ℕ → List Row
 rowsOf t zero = []
 rowsOf t (suc n) = firstRow t ∷ rowsOf (drop width t) n
+
+-- The row of a place in a list; a row of zeros past its end.
+unfoldable pub nth : List Row → ℕ → Row
+nth [] k = record { id = 0; parent = 0; address = 0; header = 0; payload = 0; kind = 0; depth = 0; after = 0 }
+nth (r ∷ rs) zero = r
+nth (r ∷ rs) (suc k) = nth rs k
+
+-- The octets of a row's payload.
+abbrev pub payloadOf : List ℕ → Row → List ℕ
+payloadOf s r = take (r .payload) (drop (r .address + r .header) s)

@@ -26,7 +26,7 @@ IsMaster e = numberOf (e .kind) ≡ 1
 -- children take up its payload; the body of any other is a value, and it has no children.
 pub record StandsAt (s : List ℕ) (parent at : ℕ) (e : Element) (kids : Forest) : Type 0 where
   pub head : headerOf (drop at s) ≡ heading (e .header)
-  pub kind : e .kind ≡ kindUnder parent (e .header .id)
+  pub kind : e .kind ≡ kindUnder (e .header .id) parent
   pub taken : IsMaster e → span kids ≡ e .header .size
   pub value : (IsMaster e → ⊥) → IsValue (bodyOf s (at + e .header .length) (e .header .size) (e .kind))
   pub childless : (IsMaster e → ⊥) → kids ≡ none

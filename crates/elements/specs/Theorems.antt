@@ -1,5 +1,5 @@
 -- What is proved of the definitions beside the contracts: the statements of the theorems.
-use Prim.Native.Nat.{ℕ, zero, suc, _+_, _/_, _≤_, _<_}
+use Prim.Native.Nat.{ℕ, suc, _+_, _/_, _≤_, _<_}
 use mathlib.Core.Path.{_≡_}
 use mathlib.Core.List.{List, [], _∷_, _++_}
 use mathlib.Core.Logic.{_⊎_}
@@ -13,7 +13,7 @@ use Rattle.kinds.specs.Kinds.{numberOf, kindUnder}
 use Rattle.bodies.specs.Bodies.{bodyOf}
 use Rattle.elements.specs.Forest.{Forest, span, count}
 use Rattle.elements.specs.Reading.{depths}
-use Rattle.elements.specs.Rows.{rows, width, rowsOf}
+use Rattle.elements.specs.Rows.{rows, width, rowsOf, nth, payloadOf}
 use Rattle.elements.specs.Stands.{IsValue, Stands}
 use Rattle.elements.specs.Holds.{isLeaf, holders}
 use Rattle.elements.specs.Promise.{ReadPromise}
@@ -45,10 +45,6 @@ unfoldable pub Each : (Row → Type 0) → List Row → Type 0
 Each P [] = Unit
 Each P (r ∷ rs) = P r × Each P rs
 
--- The octets of a row's payload.
-abbrev pub payloadOf : List ℕ → Row → List ℕ
-payloadOf s r = take (r .payload) (drop (r .address + r .header) s)
-
 -- A leaf row's payload is the same in two recordings.
 abbrev pub SameLeaf : List ℕ → List ℕ → Row → Type 0
 SameLeaf s s′ r = isLeaf r ≡ true → payloadOf s r ≡ payloadOf s′ r
@@ -77,19 +73,13 @@ ReadsATree =
     (s : List ℕ) (start size parent : ℕ) (t : List ℕ) (n : ℕ) (t′ : List ℕ)
     → ReadPromise s start size parent t (Rows n) t′ → Tree s start size parent n t′
 
--- The row of a place in a list; a row of zeros past its end.
-unfoldable pub nth : List Row → ℕ → Row
-nth [] k = record { id = 0; parent = 0; address = 0; header = 0; payload = 0; kind = 0; depth = 0; after = 0 }
-nth (r ∷ rs) zero = r
-nth (r ∷ rs) (suc k) = nth rs k
-
 -- A row beside its parent: a direct row has depth 0 and the kind that the caller's parent id gives; any other has a
 -- parent among the rows before it, one depth less, and the kind that the parent's id gives.
 pub data Under (parent : ℕ) (before : List Row) (r : Row) : Type 0 where
-  direct : r .parent ≡ 0 → r .depth ≡ 0 → r .kind ≡ numberOf (kindUnder parent (r .id)) → Under parent before r
+  direct : r .parent ≡ 0 → r .depth ≡ 0 → r .kind ≡ numberOf (kindUnder (r .id) parent) → Under parent before r
   below :
       (p : ℕ) → p < length before → r .parent ≡ suc p → r .depth ≡ suc (nth before p .depth)
-      → r .kind ≡ numberOf (kindUnder (nth before p .id) (r .id)) → Under parent before r
+      → r .kind ≡ numberOf (kindUnder (r .id) (nth before p .id)) → Under parent before r
 
 -- Each row of `rs` beside its parent, where other rows stand before them.
 unfoldable pub Family : ℕ → List Row → List Row → Type 0

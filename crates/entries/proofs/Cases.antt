@@ -12,11 +12,10 @@ use Rattle.bodies.specs.Bodies.{bodyOf}
 use Rattle.bodies.specs.Numbers.{floatOf}
 use Rattle.elements.specs.Forest.{span, count, join}
 use Rattle.elements.specs.Reading.{refuseIf, full, siblings, element, masterBody}
-use Rattle.elements.specs.Rows.{rows}
+use Rattle.elements.specs.Rows.{rows, nth}
 use Rattle.elements.specs.Promise.{isTable, allowed, filled, readOf}
-use Rattle.elements.specs.Theorems.{nth}
 use Rattle.fields.specs.Children.{deeper, subtree, fits, childrenFrom, lastFrom, nthOf}
-use Rattle.fields.specs.Fields.{numberOf, flagOf, partOf, languageOf, realOf}
+use Rattle.fields.specs.Fields.{numberOf, flagOf, contentOf, languageOf, realOf}
 use Rattle.records.specs.Steps.{reached}
 use Rattle.records.specs.Asked.{asked}
 use Rattle.records.specs.Cases.{Hold}
@@ -31,9 +30,9 @@ use Rattle.entries.specs.Cases.{cases}
 
 pub cases-hold : Hold cases
 unfolding octetBits bits oneMore widthOf bigEndianFrom bigEndian ofWidth vintOf sized named headerOf headerRead
-    headerAt elements kindIn keeps demoted kindUnder member utf8Char behind anyOf goesOn utf8 bodyOf floatOf ofBits
+    headerAt elements kindIn keeps demoted kindUnder utf8Char member behind anyOf goesOn utf8 bodyOf floatOf ofBits
     span count join refuseIf full siblings element masterBody rows isTable allowed filled readOf nth
-    deeper subtree fits childrenFrom lastFrom nthOf numberOf flagOf partOf languageOf realOf
+    deeper subtree fits childrenFrom lastFrom nthOf numberOf flagOf contentOf languageOf realOf
     reached asked saidOf stereo audioOf videoOf typeIn typed settingsOf entryOf trackOf
 cases-hold =
     let later : Hold (drop 5 cases) = (refl, (refl, (refl, (refl, (refl, (refl, (refl, (refl, tt)))))))) in

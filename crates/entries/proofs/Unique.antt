@@ -4,9 +4,9 @@ use mathlib.Core.Path.{_≡_, refl, ap, sym, _∙_}
 use native.Mathlib.Omega.{arith}
 use Rattle.fields.specs.declared.field.Number.{Number}
 use Rattle.fields.specs.declared.field.Flag.{Flag}
-use Rattle.fields.specs.declared.field.Part.{Part}
+use Rattle.fields.specs.declared.field.Content.{Content}
 use Rattle.fields.specs.declared.field.Language.{Language}
-use Rattle.fields.proofs.Once.{number-once, flag-once, part-once, language-once}
+use Rattle.fields.proofs.Once.{number-once, flag-once, content-once, language-once}
 use Rattle.records.proofs.Lists.{first, rest}
 use Rattle.records.proofs.Unique.{same-refused, one-answer}
 use Rattle.codes.specs.Tracktypes.{typeIn, tracktypeOf}
@@ -95,16 +95,16 @@ track-once a b q0 =
     (flag-once (a .commentary) (b .commentary) (first q10))
     (flag-once (a .lacing) (b .lacing) (first q11))
     (number-once (a .«default_duration») (b .«default_duration») (first q12))
-    (part-once (a .name) (b .name) (first q13))
+    (content-once (a .name) (b .name) (first q13))
     (language-once (a .language) (b .language) (first q14))
-    (part-once (a .«codec_id») (b .«codec_id») (first q15))
-    (part-once (a .«codec_private») (b .«codec_private») (first q16))
-    (part-once (a .«codec_name») (b .«codec_name») (first q17))
+    (content-once (a .«codec_id») (b .«codec_id») (first q15))
+    (content-once (a .«codec_private») (b .«codec_private») (first q16))
+    (content-once (a .«codec_name») (b .«codec_name») (first q17))
     (settings-once (a .settings) (b .settings) q18)
   where
     of :
-        Number → Number → Typed → Flag → Flag → Flag → Flag → Flag → Flag → Flag → Flag → Flag → Number → Part
-        → Language → Part → Part → Part → Settings → Track
+        Number → Number → Typed → Flag → Flag → Flag → Flag → Flag → Flag → Flag → Flag → Flag → Number → Content
+        → Language → Content → Content → Content → Settings → Track
     of x0 x1 x2 x3 x4 x5 x6 x7 x8 x9 x10 x11 x12 x13 x14 x15 x16 x17 x18 =
         record {
           number = x0;
@@ -130,7 +130,7 @@ track-once a b q0 =
 
     same :
         {x0 y0 x1 y1 : Number} {x2 y2 : Typed} {x3 y3 x4 y4 x5 y5 x6 y6 x7 y7 x8 y8 x9 y9 x10 y10 x11 y11 : Flag}
-        {x12 y12 : Number} {x13 y13 : Part} {x14 y14 : Language} {x15 y15 x16 y16 x17 y17 : Part} {x18 y18 : Settings}
+        {x12 y12 : Number} {x13 y13 : Content} {x14 y14 : Language} {x15 y15 x16 y16 x17 y17 : Content} {x18 y18 : Settings}
         → x0 ≡ y0 → x1 ≡ y1 → x2 ≡ y2 → x3 ≡ y3 → x4 ≡ y4 → x5 ≡ y5 → x6 ≡ y6 → x7 ≡ y7 → x8 ≡ y8 → x9 ≡ y9
         → x10 ≡ y10 → x11 ≡ y11 → x12 ≡ y12 → x13 ≡ y13 → x14 ≡ y14 → x15 ≡ y15 → x16 ≡ y16 → x17 ≡ y17 → x18 ≡ y18
         → of x0 x1 x2 x3 x4 x5 x6 x7 x8 x9 x10 x11 x12 x13 x14 x15 x16 x17 x18

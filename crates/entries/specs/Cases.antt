@@ -5,7 +5,7 @@ use mathlib.Core.List.{List, [], _∷_}
 use mathlib.Core.Bool.{true, false}
 use lib.ListN.{length}
 use lib.Ieee.{binary64, ofBits}
-use Rattle.fields.specs.Values.{Value, unset, number, flag, part, iso, ietf, real}
+use Rattle.fields.specs.Values.{Value, unset, number, flag, content, iso, ietf, real}
 use Rattle.records.specs.Told.{Answer, fields, refusal}
 use Rattle.records.specs.Promise.{answerOf}
 use Rattle.records.specs.Cases.{Case, case, numbers}
@@ -72,7 +72,7 @@ full =
 abbrev fullValues : List Value
 fullValues =
     unset ∷ number 3 ∷ unset ∷ unset ∷ flag false ∷ flag true ∷ unset ∷ unset ∷ unset ∷ unset ∷ unset ∷ flag false
-    ∷ number 4 ∷ unset ∷ iso 25 1 ∷ part 28 1 ∷ part 32 2 ∷ part 38 1 ∷ number 1 ∷ number 5 ∷ number 6 ∷ number 7
+    ∷ number 4 ∷ unset ∷ iso 25 1 ∷ content 28 1 ∷ content 32 2 ∷ content 38 1 ∷ number 1 ∷ number 5 ∷ number 6 ∷ number 7
     ∷ number 8 ∷ flag true ∷ unset ∷ unset ∷ []
 
 -- Two E0, the first with a width of 5, and an entry inside the entry, with the track number 9.
@@ -85,7 +85,7 @@ cases =
     -- An entry without fields has none set.
     track twoEntries 0 (fields bare 7)
     -- The last child sets a field; any number but 0 is yes.
-    ∷ track twoEntries 1 (fields (few (number 2) (number 17) (flag true) (part 19 1) unset (unset ∷ [])) 7)
+    ∷ track twoEntries 1 (fields (few (number 2) (number 17) (flag true) (content 19 1) unset (unset ∷ [])) 7)
     ∷ track twoEntries 2 (refusal 15 0)
     -- Any other number is the type Unknown; an ISO 639 language never replaces an IETF one.
     ∷ track languages 0 (fields (few unset (number 0) unset unset (ietf 9 1) (unset ∷ [])) 4)

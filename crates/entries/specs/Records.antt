@@ -6,7 +6,7 @@ use Rattle.kinds.specs.declared.kind.Kind.the-variants.{String, Utf8, Binary}
 use Rattle.elements.specs.declared.row.Row.{Row}
 use Rattle.fields.specs.Children.{subtree}
 use Rattle.fields.specs.Values.{Value, unset}
-use Rattle.fields.specs.Fields.{numberOf, flagOf, partOf, languageOf}
+use Rattle.fields.specs.Fields.{numberOf, flagOf, contentOf, languageOf}
 use Rattle.tracks.specs.Said.{saidOf}
 use Rattle.entries.specs.Typed.{typed}
 use Rattle.entries.specs.Settings.{settingsOf}
@@ -29,11 +29,11 @@ module _ (s : List ℕ) (parent : ℕ) (below : List Row) where
       ∷ unset  -- commentary
       ∷ flagOf s parent below 0x9C  -- lacing
       ∷ numberOf s parent below 0x23E383  -- default duration, in nanoseconds
-      ∷ partOf s parent below 0x536E Utf8  -- name
+      ∷ contentOf s parent below 0x536E Utf8  -- name
       ∷ languageOf s parent below 0x22B59C 0x22B59D  -- language: ISO 639, IETF
-      ∷ partOf s parent below 0x86 String  -- codec id
-      ∷ partOf s parent below 0x63A2 Binary  -- codec private
-      ∷ partOf s parent below 0x258688 Utf8  -- codec name
+      ∷ contentOf s parent below 0x86 String  -- codec id
+      ∷ contentOf s parent below 0x63A2 Binary  -- codec private
+      ∷ contentOf s parent below 0x258688 Utf8  -- codec name
       ∷ settings
 
 -- Of a master among the rows that were read.

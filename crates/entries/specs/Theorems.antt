@@ -5,7 +5,7 @@ use mathlib.Core.List.{List}
 use mathlib.Core.Bool.{true, false}
 use lib.ListN.{length}
 use Rattle.kinds.specs.declared.kind.Kind.the-variants.{Master}
-use Rattle.elements.specs.Theorems.{nth}
+use Rattle.elements.specs.Rows.{nth}
 use Rattle.elements.specs.declared.row.Row.{Row}
 use Rattle.fields.specs.Children.{fits, children, lastOf}
 use Rattle.records.specs.Theorems.{Addressed}

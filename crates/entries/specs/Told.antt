@@ -1,7 +1,7 @@
 -- The values of a track's fields (document 02, C-11), in document 01's terms.
 use mathlib.Core.List.{List, [], _∷_}
 use Rattle.fields.specs.Values.{Value, unset, number}
-use Rattle.fields.specs.Told.{numberTold, flagTold, partTold, languageTold}
+use Rattle.fields.specs.Told.{numberTold, flagTold, contentTold, languageTold}
 use Rattle.records.specs.Told.{Answer, fields, refuses}
 use Rattle.tracks.specs.Told.{audioValues, videoValues}
 use Rattle.entries.specs.Typed.{typeNumber}
@@ -39,11 +39,11 @@ trackValues t =
     ∷ flagTold (t .commentary)
     ∷ flagTold (t .lacing)
     ∷ numberTold (t .«default_duration»)
-    ∷ partTold (t .name)
+    ∷ contentTold (t .name)
     ∷ languageTold (t .language)
-    ∷ partTold (t .«codec_id»)
-    ∷ partTold (t .«codec_private»)
-    ∷ partTold (t .«codec_name»)
+    ∷ contentTold (t .«codec_id»)
+    ∷ contentTold (t .«codec_private»)
+    ∷ contentTold (t .«codec_name»)
     ∷ settingsValues (t .settings)
 
 -- ---- the reply

@@ -13,11 +13,11 @@ use fields::Below;
 use fields::Flag;
 use fields::Language;
 use fields::Number;
-use fields::Part;
+use fields::Content;
 use fields::flag_field;
 use fields::language_field;
 use fields::number_field;
-use fields::part_field;
+use fields::content_field;
 use header::Refusal;
 use kinds::Kind;
 use kinds::ids;
@@ -42,11 +42,11 @@ pub struct Track {
     pub lacing: Flag,
     // In nanoseconds, of a frame.
     pub default_duration: Number,
-    pub name: Part,
+    pub name: Content,
     pub language: Language,
-    pub codec_id: Part,
-    pub codec_private: Part,
-    pub codec_name: Part,
+    pub codec_id: Content,
+    pub codec_private: Content,
+    pub codec_name: Content,
     pub settings: Settings,
 }
 
@@ -75,11 +75,11 @@ fn track_in(recording: &[u8], table: &[u64], rows: usize, master: Below) -> Trac
         commentary: Flag::Unset,
         lacing: flag_field(recording, table, master, ids::FLAGLACING),
         default_duration: number_field(recording, table, master, ids::DEFAULTDURATION),
-        name: part_field(recording, table, master, ids::NAME, Kind::Utf8),
+        name: content_field(recording, table, master, ids::NAME, Kind::Utf8),
         language: language_field(recording, table, master, ids::LANGUAGE, ids::LANGUAGE_IETF),
-        codec_id: part_field(recording, table, master, ids::CODEC_ID, Kind::String),
-        codec_private: part_field(recording, table, master, ids::CODEC_PRIVATE, Kind::Binary),
-        codec_name: part_field(recording, table, master, ids::CODEC_NAME, Kind::Utf8),
+        codec_id: content_field(recording, table, master, ids::CODEC_ID, Kind::String),
+        codec_private: content_field(recording, table, master, ids::CODEC_PRIVATE, Kind::Binary),
+        codec_name: content_field(recording, table, master, ids::CODEC_NAME, Kind::Utf8),
         settings: settings_in(recording, table, rows, master),
     }
 }

@@ -10,8 +10,8 @@ use lib.Dec.{ltb}
 use borrow.Author.Tests.{lt-ltb, le-ltb}
 use Rattle.kinds.specs.declared.kind.Kind.{Kind}
 use Rattle.elements.specs.Forest.{Element, Forest, none, node, whole, count}
-use Rattle.elements.specs.Rows.{rowOf, rows, rowsOf}
-use Rattle.elements.specs.Theorems.{nth, Each}
+use Rattle.elements.specs.Rows.{rowOf, rows, rowsOf, nth}
+use Rattle.elements.specs.Theorems.{Each}
 use Rattle.elements.specs.declared.row.Row.{Row}
 use Rattle.elements.proofs.Family.{nth-seam}
 use Rattle.elements.proofs.Forests.{length-rows}

@@ -7,7 +7,7 @@ use native.Mathlib.Omega.{arith}
 use native.Mathlib.Nat.{add-zero}
 use lib.ListN.{length}
 use Rattle.kinds.specs.declared.kind.Kind.{Kind}
-use Rattle.elements.specs.Theorems.{nth}
+use Rattle.elements.specs.Rows.{nth}
 use Rattle.elements.specs.declared.row.Row.{Row}
 use Rattle.fields.specs.Children.{fits, childrenFrom, lastFrom}
 use Rattle.fields.specs.Theorems.{Last, none, last, LastIsLast}

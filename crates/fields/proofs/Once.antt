@@ -3,13 +3,13 @@ use Prim.Native.Nat.{ℕ}
 use mathlib.Core.Path.{_≡_, refl, ap, _∙_}
 use native.Mathlib.Omega.{arith}
 use Rattle.bodies.specs.declared.body.Range.{Range}
-use Rattle.fields.specs.Told.{numberTold, flagTold, partTold, languageTold, valueTold, realTold}
+use Rattle.fields.specs.Told.{numberTold, flagTold, contentTold, languageTold, valueTold, realTold}
 use Rattle.fields.specs.declared.field.Number.{Number}
 use Rattle.fields.specs.declared.field.Number.the-variants.{Unset as NumberUnset, Is as NumberIs}
 use Rattle.fields.specs.declared.field.Flag.{Flag}
 use Rattle.fields.specs.declared.field.Flag.the-variants.{Unset as FlagUnset, No, Yes}
-use Rattle.fields.specs.declared.field.Part.{Part}
-use Rattle.fields.specs.declared.field.Part.the-variants.{Unset as PartUnset, At as PartAt}
+use Rattle.fields.specs.declared.field.Content.{Content}
+use Rattle.fields.specs.declared.field.Content.the-variants.{Unset as ContentUnset, At as ContentAt}
 use Rattle.fields.specs.declared.field.Language.{Language}
 use Rattle.fields.specs.declared.field.Language.the-variants.{Unset as LanguageUnset, Iso, Ietf}
 use Rattle.fields.specs.declared.field.TagValue.{TagValue}
@@ -38,11 +38,11 @@ flag-once Yes FlagUnset q = let z : _≡_ {A = ℕ} 0 1 = cc in absurd (omega ar
 flag-once Yes No q = let z : _≡_ {A = ℕ} 0 1 = cc in absurd (omega arith)
 flag-once Yes Yes q = refl
 
-pub part-once : (x y : Part) → partTold x ≡ partTold y → x ≡ y
-part-once PartUnset PartUnset q = refl
-part-once PartUnset (PartAt h) q = let z : _≡_ {A = ℕ} 0 1 = cc in absurd (omega arith)
-part-once (PartAt g) PartUnset q = let z : _≡_ {A = ℕ} 0 1 = cc in absurd (omega arith)
-part-once (PartAt g) (PartAt h) q = ap PartAt (same-range g h (cc) (cc))
+pub content-once : (x y : Content) → contentTold x ≡ contentTold y → x ≡ y
+content-once ContentUnset ContentUnset q = refl
+content-once ContentUnset (ContentAt h) q = let z : _≡_ {A = ℕ} 0 1 = cc in absurd (omega arith)
+content-once (ContentAt g) ContentUnset q = let z : _≡_ {A = ℕ} 0 1 = cc in absurd (omega arith)
+content-once (ContentAt g) (ContentAt h) q = ap ContentAt (same-range g h (cc) (cc))
 
 pub language-once : (x y : Language) → languageTold x ≡ languageTold y → x ≡ y
 language-once LanguageUnset LanguageUnset q = refl

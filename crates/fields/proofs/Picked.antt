@@ -9,7 +9,8 @@ use lib.Dec.{eqb}
 use borrow.Author.Tests.{eqb-true}
 use Rattle.kinds.specs.Kinds.{numberOf}
 use Rattle.kinds.specs.declared.kind.Kind.{Kind}
-use Rattle.elements.specs.Theorems.{Sound, nth}
+use Rattle.elements.specs.Rows.{nth}
+use Rattle.elements.specs.Theorems.{Sound}
 use Rattle.elements.specs.declared.row.Row.{Row}
 use Rattle.elements.proofs.Numbered.{each-at}
 use Rattle.fields.specs.Children.{fits, childrenFrom, children, lastFrom, lastOf, nthOf, rowsIn}

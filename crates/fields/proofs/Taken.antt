@@ -12,9 +12,9 @@ use Rattle.bodies.specs.Numbers.{floatOf}
 use Rattle.bodies.specs.declared.body.Range.{Range}
 use Rattle.elements.specs.declared.row.Row.{Row}
 use Rattle.fields.specs.Children.{children, lastOf}
-use Rattle.fields.specs.Values.{unset, number, flag, part, iso, ietf, text, binary, real}
-use Rattle.fields.specs.Values.{rangeIn, uintIn, floatIn, numberIn, flagIn, partIn, realIn, languageIn, valueIn}
-use Rattle.fields.specs.Fields.{numberOf, flagOf, partOf, realOf, languageOf, valueOf}
+use Rattle.fields.specs.Values.{unset, number, flag, content, iso, ietf, text, binary, real}
+use Rattle.fields.specs.Values.{rangeIn, uintIn, floatIn, numberIn, flagIn, contentIn, realIn, languageIn, valueIn}
+use Rattle.fields.specs.Fields.{numberOf, flagOf, contentOf, realOf, languageOf, valueOf}
 use Rattle.fields.specs.declared.child.Child.{Child}
 use Rattle.fields.specs.declared.child.Child.the-variants.{Absent, At}
 
@@ -77,15 +77,15 @@ module _ (s : List ℕ) (parent : ℕ) (below : List Row) where
     real-is n r x e q = ap real q ∙ ap (realIn s) e
 
     module _ (kind : Kind) where
-      pub part-unset : Absent ≡ lastOf (children parent id kind below) → unset ≡ partOf s parent below id kind
-      unfolding partOf
-      part-unset e = ap partIn e
+      pub content-unset : Absent ≡ lastOf (children parent id kind below) → unset ≡ contentOf s parent below id kind
+      unfolding contentOf
+      content-unset e = ap contentIn e
 
-      pub part-at :
+      pub content-at :
           (n : ℕ) (r : Row) (g : Range) → At n r ≡ lastOf (children parent id kind below) → g ≡ rangeIn r
-          → part (g .at) (g .length) ≡ partOf s parent below id kind
-      unfolding partOf
-      part-at n r g e q = ap (λ (x : Range). part (x .at) (x .length)) q ∙ ap partIn e
+          → content (g .at) (g .length) ≡ contentOf s parent below id kind
+      unfolding contentOf
+      content-at n r g e q = ap (λ (x : Range). content (x .at) (x .length)) q ∙ ap contentIn e
 
   -- The one that decides comes first: an IETF language, else an ISO 639 one.
   module _ (isos ietfs : ℕ) where

@@ -6,8 +6,7 @@ use lib.ListN.{drop}
 use lib.Dec.{ltb, eqb}
 use Rattle.kinds.specs.Kinds.{numberOf}
 use Rattle.kinds.specs.declared.kind.Kind.{Kind}
-use Rattle.elements.specs.Rows.{width, rowsOf}
-use Rattle.elements.specs.Theorems.{nth}
+use Rattle.elements.specs.Rows.{width, rowsOf, nth}
 use Rattle.elements.specs.declared.row.Row.{Row}
 use Rattle.fields.specs.declared.child.Below.{Below}
 use Rattle.fields.specs.declared.child.Child.{Child}

@@ -7,7 +7,7 @@ use Rattle.kinds.specs.declared.kind.Kind.the-variants.{Uint, String, Utf8, Bin
 use Rattle.kinds.specs.declared.kind.Kind.the-variants.{Float as FloatKind}
 use Rattle.elements.specs.declared.row.Row.{Row}
 use Rattle.fields.specs.Children.{children, lastOf}
-use Rattle.fields.specs.Values.{Value, count, numberIn, flagIn, partIn, realIn, languageIn, valueIn}
+use Rattle.fields.specs.Values.{Value, count, numberIn, flagIn, contentIn, realIn, languageIn, valueIn}
 use Rattle.fields.specs.declared.child.Child.{Child}
 
 -- Of the master `parent` with the rows below it.
@@ -21,8 +21,8 @@ module _ (s : List ℕ) (parent : ℕ) (below : List Row) where
   unfoldable pub flagOf : ℕ → Value
   flagOf id = flagIn s (lastChild id Uint)
 
-  unfoldable pub partOf : ℕ → Kind → Value
-  partOf id kind = partIn (lastChild id kind)
+  unfoldable pub contentOf : ℕ → Kind → Value
+  contentOf id kind = contentIn (lastChild id kind)
 
   unfoldable pub realOf : ℕ → Value
   realOf id = realIn s (lastChild id FloatKind)

@@ -5,9 +5,8 @@ use mathlib.Core.List.{List}
 use mathlib.Core.Bool.{true, false}
 use lib.ListN.{length}
 use Rattle.kinds.specs.declared.kind.Kind.{Kind}
-use Rattle.elements.specs.Rows.{rowsOf}
+use Rattle.elements.specs.Rows.{rowsOf, nth}
 use Rattle.elements.specs.Promise.{ReadPromise}
-use Rattle.elements.specs.Theorems.{nth}
 use Rattle.elements.specs.declared.row.Row.{Row}
 use Rattle.elements.specs.declared.reply.ReadReply.the-variants.{Rows}
 use Rattle.fields.specs.Children.{subtree, fits, childrenFrom, children, lastOf}

@@ -1,12 +1,12 @@
 -- Document 01's value for each case of a field.
 use mathlib.Core.Bool.{true, false}
-use Rattle.fields.specs.Values.{Value, unset, number, flag, part, iso, ietf, text, binary, real}
+use Rattle.fields.specs.Values.{Value, unset, number, flag, content, iso, ietf, text, binary, real}
 use Rattle.fields.specs.declared.field.Number.{Number}
 use Rattle.fields.specs.declared.field.Number.the-variants.{Unset as NumberUnset, Is as NumberIs}
 use Rattle.fields.specs.declared.field.Flag.{Flag}
 use Rattle.fields.specs.declared.field.Flag.the-variants.{Unset as FlagUnset, No, Yes}
-use Rattle.fields.specs.declared.field.Part.{Part}
-use Rattle.fields.specs.declared.field.Part.the-variants.{Unset as PartUnset, At as PartAt}
+use Rattle.fields.specs.declared.field.Content.{Content}
+use Rattle.fields.specs.declared.field.Content.the-variants.{Unset as ContentUnset, At as ContentAt}
 use Rattle.fields.specs.declared.field.Language.{Language}
 use Rattle.fields.specs.declared.field.Language.the-variants.{Unset as LanguageUnset, Iso, Ietf}
 use Rattle.fields.specs.declared.field.TagValue.{TagValue}
@@ -23,9 +23,9 @@ flagTold FlagUnset = unset
 flagTold No = flag false
 flagTold Yes = flag true
 
-abbrev pub partTold : Part → Value
-partTold PartUnset = unset
-partTold (PartAt r) = part (r .at) (r .length)
+abbrev pub contentTold : Content → Value
+contentTold ContentUnset = unset
+contentTold (ContentAt r) = content (r .at) (r .length)
 
 abbrev pub languageTold : Language → Value
 languageTold LanguageUnset = unset

@@ -7,7 +7,7 @@ use lib.Ieee.{Float}
 use Rattle.header.specs.Vint.{bigEndian}
 use Rattle.bodies.specs.Numbers.{floatOf}
 use Rattle.bodies.specs.declared.body.Range.{Range}
-use Rattle.elements.specs.Theorems.{payloadOf}
+use Rattle.elements.specs.Rows.{payloadOf}
 use Rattle.elements.specs.declared.row.Row.{Row}
 use Rattle.fields.specs.declared.child.Child.{Child}
 use Rattle.fields.specs.declared.child.Child.the-variants.{Absent, At}
@@ -17,7 +17,7 @@ pub data Value : Type 0 where
   unset : Value
   number : ℕ → Value
   flag : Bool → Value
-  part : ℕ → ℕ → Value
+  content : ℕ → ℕ → Value
   -- a language, of ISO 639 or of the IETF
   iso : ℕ → ℕ → Value
   ietf : ℕ → ℕ → Value
@@ -54,9 +54,9 @@ abbrev pub flagIn : List ℕ → Child → Value
 flagIn s Absent = unset
 flagIn s (At n r) = flag (not (eqb (uintIn s r) 0))
 
-abbrev pub partIn : Child → Value
-partIn Absent = unset
-partIn (At n r) = placed part r
+abbrev pub contentIn : Child → Value
+contentIn Absent = unset
+contentIn (At n r) = placed content r
 
 abbrev pub realIn : List ℕ → Child → Value
 realIn s Absent = unset

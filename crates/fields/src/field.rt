@@ -4,8 +4,8 @@ ghost use Prim.Native.Nat.{_+_, _^_, _<_};
 ghost use Rattle.kinds.specs.declared.kind.Kind.the-variants.{Uint, Float};
 ghost use Rattle.fields.specs.Children.{rowsIn};
 ghost use Rattle.fields.specs.Values.{uintIn, floatIn, rangeIn};
-ghost use Rattle.fields.specs.Fields.{numberOf, flagOf, partOf, languageOf, valueOf, realOf};
-ghost use Rattle.fields.specs.Told.{numberTold, flagTold, partTold, languageTold, valueTold, realTold};
+ghost use Rattle.fields.specs.Fields.{numberOf, flagOf, contentOf, languageOf, valueOf, realOf};
+ghost use Rattle.fields.specs.Told.{numberTold, flagTold, contentTold, languageTold, valueTold, realTold};
 ghost use Rattle.fields.specs.Contract.{Readable, Holds};
 use crate::child::Below;
 use crate::child::Child;
@@ -29,7 +29,7 @@ pub enum Flag {
 }
 
 // A text or bytes: a part of the recording.
-pub enum Part {
+pub enum Content {
     Unset,
     At(Range),
 }
@@ -102,14 +102,14 @@ pub fn flag_field(recording: &[u8], table: &[u64], master: Below, id: u32) -> Fl
 }
 
 // A text or bytes, by the kind.
-pub fn part_field(recording: &[u8], table: &[u64], master: Below, id: u32, kind: Kind) -> Part
+pub fn content_field(recording: &[u8], table: &[u64], master: Below, id: u32, kind: Kind) -> Content
     requires { ⌜ Readable (now recording) (now table) master ⌝ }
-    ensures { λ r. ⌜ partTold r
-        ≡ partOf (now (recording .entry)) (master .parent) (rowsIn (now (table .entry)) master) id kind ⌝ }
+    ensures { λ r. ⌜ contentTold r
+        ≡ contentOf (now (recording .entry)) (master .parent) (rowsIn (now (table .entry)) master) id kind ⌝ }
 {
     match last_child(table, master, id, kind) {
-        Child::Absent => Part::Unset,
-        Child::At { number: _, row } => Part::At(range_of(row)),
+        Child::Absent => Content::Unset,
+        Child::At { number: _, row } => Content::At(range_of(row)),
     }
 }
 

@@ -2,7 +2,7 @@
 use mathlib.Core.Path.{_≡_, ap, _∙_, sym}
 use Prim.Native.Nat.{ℕ}
 use native.Mathlib.Omega.{arith}
-use Rattle.header.specs.Reply.{told}
+use Rattle.header.specs.Reply.{headerTold}
 use Rattle.header.specs.Theorems.{OneReply}
 use Rattle.header.specs.declared.cursor.Header.{Header}
 use Rattle.header.specs.declared.refusal.Refusal.{Refusal}
@@ -20,7 +20,7 @@ same-refusal e e′ n i =
     ap (λ (y : ℕ). record { number = y; id = e .id }) n ∙ ap (λ (y : ℕ). record { number = e′ .number; id = y }) i
 
 -- document 01's number and values tell every case of the answer apart
-told-once : (r r′ : HeaderReply) → told r ≡ told r′ → r ≡ r′
+told-once : (r r′ : HeaderReply) → headerTold r ≡ headerTold r′ → r ≡ r′
 told-once (HeaderIs h) (HeaderIs h′) q = ap HeaderIs (same-header h h′ (cc) (cc) (cc))
 told-once (HeaderIs h) (Refused e) q = let x : _≡_ {A = ℕ} 0 1 = cc in absurd (omega arith)
 told-once (Refused e) (HeaderIs h) q = let x : _≡_ {A = ℕ} 0 1 = cc in absurd (omega arith)

@@ -7,7 +7,7 @@ use lib.ListN.{length, drop}
 use lib.Dec.{leb}
 use Rattle.header.specs.Header.{Heading, heading, refused, headerOf}
 use Rattle.header.specs.Refusals.{badArgument}
-use Rattle.header.specs.Reply.{Reply, accepted, refusalOf, valuesOf, told}
+use Rattle.header.specs.Reply.{Reply, accepted, refusalOf, valuesOf, headerTold}
 use Rattle.header.specs.declared.reply.HeaderReply.{HeaderReply}
 
 -- The longest recording (document 01, Numbers that bound a call).
@@ -25,4 +25,4 @@ headerReply s at =
     cond (leb (length s) mostBytes && leb at (length s)) (replyOf (headerOf (drop at s))) (refusalOf badArgument)
 
 pub record HeaderPromise (s : List ℕ) (at : ℕ) (r : HeaderReply) : Type 0 where
-  pub reply : told r ≡ headerReply s at
+  pub reply : headerTold r ≡ headerReply s at

@@ -19,6 +19,6 @@ abbrev pub valuesOf : Header → List ℕ
 valuesOf h = h .id ∷ h .size ∷ h .length ∷ []
 
 -- Document 01's number and values for each case of `HeaderReply`.
-abbrev pub told : HeaderReply → Reply
-told (HeaderIs h) = accepted (valuesOf h)
-told (Refused e) = refusalOf e
+abbrev pub headerTold : HeaderReply → Reply
+headerTold (HeaderIs h) = accepted (valuesOf h)
+headerTold (Refused e) = refusalOf e

@@ -13,7 +13,7 @@ use borrow.Author.Tests.{eq-eqb, ne-eqb}
 use Rattle.laws.proofs.Computed.{both-right}
 use Rattle.kinds.specs.Elements.{Row, row, elements}
 use Rattle.kinds.specs.Kinds.{numberOf, kindIn}
-use Rattle.kinds.specs.Entries.{entries, Rising, Place}
+use Rattle.kinds.specs.Entries.{entries, Rising, LowerBound}
 use Rattle.kinds.specs.Theorems.{ids}
 use Rattle.kinds.specs.declared.kind.Kind.{Kind}
 use Rattle.kinds.specs.declared.kind.Kind.the-variants.{Master, Int, Uint, String, Utf8, Binary, Float, Date}
@@ -93,7 +93,7 @@ missing (row n k ∷ rows) id none =
 
 -- The place of the id's least entry decides: where another id stands there, or nothing, no entry has the id.
 pub absent :
-    (xs : List ℕ) → Rising xs → (id r : ℕ) → Place xs (id * 16) r → (r < length xs → getD xs r 0 / 16 ≡ id → ⊥)
+    (xs : List ℕ) → Rising xs → (id r : ℕ) → LowerBound xs (id * 16) r → (r < length xs → getD xs r 0 / 16 ≡ id → ⊥)
     → (k : ℕ) → k < length xs → getD xs k 0 / 16 ≡ id → ⊥
 absent xs rising id r place other k h e =
     ⊎-elim
@@ -127,7 +127,7 @@ module _ (xs : List ℕ) (whole : xs ≡ entries elements) where
   listed id = subst (Tells id) (sym whole) (found 0 elements sorted id)
 
   pub unlisted :
-      (id r : ℕ) → Place xs (id * 16) r → (r < length xs → getD xs r 0 / 16 ≡ id → ⊥) → kindIn elements id ≡ Binary
+      (id r : ℕ) → LowerBound xs (id * 16) r → (r < length xs → getD xs r 0 / 16 ≡ id → ⊥) → kindIn elements id ≡ Binary
   unlisted id r place other =
       missing elements id
       (subst (λ (ys : List ℕ). (k : ℕ) → k < length ys → getD ys k 0 / 16 ≡ id → ⊥) whole

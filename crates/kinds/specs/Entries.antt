@@ -29,7 +29,7 @@ pub record Rising (xs : List ℕ) : Type 0 where
   pub rises : (i j : ℕ) → i < j → j < length xs → getD xs i 0 < getD xs j 0
 
 -- r is the first place of rising numbers that holds x or more.
-pub record Place (xs : List ℕ) (x r : ℕ) : Type 0 where
+pub record LowerBound (xs : List ℕ) (x r : ℕ) : Type 0 where
   pub within : r ≤ length xs
   pub below : (k : ℕ) → k < r → getD xs k 0 < x
   pub above : (k : ℕ) → r ≤ k → k < length xs → x ≤ getD xs k 0

@@ -41,19 +41,19 @@ smallSets =
     ∷ under 0x1254C367 (0x7373 ∷ [])
     ∷ []
 
--- Whether the id is one of them.
-unfoldable pub member : List ℕ → ℕ → Bool
-member [] id = false
-member (i ∷ is) id = eqb id i || member is id
+-- Whether a number is one of them.
+unfoldable pub member : ℕ → List ℕ → Bool
+member x [] = false
+member x (y ∷ ys) = eqb x y || member x ys
 
 -- Whether an id that is a master stays one under the parent: of a parent with a small set only that set's ids do, of
 -- any other parent all do.
 unfoldable pub keeps : List Small → ℕ → ℕ → Bool
-keeps [] parent id = true
-keeps (under p is ∷ sets) parent id = cond (eqb parent p) (member is id) (keeps sets parent id)
+keeps [] id parent = true
+keeps (under p is ∷ sets) id parent = cond (eqb parent p) (member id is) (keeps sets id parent)
 
 abbrev pub staysMaster : ℕ → ℕ → Bool
-staysMaster parent id = keeps smallSets parent id
+staysMaster id parent = keeps smallSets id parent
 
 -- An id that loses its master kind is binary.
 unfoldable pub demoted : Kind → Kind
@@ -68,4 +68,4 @@ demoted Date = Date
 
 -- The kind of an id under a parent id; 0 where there is no parent.
 unfoldable pub kindUnder : ℕ → ℕ → Kind
-kindUnder parent id = cond (staysMaster parent id) (kindIn elements id) (demoted (kindIn elements id))
+kindUnder id parent = cond (staysMaster id parent) (kindIn elements id) (demoted (kindIn elements id))

@@ -6,4 +6,4 @@ use Rattle.kinds.specs.declared.kind.Kind.{Kind}
 
 -- Document 01's number of the reply is that of the id's kind under the parent.
 pub record KindPromise (id parent : ℕ) (r : Kind) : Type 0 where
-  pub reply : numberOf r ≡ numberOf (kindUnder parent id)
+  pub reply : numberOf r ≡ numberOf (kindUnder id parent)

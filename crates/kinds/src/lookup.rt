@@ -1,7 +1,7 @@
 // The kind of an id under a parent: its place in the list, then the small sets of five parents.
 ghost use mathlib.Core.Path.{_≡_};
 ghost use Rattle.kinds.specs.Elements.{elements};
-ghost use Rattle.kinds.specs.Entries.{entries, Rising, Place};
+ghost use Rattle.kinds.specs.Entries.{entries, Rising, LowerBound};
 ghost use Rattle.kinds.specs.Kinds.{numberOf, kindIn, kindUnder, staysMaster};
 ghost use Rattle.kinds.specs.Promise.{KindPromise};
 use crate::ids;
@@ -16,9 +16,9 @@ const BINARY: u64 = 6;
 const CHAPTERTRANSLATE: u32 = 0x6924;
 
 // The first place of rising numbers that holds x or more; their count where none does.
-fn place_of(table: &[u64], x: u64) -> usize
+fn lower_bound(table: &[u64], x: u64) -> usize
     requires { ⌜ Rising (now table) ⌝ }
-    ensures { λ r. ⌜ Place (now (table .entry)) x r ⌝ }
+    ensures { λ r. ⌜ LowerBound (now (table .entry)) x r ⌝ }
 {
     let mut low: usize = 0;
     let mut high: usize = table.len();
@@ -39,7 +39,7 @@ fn listed_number(table: &[u64], id: u32) -> u64
     ensures { λ r. ⌜ r ≡ numberOf (kindIn elements id) ⌝ }
 {
     let wanted = id as u64;
-    let place = place_of(table, wanted * 16);
+    let place = lower_bound(table, wanted * 16);
     if place == table.len() {
         return BINARY;
     }
@@ -52,7 +52,7 @@ fn listed_number(table: &[u64], id: u32) -> u64
 
 // Whether an id that is a master by the list stays one under this parent.
 fn stays_master(id: u32, parent: u32) -> bool
-    ensures { λ r. ⌜ r ≡ staysMaster parent id ⌝ }
+    ensures { λ r. ⌜ r ≡ staysMaster id parent ⌝ }
 {
     match parent {
         ids::INFO => id == CHAPTERTRANSLATE,
@@ -67,7 +67,7 @@ fn stays_master(id: u32, parent: u32) -> bool
 // The kind of an id under a parent id, by a list that the caller lends.
 pub fn kind_in(table: &[u64], id: u32, parent: u32) -> Kind
     requires { ⌜ now table ≡ entries elements ⌝ }
-    ensures { λ r. ⌜ r ≡ kindUnder parent id ⌝ }
+    ensures { λ r. ⌜ r ≡ kindUnder id parent ⌝ }
 {
     let number = listed_number(table, id);
     if number != MASTER {

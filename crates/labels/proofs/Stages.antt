@@ -6,25 +6,25 @@ use native.Mathlib.Omega.{arith}
 use lib.ListN.{length, take, drop}
 use borrow.Author.Tests.{le-leb, lt-leb}
 use Rattle.bodies.specs.declared.body.Range.{Range}
-use Rattle.places.specs.Payload.{partOf}
-use Rattle.fields.specs.declared.field.Part.{Part}
-use Rattle.fields.specs.declared.field.Part.the-variants.{Unset, At}
+use Rattle.places.specs.Payload.{bytesOf}
+use Rattle.fields.specs.declared.field.Content.{Content}
+use Rattle.fields.specs.declared.field.Content.the-variants.{Unset, At}
 use Rattle.labels.specs.Shown.{labelOf}
 use Rattle.labels.specs.Promise.{LabelPromise}
 use Rattle.labels.specs.Theorems.{LabelIsShown}
 use Rattle.labels.proofs.Texts.{text-inside}
 
-module _ (s : List ℕ) (string : Part) (own : List ℕ) where
+module _ (s : List ℕ) (string : Content) (own : List ℕ) where
   pub label-unset : string ≡ Unset → LabelPromise s string own own
   unfolding labelOf
-  label-unset e = record { reply = sym (ap (λ (x : Part). labelOf s x own) e) }
+  label-unset e = record { reply = sym (ap (λ (x : Content). labelOf s x own) e) }
 
   module _ (r : Range) (e : string ≡ At r) where
     pub label-outside : length s < r .at + r .length → LabelPromise s string own own
     unfolding labelOf
     label-outside l =
         record {
-          reply = sym (ap (λ (x : Part). labelOf s x own) e ∙ rw (lt-leb (r .at + r .length) (length s) l));
+          reply = sym (ap (λ (x : Content). labelOf s x own) e ∙ rw (lt-leb (r .at + r .length) (length s) l));
         }
 
     pub label-is :
@@ -36,11 +36,11 @@ module _ (s : List ℕ) (string : Part) (own : List ℕ) where
         record {
           reply =
               ap (λ (x : ℕ). take x (drop (r .at) s)) n
-              ∙ sym (ap (λ (x : Part). labelOf s x own) e ∙ rw (le-leb (r .at + r .length) (length s) l));
+              ∙ sym (ap (λ (x : Content). labelOf s x own) e ∙ rw (le-leb (r .at + r .length) (length s) l));
         }
 
 pub label-is-shown : LabelIsShown
 unfolding labelOf
 label-is-shown s t row at n e own =
     let i = text-inside s t row at n e in
-    rw (le-leb (at + n) (length s) (i .ends)) (sym (ap (partOf s) e))
+    rw (le-leb (at + n) (length s) (i .ends)) (sym (ap (bytesOf s) e))

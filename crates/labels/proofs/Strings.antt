@@ -6,22 +6,21 @@ use native.Mathlib.Omega.{arith}
 use lib.ListN.{length}
 use Rattle.bodies.specs.declared.body.Range.{Range}
 use Rattle.kinds.specs.declared.kind.Kind.the-variants.{Utf8}
-use Rattle.elements.specs.Rows.{width, rowAt, rowsOf}
+use Rattle.elements.specs.Rows.{width, rowAt, rowsOf, nth}
 use Rattle.elements.specs.Promise.{zeros, ReadPromise}
-use Rattle.elements.specs.Theorems.{nth}
 use Rattle.elements.specs.declared.row.Row.{Row}
 use Rattle.elements.specs.declared.reply.ReadReply.the-variants.{Rows}
 use Rattle.elements.proofs.Numbered.{row-of}
 use Rattle.elements.proofs.Readback.{rows-back}
-use Rattle.places.specs.Payload.{range, placeOf}
+use Rattle.places.specs.Payload.{range, payloadRange}
 use Rattle.places.proofs.Accepted.{rows-have-ranges}
 use Rattle.fields.specs.Children.{subtree, children, lastOf}
-use Rattle.fields.specs.Values.{part, partIn}
-use Rattle.fields.specs.Fields.{partOf}
-use Rattle.fields.specs.Told.{partTold}
+use Rattle.fields.specs.Values.{content, contentIn}
+use Rattle.fields.specs.Fields.{contentOf}
+use Rattle.fields.specs.Told.{contentTold}
 use Rattle.fields.specs.declared.child.Child.{Child}
 use Rattle.fields.specs.declared.child.Child.the-variants.{At as ChildAt, Absent as NoChild}
-use Rattle.fields.specs.declared.field.Part.the-variants.{At}
+use Rattle.fields.specs.declared.field.Content.the-variants.{At}
 use Rattle.fields.proofs.Picked.{last-is, fits-kind}
 use Rattle.records.specs.Asked.{Asked, found, refusing, tableAfter}
 use Rattle.records.specs.Promise.{answerOf, ofBelow}
@@ -32,19 +31,19 @@ use Rattle.chapters.specs.Told.{displayTold}
 use Rattle.chapters.specs.Promise.{displayAsked}
 use Rattle.chapters.specs.declared.display.ChapterDisplay.{ChapterDisplay}
 use Rattle.chapters.specs.declared.display.DisplayReply.the-variants.{Display}
-use Rattle.labels.specs.Shown.{isText, textPlace}
+use Rattle.labels.specs.Shown.{isText, textRange}
 use Rattle.labels.specs.Theorems.{StageIsShown}
 use Rattle.labels.proofs.Stages.{label-is-shown}
 
 -- A part that is told comes from a child.
-from-child : (c : Child) (g : Range) → part (g .at) (g .length) ≡ partIn c
+from-child : (c : Child) (g : Range) → content (g .at) (g .length) ≡ contentIn c
     → (n : ℕ) × (r : Row) × (c ≡ ChildAt n r) × (r .address + r .header ≡ g .at) × (r .payload ≡ g .length)
 from-child NoChild g q = let z : _≡_ {A = ℕ} 0 1 = cc in absurd (omega arith)
 from-child (ChildAt n r) g q = (n, r, refl, cc, cc)
 
 -- A row whose kind is UTF-8 has its payload as text.
-as-text : (s t : List ℕ) (k : ℕ) → rowAt t k .kind ≡ 5 → textPlace s t k ≡ placeOf s t k
-unfolding textPlace isText
+as-text : (s t : List ℕ) (k : ℕ) → rowAt t k .kind ≡ 5 → textRange s t k ≡ payloadRange s t k
+unfolding textRange isText
 as-text s t k e = rw e
 
 module _
@@ -52,7 +51,7 @@ module _
     (p : ReadPromise s start size parent t (Rows (length rs)) t′) (w : rowsOf t′ (length rs) ≡ rs) where
   -- The range of a row of the read that is a text.
   text-row : (n : ℕ) (r : Row) → n < length rs → nth rs n ≡ r → r .kind ≡ 5
-      → textPlace s t′ n ≡ range (r .address + r .header) (r .payload)
+      → textRange s t′ n ≡ range (r .address + r .header) (r .payload)
   text-row n r l q k =
       let e : rowAt t′ n ≡ r
       = sym (row-of t′ (length rs) n l) ∙ ap (λ (x : List Row). nth x n) w ∙ q in
@@ -64,12 +63,12 @@ module _
 string-from : (s : List ℕ) (a : Asked) (numbers : ℕ) (d : ChapterDisplay) (rows : ℕ) (g : Range)
     → displayTold (Display d rows) ≡ answerOf (ofBelow (displayOf s)) a → d .string ≡ At g
     → (rs : List Row) × (master : ℕ) × (a ≡ found rs master) × (rows ≡ length rs)
-    × (part (g .at) (g .length) ≡ partIn (lastOf (children master 0x85 Utf8 (subtree rs master))))
-unfolding displayOf partOf
+    × (content (g .at) (g .length) ≡ contentIn (lastOf (children master 0x85 Utf8 (subtree rs master))))
+unfolding displayOf contentOf
 string-from s (refusing e) numbers d rows g q w = let z : _≡_ {A = ℕ} 0 1 = cc in absurd (omega arith)
 string-from s (found rs master) numbers d rows g q w =
-    let e : partTold (d .string) ≡ partIn (lastOf (children master 0x85 Utf8 (subtree rs master))) = cc in
-    (rs, master, refl, cc, sym (ap partTold w) ∙ e)
+    let e : contentTold (d .string) ≡ contentIn (lastOf (children master 0x85 Utf8 (subtree rs master))) = cc in
+    (rs, master, refl, cc, sym (ap contentTold w) ∙ e)
 
 pub stage-is-shown : StageIsShown
 stage-is-shown s start size k i j t d rows t′ g p w =

@@ -2,18 +2,18 @@
 use Prim.Native.Nat.{ℕ}
 use mathlib.Core.Path.{_≡_}
 use mathlib.Core.List.{List}
-use Rattle.places.specs.Payload.{partOf}
+use Rattle.places.specs.Payload.{bytesOf}
 use Rattle.places.specs.Promise.{valuesOf, rangeTold}
 use Rattle.places.specs.declared.payload.RangeReply.{RangeReply}
-use Rattle.fields.specs.declared.field.Part.{Part}
-use Rattle.labels.specs.Shown.{textPlace, labelOf}
+use Rattle.fields.specs.declared.field.Content.{Content}
+use Rattle.labels.specs.Shown.{textRange, labelOf}
 
 pub record TextPromise (s t : List ℕ) (row : ℕ) (r : RangeReply) : Type 0 where
-  pub reply : rangeTold r ≡ valuesOf (textPlace s t row)
+  pub reply : rangeTold r ≡ valuesOf (textRange s t row)
 
 -- The octets of the part that is handed back.
 pub record ShownPromise (s t : List ℕ) (row : ℕ) (part : List ℕ) : Type 0 where
-  pub reply : part ≡ partOf s (textPlace s t row)
+  pub reply : part ≡ bytesOf s (textRange s t row)
 
-pub record LabelPromise (s : List ℕ) (string : Part) (own part : List ℕ) : Type 0 where
+pub record LabelPromise (s : List ℕ) (string : Content) (own part : List ℕ) : Type 0 where
   pub reply : part ≡ labelOf s string own

@@ -3,14 +3,14 @@ use Prim.Native.Nat.{ℕ, _<_}
 use mathlib.Core.Path.{_≡_}
 use mathlib.Core.List.{List}
 use Rattle.bodies.specs.declared.body.Range.{Range}
-use Rattle.places.specs.Payload.{range, partOf}
+use Rattle.places.specs.Payload.{range, bytesOf}
 use Rattle.places.specs.declared.payload.RangeReply.{RangeReply}
-use Rattle.fields.specs.declared.field.Part.{Part}
-use Rattle.fields.specs.declared.field.Part.the-variants.{At}
+use Rattle.fields.specs.declared.field.Content.{Content}
+use Rattle.fields.specs.declared.field.Content.the-variants.{At}
 use Rattle.chapters.specs.Promise.{DisplayPromise}
 use Rattle.chapters.specs.declared.display.ChapterDisplay.{ChapterDisplay}
 use Rattle.chapters.specs.declared.display.DisplayReply.the-variants.{Display}
-use Rattle.labels.specs.Shown.{textPlace, labelOf}
+use Rattle.labels.specs.Shown.{textRange, labelOf}
 use Rattle.labels.specs.Promise.{TextPromise, ShownPromise, LabelPromise}
 
 -- Any two replies that a promise permits to one question are equal (document 01, Strength of the promises).
@@ -24,22 +24,22 @@ OneShown =
 
 abbrev pub OneLabel : Type 0
 OneLabel =
-    (s : List ℕ) (string : Part) (own part part′ : List ℕ) → LabelPromise s string own part
+    (s : List ℕ) (string : Content) (own part part′ : List ℕ) → LabelPromise s string own part
     → LabelPromise s string own part′ → part ≡ part′
 
 -- The label of a string that a text row holds is that row's shown text, whatever the caller's own label is.
 abbrev pub LabelIsShown : Type 0
 LabelIsShown =
-    (s t : List ℕ) (row at n : ℕ) → textPlace s t row ≡ range at n
-    → (own : List ℕ) → labelOf s (At (record { at = at; length = n })) own ≡ partOf s (textPlace s t row)
+    (s t : List ℕ) (row at n : ℕ) → textRange s t row ≡ range at n
+    → (own : List ℕ) → labelOf s (At (record { at = at; length = n })) own ≡ bytesOf s (textRange s t row)
 
 -- The row that a display's string comes from: a text row that the table holds at exit, whose shown text is the label,
 -- whatever the caller's own label is.
 pub record StringRow (s t′ : List ℕ) (rows : ℕ) (string : Range) : Type 0 where
   pub row : ℕ
   pub there : row < rows
-  pub place : textPlace s t′ row ≡ range (string .at) (string .length)
-  pub shown : (own : List ℕ) → labelOf s (At string) own ≡ partOf s (textPlace s t′ row)
+  pub place : textRange s t′ row ≡ range (string .at) (string .length)
+  pub shown : (own : List ℕ) → labelOf s (At string) own ≡ bytesOf s (textRange s t′ row)
 
 -- The label that is asked with a display's set string is the shown text of a row.
 abbrev pub StageIsShown : Type 0

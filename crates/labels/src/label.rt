@@ -1,15 +1,15 @@
 // The stage label: the shown text of a chapter's first display with a set string, or the caller's own label.
 ghost use Rattle.labels.specs.Promise.{LabelPromise};
-use fields::Part;
+use fields::Content;
 
 // The part of the recording that the string's range names; the caller's own label where the range is unset or not in
 // the recording. Nothing is copied, and nothing refused.
-pub fn stage_label<'a>(recording: &'a [u8], string: Part, own: &'a [u8]) -> &'a [u8]
+pub fn stage_label<'a>(recording: &'a [u8], string: Content, own: &'a [u8]) -> &'a [u8]
     ensures { λ r. ⌜ LabelPromise (now (recording .entry)) string (now (own .entry)) (now r) ⌝ }
 {
     match string {
-        Part::Unset => own,
-        Part::At(range) => {
+        Content::Unset => own,
+        Content::At(range) => {
             let at = range.at;
             let length = range.length;
             let end = recording.len() as u64;

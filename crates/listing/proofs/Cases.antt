@@ -5,7 +5,7 @@ use Rattle.header.specs.Header.{sized, named, headerOf}
 use Rattle.header.specs.Reads.{headerRead, headerAt}
 use Rattle.kinds.specs.Elements.{elements}
 use Rattle.kinds.specs.Kinds.{kindIn, keeps, demoted, kindUnder}
-use Rattle.kinds.specs.Kinds.{member as memberOf}
+use Rattle.kinds.specs.Kinds.{member}
 use Rattle.utf8.specs.Utf8.{utf8Char, behind, anyOf, goesOn, utf8}
 use Rattle.bodies.specs.Bodies.{bodyOf}
 use Rattle.elements.specs.Forest.{span, count, join}
@@ -14,21 +14,21 @@ use Rattle.elements.specs.Rows.{rows}
 use Rattle.elements.specs.Promise.{isTable, allowed, filled}
 use Rattle.seeks.specs.Seeks.{headOf, lastFour, withMembers, entryOf, entries}
 use Rattle.seeks.specs.Table.{later, latestFrom}
-use Rattle.seektable.specs.Heads.{member, sought, chain}
+use Rattle.seektable.specs.Heads.{sought, chain}
 use Rattle.seektable.specs.Lookup.{byHeads}
-use Rattle.segments.specs.Walk.{toSegment, segmentOf, visit, walk, children, placeOf}
+use Rattle.segments.specs.Walk.{toSegment, segmentOf, visit, walk, children, lookupOf}
 use Rattle.search.specs.Part.{parentOf, searchOf}
 use Rattle.pages.specs.Text.{glyph, numeral}
 use Rattle.rowtext.specs.Lines.{kindWord, rowPlace, rowLine, rowLines}
-use Rattle.listing.specs.Listing.{partPlace, searchText, partLines, allParts, listingOf}
+use Rattle.listing.specs.Listing.{placeText, searchText, partLines, allParts, listingOf}
 use Rattle.listing.specs.Cases.{cases, Hold}
 
 pub cases-hold : Hold cases
 unfolding octetBits bits oneMore widthOf bigEndianFrom bigEndian ofWidth vintOf sized named headerOf headerRead
     headerAt
-    elements kindIn keeps demoted kindUnder memberOf utf8Char behind anyOf goesOn utf8 bodyOf
+    elements kindIn keeps demoted kindUnder utf8Char behind anyOf goesOn utf8 bodyOf
     span count join refuseIf full siblings element masterBody rows isTable allowed filled
     headOf lastFour withMembers entryOf entries later latestFrom member sought chain byHeads
-    toSegment segmentOf visit walk children placeOf parentOf searchOf
-    glyph numeral kindWord rowPlace rowLine rowLines partPlace searchText partLines allParts listingOf
+    toSegment segmentOf visit walk children lookupOf parentOf searchOf
+    glyph numeral kindWord rowPlace rowLine rowLines placeText searchText partLines allParts listingOf
 cases-hold = (refl, (refl, (refl, tt)))

@@ -16,7 +16,7 @@ use Rattle.search.proofs.Found.{found-holds}
 use Rattle.pages.specs.Text.{ascii, decimal, hexadecimal}
 use Rattle.pages.specs.Page.{written, Wrote}
 use Rattle.rowtext.specs.Lines.{rowLines}
-use Rattle.listing.specs.Listing.{mostListed, tableNumbers, partPlace, searchText, partLines}
+use Rattle.listing.specs.Listing.{mostListed, tableNumbers, placeText, searchText, partLines}
 use Rattle.listing.specs.Listing.{allParts, listingOf}
 use Rattle.listing.specs.Promise.{ListingPromise}
 use Rattle.pages.proofs.Pages.{then}
@@ -55,14 +55,14 @@ module _ (s : List ℕ) (part : ℕ) (t t′ : List ℕ) (l : length t ≡ table
     pub found-few : n ≤ 1024
     found-few = let h = found-holds s part t at size n heads t′ p .fits in omega arith
 
-    pub found-text : searchText (searchOf s part tableNumbers) ≡ partPlace at size n ++ rowLines (rowsOf t′ n)
+    pub found-text : searchText (searchOf s part tableNumbers) ≡ placeText at size n ++ rowLines (rowsOf t′ n)
     unfolding searchText
     found-text =
         let h = found-holds s part t at size n heads t′ p in
         let f = h .forest in
         ap (λ (x : ℕ). searchText (searchOf s part x)) (sym l) ∙ ap searchText (h .searched)
-        ∙ ap (λ (x : ℕ). partPlace at size x ++ rowLines (rows 0 0 at 0 f)) (sym (h .counted))
-        ∙ ap (λ (x : List Row). partPlace at size n ++ rowLines x) (sym (h .rows-are))
+        ∙ ap (λ (x : ℕ). placeText at size x ++ rowLines (rows 0 0 at 0 f)) (sym (h .counted))
+        ∙ ap (λ (x : List Row). placeText at size n ++ rowLines x) (sym (h .rows-are))
 
 -- The part's id, and what the search comes to.
 pub part-text :

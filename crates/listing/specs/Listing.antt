@@ -18,8 +18,8 @@ abbrev pub tableNumbers : ℕ
 tableNumbers = 1024 * width
 
 -- The payload's address and size, and how many rows it has.
-unfoldable pub partPlace : ℕ → ℕ → ℕ → List ℕ
-partPlace at size rows =
+unfoldable pub placeText : ℕ → ℕ → ℕ → List ℕ
+placeText at size rows =
     ascii " at " ++ decimal at ++ ascii " size " ++ decimal size ++ ascii " rows " ++ decimal rows ++ ascii "\n"
 
 -- What stands behind a part's id: that it is absent; the refusal's number, without an id; or where it is, and directly
@@ -27,7 +27,7 @@ partPlace at size rows =
 unfoldable pub searchText : Search → List ℕ
 searchText (absent heads) = ascii " absent\n"
 searchText (refused e) = ascii " refused " ++ decimal (e .number) ++ ascii "\n"
-searchText (found at size heads f) = partPlace at size (count f) ++ rowLines (rows 0 0 at 0 f)
+searchText (found at size heads f) = placeText at size (count f) ++ rowLines (rows 0 0 at 0 f)
 
 unfoldable pub partLines : List ℕ → ℕ → List ℕ
 partLines s part = ascii "part " ++ hexadecimal part ++ searchText (searchOf s part tableNumbers)

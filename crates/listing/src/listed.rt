@@ -4,7 +4,7 @@ ghost use Prim.Native.Nat.{_+_, _*_, _≤_};
 ghost use lib.ListN.{length};
 ghost use Rattle.pages.specs.Page.{Wrote};
 ghost use Rattle.rowtext.specs.Room.{lineRoom};
-ghost use Rattle.listing.specs.Listing.{partPlace, partLines, allParts, tableNumbers};
+ghost use Rattle.listing.specs.Listing.{placeText, partLines, allParts, tableNumbers};
 ghost use Rattle.listing.specs.Room.{partRoom};
 ghost use Rattle.listing.specs.Promise.{ListingPromise};
 use elements::WIDTH;
@@ -26,9 +26,9 @@ const TABLE: usize = 1024 * WIDTH;
 pub const PAGE: usize = 524928;
 
 // Where a part is: its payload's address and size, and how many rows it has.
-fn part_place(page: &mut [u8], held: usize, at: u64, size: u64, rows: u64) -> usize
+fn place_text(page: &mut [u8], held: usize, at: u64, size: u64, rows: u64) -> usize
     requires { ⌜ held + lineRoom ≤ length (now page) ⌝ }
-    ensures { λ r. ⌜ Wrote (now (page .entry)) held (partPlace at size rows) r (now (page .exit)) ⌝ }
+    ensures { λ r. ⌜ Wrote (now (page .entry)) held (placeText at size rows) r (now (page .exit)) ⌝ }
     ensures { λ r. ⌜ r ≤ held + 80 ⌝ }
 {
     let placed = put_decimal(page, held, b" at ", at);
@@ -57,7 +57,7 @@ fn part_lines(page: &mut [u8], held: usize, recording: &[u8], part: u32, table: 
             rows,
             heads,
         } => {
-            let placed = part_place(page, named, at, size, rows);
+            let placed = place_text(page, named, at, size, rows);
             row_lines(page, placed, table, rows as usize)
         }
     }

@@ -16,15 +16,15 @@ use Rattle.elements.proofs.Numbered.{length-rows-of, row-of, each-at}
 use Rattle.elements.proofs.Outcomes.{of-refuse}
 use Rattle.elements.proofs.Readback.{accepted-read}
 use Rattle.elements.proofs.Sound.{rows-sound}
-use Rattle.places.specs.Payload.{range, placeOf}
+use Rattle.places.specs.Payload.{range, payloadRange}
 use Rattle.places.specs.Theorems.{RowsHaveRanges}
 
 -- ---- the range of a row
 
 ranged : (s t : List ℕ) (k : ℕ) → allowed s 0 (length t) ≡ true → k < length t / width
     → rowAt t k .address + rowAt t k .header + rowAt t k .payload ≤ length s
-    → placeOf s t k ≡ range (rowAt t k .address + rowAt t k .header) (rowAt t k .payload)
-unfolding placeOf
+    → payloadRange s t k ≡ range (rowAt t k .address + rowAt t k .header) (rowAt t k .payload)
+unfolding payloadRange
 ranged s t k a l i =
     rw (
       a,

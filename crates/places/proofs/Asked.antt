@@ -17,7 +17,7 @@ use Rattle.elements.specs.declared.reply.ReadReply.the-variants.{Rows, Refused 
 use Rattle.elements.proofs.Outcomes.{refuses, passes}
 use Rattle.elements.proofs.Readback.{accepted-read}
 use Rattle.places.specs.Whose.{whoseIn, askedOf, whoseOf}
-use Rattle.places.specs.Promise.{told, WhosePromise}
+use Rattle.places.specs.Promise.{whoseTold, WhosePromise}
 use Rattle.places.specs.declared.whose.WhoseReply.{WhoseReply}
 use Rattle.places.specs.declared.whose.WhoseReply.the-variants.{Refused}
 
@@ -37,7 +37,7 @@ asked-rows s start size parent t t′ n p =
 module _ (s : List ℕ) (start size parent x : ℕ) (t t′ : List ℕ) where
   -- The reply and the table that tell the question's outcome.
   outcome-told :
-      (r : WhoseReply) (o : Outcome) → askedOf s start size parent x (length t) ≡ o → told r ≡ whoseOf start x o
+      (r : WhoseReply) (o : Outcome) → askedOf s start size parent x (length t) ≡ o → whoseTold r ≡ whoseOf start x o
       → t′ ≡ tableOf start (length t) o → WhosePromise s start size parent x t r t′
   outcome-told r o e q z = record { reply = rw e q; table = rw e z }
 
@@ -75,7 +75,7 @@ module _ (s : List ℕ) (start size parent x : ℕ) (t t′ : List ℕ) where
 
       pub asked-found :
           (n : ℕ) (r : WhoseReply) → ReadPromise s start size parent t (Rows n) t′
-          → told r ≡ whoseIn (rowsOf t′ n) 0 n x → WhosePromise s start size parent x t r t′
+          → whoseTold r ≡ whoseIn (rowsOf t′ n) 0 n x → WhosePromise s start size parent x t r t′
       asked-found n r p q =
           let i = accepted-read s start size parent t n t′ p in
           let o = readOf s start size parent (length t) in

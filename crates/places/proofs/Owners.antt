@@ -11,17 +11,16 @@ use borrow.Author.Tests.{not-false}
 use Rattle.header.specs.Reply.{accepted}
 use Rattle.elements.specs.Forest.{Forest, count}
 use Rattle.elements.specs.Reading.{done}
-use Rattle.elements.specs.Rows.{rows, width, flatten, rowsOf}
+use Rattle.elements.specs.Rows.{rows, width, flatten, rowsOf, nth}
 use Rattle.elements.specs.Holds.{within, inHeader, inLeaf, one, holders}
 use Rattle.elements.specs.Promise.{readOf, zeros, tableOf}
-use Rattle.elements.specs.Theorems.{nth}
 use Rattle.elements.specs.declared.row.Row.{Row}
 use Rattle.elements.proofs.Forests.{length-rows}
 use Rattle.elements.proofs.Outcomes.{passes, of-refuse}
 use Rattle.elements.proofs.Partition.{covered}
 use Rattle.elements.proofs.Readback.{rows-back}
 use Rattle.places.specs.Whose.{holderIn, whoseIn, askedOf, whoseOf}
-use Rattle.places.specs.Promise.{told, WhosePromise}
+use Rattle.places.specs.Promise.{whoseTold, WhosePromise}
 use Rattle.places.specs.Theorems.{Owner, OneRowOwns}
 use Rattle.places.specs.declared.whose.WhoseReply.{WhoseReply}
 use Rattle.places.specs.declared.whose.WhoseReply.the-variants.{Header, Payload}
@@ -150,7 +149,7 @@ row-owns s start size parent x t r t′ f p q =
     let h : holders rs x ≡ 1 = covered s start size parent (length t) f o x ∙ ap one i in
     let g = found rs 0 (count f) x h in
     let c : count f ≡ length rs = sym (length-rows 0 0 start 0 f) in
-    let y : told r ≡ whoseIn rs 0 (count f) x = p .reply ∙ ap (whoseOf start x) q in
+    let y : whoseTold r ≡ whoseIn rs 0 (count f) x = p .reply ∙ ap (whoseOf start x) q in
     let k : 0 + g .n ≡ g .n = zero-add (g .n) in
     subst (λ (us : List Row). Owner us x r) (sym (table-rows s start size parent x t r t′ f p q))
     (record {

@@ -15,7 +15,7 @@ use Rattle.elements.specs.Rows.{width, rowAt}
 use Rattle.elements.specs.Promise.{allowed}
 use Rattle.elements.specs.declared.row.Row.{Row}
 use Rattle.elements.proofs.Limits.{within}
-use Rattle.places.specs.Payload.{Place, range, refused, placeOf, partOf}
+use Rattle.places.specs.Payload.{PayloadRange, range, refused, payloadRange, bytesOf}
 use Rattle.places.specs.Promise.{valuesOf, rangeTold, RangePromise, PayloadPromise}
 use Rattle.places.specs.declared.payload.RangeReply.the-variants.{Range as RangeIs, Refused}
 
@@ -24,19 +24,19 @@ use Rattle.places.specs.declared.payload.RangeReply.the-variants.{Range 
 module _ (s t : List ℕ) (k : ℕ) where
   pub not-allowed : (e : Refusal) → allowed s 0 (length t) ≡ false → e ≡ badArgument
       → RangePromise s t k (Refused e)
-  unfolding placeOf
+  unfolding payloadRange
   not-allowed e a b = record { reply = rw (a, b) }
 
   module _ (a : allowed s 0 (length t) ≡ true) where
     pub no-row : (e : Refusal) → length t / width ≤ k → e ≡ badArgument → RangePromise s t k (Refused e)
-    unfolding placeOf
+    unfolding payloadRange
     no-row e l b = record { reply = rw (a, le-ltb k (length t / width) l, b) }
 
     module _ (l : k < length t / width) (r : Row) (q : r ≡ rowAt t k) where
       pub past-end :
           (e : Refusal) → length s < r .address + r .header + r .payload → e ≡ badArgument
           → RangePromise s t k (Refused e)
-      unfolding placeOf
+      unfolding payloadRange
       past-end e h b =
           let z = lt-leb (r .address + r .header + r .payload) (length s) h in
           record { reply = rw (a, lt-ltb k (length t / width) l, ← q, z, b) }
@@ -44,18 +44,18 @@ module _ (s t : List ℕ) (k : ℕ) where
       pub range-is :
           r .address + r .header + r .payload ≤ length s
           → RangePromise s t k (RangeIs (record { at = r .address + r .header; length = r .payload }))
-      unfolding placeOf
+      unfolding payloadRange
       range-is h =
           let z = le-leb (r .address + r .header + r .payload) (length s) h in
           record { reply = rw (a, lt-ltb k (length t / width) l, ← q, z) }
 
 -- ---- what a reply tells
 
-pub told-range : (p : Place) (r : Range) → rangeTold (RangeIs r) ≡ valuesOf p → p ≡ range (r .at) (r .length)
+pub told-range : (p : PayloadRange) (r : Range) → rangeTold (RangeIs r) ≡ valuesOf p → p ≡ range (r .at) (r .length)
 told-range (range at n) r q = cc
 told-range (refused e) r q = let z : _≡_ {A = ℕ} 0 1 = cc in absurd (omega arith)
 
-pub told-none : (s : List ℕ) (p : Place) (e : Refusal) → rangeTold (Refused e) ≡ valuesOf p → [] ≡ partOf s p
+pub told-none : (s : List ℕ) (p : PayloadRange) (e : Refusal) → rangeTold (Refused e) ≡ valuesOf p → [] ≡ bytesOf s p
 told-none s (range at n) e q = let z : _≡_ {A = ℕ} 0 1 = cc in absurd (omega arith)
 told-none s (refused e′) e q = refl
 
@@ -64,8 +64,8 @@ pub record Inside (s : List ℕ) (at n : ℕ) : Type 0 where
   pub ends : at + n ≤ length s
   pub short : length s ≤ mostBytes
 
-pub place-inside : (s t : List ℕ) (k at n : ℕ) → placeOf s t k ≡ range at n → Inside s at n
-unfolding placeOf
+pub place-inside : (s t : List ℕ) (k at n : ℕ) → payloadRange s t k ≡ range at n → Inside s at n
+unfolding payloadRange
 place-inside s t k at n q =
     let r = rowAt t k in
     go r (allowed s 0 (length t)) refl (ltb k (length t / width))
@@ -86,8 +86,8 @@ place-inside s t k at n q =
     go r false e b c g w = let z : _≡_ {A = ℕ} 0 1 = cc in absurd (omega arith)
 
 -- Each refusal of a range is 14.
-pub place-refused : (s t : List ℕ) (k : ℕ) (e : Refusal) → placeOf s t k ≡ refused e → e ≡ badArgument
-unfolding placeOf
+pub place-refused : (s t : List ℕ) (k : ℕ) (e : Refusal) → payloadRange s t k ≡ refused e → e ≡ badArgument
+unfolding payloadRange
 place-refused s t k e q =
     let r = rowAt t k in
     go r
@@ -101,8 +101,8 @@ place-refused s t k e q =
     go r false w = let z : badArgument ≡ e = cc in sym z
 
 -- A row with a range is in the table.
-pub place-row : (s t : List ℕ) (k at n : ℕ) → placeOf s t k ≡ range at n → k < length t / width
-unfolding placeOf
+pub place-row : (s t : List ℕ) (k at n : ℕ) → payloadRange s t k ≡ range at n → k < length t / width
+unfolding payloadRange
 place-row s t k at n q =
     let r = rowAt t k in
     go (allowed s 0 (length t)) (ltb k (length t / width)) refl
@@ -118,7 +118,7 @@ place-row s t k at n q =
 
 module _ (s t : List ℕ) (k : ℕ) where
   pub range-inside : (r : Range) → RangePromise s t k (RangeIs r) → Inside s (r .at) (r .length)
-  range-inside r p = place-inside s t k (r .at) (r .length) (told-range (placeOf s t k) r (p .reply))
+  range-inside r p = place-inside s t k (r .at) (r .length) (told-range (payloadRange s t k) r (p .reply))
 
   -- The part from the range's first byte up to its end.
   pub part-is :
@@ -126,7 +126,7 @@ module _ (s t : List ℕ) (k : ℕ) where
       → PayloadPromise s t k (take (r .at + r .length - r .at) (drop (r .at) s))
   part-is r p =
       let e : r .at + r .length - r .at ≡ r .length = omega arith in
-      record { reply = rw e (sym (ap (partOf s) (told-range (placeOf s t k) r (p .reply)))) }
+      record { reply = rw e (sym (ap (bytesOf s) (told-range (payloadRange s t k) r (p .reply)))) }
 
   pub part-none : (e : Refusal) → RangePromise s t k (Refused e) → PayloadPromise s t k []
-  part-none e p = record { reply = told-none s (placeOf s t k) e (p .reply) }
+  part-none e p = record { reply = told-none s (payloadRange s t k) e (p .reply) }

@@ -8,7 +8,7 @@ use Rattle.header.specs.Reply.{Reply, accepted, refusal}
 use Rattle.elements.specs.Reading.{Outcome}
 use Rattle.elements.specs.Promise.{tableOf}
 use Rattle.places.specs.Whose.{askedOf, whoseOf}
-use Rattle.places.specs.Promise.{rangeTold, told}
+use Rattle.places.specs.Promise.{rangeTold, whoseTold}
 use Rattle.places.specs.Theorems.{OneRange, OnePayload, OneOwner}
 use Rattle.places.specs.declared.payload.RangeReply.{RangeReply}
 use Rattle.places.specs.declared.payload.RangeReply.the-variants.{Range, Refused as RangeRefused}
@@ -32,7 +32,7 @@ replied (accepted values) =
     (Payload (getD values 0 0) (getD values 2 0))
 replied (refusal number id) = Refused (record { number = number; id = id })
 
-pub replied-back : (r : WhoseReply) → replied (told r) ≡ r
+pub replied-back : (r : WhoseReply) → replied (whoseTold r) ≡ r
 replied-back (Header row rows) = refl
 replied-back (Payload row rows) = refl
 replied-back (Refused e) = refl

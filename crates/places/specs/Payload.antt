@@ -10,13 +10,13 @@ use Rattle.elements.specs.Rows.{width, rowAt}
 use Rattle.elements.specs.Promise.{allowed}
 
 -- The address of the payload's first byte and how many there are, or a refusal.
-pub data Place : Type 0 where
-  range : ℕ → ℕ → Place
-  refused : Refusal → Place
+pub data PayloadRange : Type 0 where
+  range : ℕ → ℕ → PayloadRange
+  refused : Refusal → PayloadRange
 
 -- The range of row k, which is in the table and whose range is in the recording; else 14.
-unfoldable pub placeOf : List ℕ → List ℕ → ℕ → Place
-placeOf s t k =
+unfoldable pub payloadRange : List ℕ → List ℕ → ℕ → PayloadRange
+payloadRange s t k =
     let r = rowAt t k in
     cond
     (allowed s 0 (length t)
@@ -25,6 +25,6 @@ placeOf s t k =
     (refused badArgument)
 
 -- The part of the recording; nothing on a refusal.
-abbrev pub partOf : List ℕ → Place → List ℕ
-partOf s (range at n) = take n (drop at s)
-partOf s (refused e) = []
+abbrev pub bytesOf : List ℕ → PayloadRange → List ℕ
+bytesOf s (range at n) = take n (drop at s)
+bytesOf s (refused e) = []

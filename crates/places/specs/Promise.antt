@@ -5,7 +5,7 @@ use mathlib.Core.List.{List, [], _∷_}
 use lib.ListN.{length}
 use Rattle.header.specs.Reply.{Reply, accepted, refusalOf}
 use Rattle.elements.specs.Promise.{tableOf}
-use Rattle.places.specs.Payload.{Place, range, refused, placeOf, partOf}
+use Rattle.places.specs.Payload.{PayloadRange, range, refused, payloadRange, bytesOf}
 use Rattle.places.specs.Whose.{askedOf, whoseOf}
 use Rattle.places.specs.declared.payload.RangeReply.{RangeReply}
 use Rattle.places.specs.declared.payload.RangeReply.the-variants.{Range, Refused as RangeRefused}
@@ -13,7 +13,7 @@ use Rattle.places.specs.declared.whose.WhoseReply.{WhoseReply}
 use Rattle.places.specs.declared.whose.WhoseReply.the-variants.{Header, Payload, Refused}
 
 -- Document 01's values for a range, and number for a refusal.
-abbrev pub valuesOf : Place → Reply
+abbrev pub valuesOf : PayloadRange → Reply
 valuesOf (range at n) = accepted (at ∷ n ∷ [])
 valuesOf (refused e) = refusalOf e
 
@@ -22,19 +22,19 @@ rangeTold (Range r) = accepted (r .at ∷ r .length ∷ [])
 rangeTold (RangeRefused e) = refusalOf e
 
 pub record RangePromise (s t : List ℕ) (row : ℕ) (r : RangeReply) : Type 0 where
-  pub reply : rangeTold r ≡ valuesOf (placeOf s t row)
+  pub reply : rangeTold r ≡ valuesOf (payloadRange s t row)
 
 -- The octets of the part that is handed back.
 pub record PayloadPromise (s t : List ℕ) (row : ℕ) (part : List ℕ) : Type 0 where
-  pub reply : part ≡ partOf s (placeOf s t row)
+  pub reply : part ≡ bytesOf s (payloadRange s t row)
 
 -- Document 01's values and number for each case of `WhoseReply`.
-abbrev pub told : WhoseReply → Reply
-told (Header row rows) = accepted (row ∷ 0 ∷ rows ∷ [])
-told (Payload row rows) = accepted (row ∷ 1 ∷ rows ∷ [])
-told (Refused e) = refusalOf e
+abbrev pub whoseTold : WhoseReply → Reply
+whoseTold (Header row rows) = accepted (row ∷ 0 ∷ rows ∷ [])
+whoseTold (Payload row rows) = accepted (row ∷ 1 ∷ rows ∷ [])
+whoseTold (Refused e) = refusalOf e
 
 pub record WhosePromise
     (s : List ℕ) (start size parent x : ℕ) (t : List ℕ) (r : WhoseReply) (t′ : List ℕ) : Type 0 where
-  pub reply : told r ≡ whoseOf start x (askedOf s start size parent x (length t))
+  pub reply : whoseTold r ≡ whoseOf start x (askedOf s start size parent x (length t))
   pub table : t′ ≡ tableOf start (length t) (askedOf s start size parent x (length t))

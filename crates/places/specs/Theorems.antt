@@ -7,13 +7,12 @@ use mathlib.Core.Bool.{true, _||_}
 use lib.ListN.{length}
 use Rattle.elements.specs.Forest.{Forest, count}
 use Rattle.elements.specs.Reading.{done}
-use Rattle.elements.specs.Rows.{rowAt, rowsOf}
+use Rattle.elements.specs.Rows.{rowAt, rowsOf, nth}
 use Rattle.elements.specs.Holds.{inHeader, inLeaf}
-use Rattle.elements.specs.Theorems.{nth}
 use Rattle.elements.specs.Promise.{ReadPromise}
 use Rattle.elements.specs.declared.row.Row.{Row}
 use Rattle.elements.specs.declared.reply.ReadReply.the-variants.{Rows}
-use Rattle.places.specs.Payload.{range, placeOf}
+use Rattle.places.specs.Payload.{range, payloadRange}
 use Rattle.places.specs.Whose.{askedOf}
 use Rattle.places.specs.Promise.{RangePromise, PayloadPromise, WhosePromise}
 use Rattle.places.specs.declared.payload.RangeReply.{RangeReply}
@@ -59,4 +58,4 @@ RowsHaveRanges =
     (s : List ℕ) (start size parent : ℕ) (t : List ℕ) (n : ℕ) (t′ : List ℕ)
     → ReadPromise s start size parent t (Rows n) t′
     → (k : ℕ) → k < n
-    → placeOf s t′ k ≡ range (rowAt t′ k .address + rowAt t′ k .header) (rowAt t′ k .payload)
+    → payloadRange s t′ k ≡ range (rowAt t′ k .address + rowAt t′ k .header) (rowAt t′ k .payload)

@@ -5,7 +5,7 @@ ghost use lib.ListN.{length};
 ghost use Rattle.elements.specs.Rows.{width, rowsOf};
 ghost use Rattle.elements.specs.Holds.{within};
 ghost use Rattle.places.specs.Whose.{holderIn, whoseIn};
-ghost use Rattle.places.specs.Promise.{told, WhosePromise};
+ghost use Rattle.places.specs.Promise.{whoseTold, WhosePromise};
 use elements::ReadReply;
 use elements::Row;
 use elements::clear;
@@ -63,7 +63,7 @@ fn held_by(row: Row, address: u64) -> Holder
 // The first of the table's rows that holds the address.
 fn find(table: &[u64], rows: usize, address: u64) -> WhoseReply
     requires { ⌜ rows ≤ length (now table) / width ⌝ }
-    ensures { λ r. ⌜ told r ≡ whoseIn (rowsOf (now (table .entry)) rows) 0 rows address ⌝ }
+    ensures { λ r. ⌜ whoseTold r ≡ whoseIn (rowsOf (now (table .entry)) rows) 0 rows address ⌝ }
 {
     let mut n: usize = 0;
     while n < rows {

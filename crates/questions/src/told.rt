@@ -3,7 +3,7 @@ use bodies::Range;
 use fields::Flag;
 use fields::Language;
 use fields::Number;
-use fields::Part;
+use fields::Content;
 use fields::Real;
 use header::Refusal;
 use lines::numbers;
@@ -75,11 +75,11 @@ pub fn real(names: &[u8], place: usize, value: Real, out: &mut [u8; 65536], held
 }
 
 // RANGE behind its name.
-pub fn part(names: &[u8], place: usize, value: Part, out: &mut [u8; 65536], held: usize) -> usize {
+pub fn part(names: &[u8], place: usize, value: Content, out: &mut [u8; 65536], held: usize) -> usize {
     let n = name(names, place, out, held);
     match value {
-        Part::Unset => out::put(out, n, b"unset"),
-        Part::At(found) => range(b"", found, out, n),
+        Content::Unset => out::put(out, n, b"unset"),
+        Content::At(found) => range(b"", found, out, n),
     }
 }
 

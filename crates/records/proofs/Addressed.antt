@@ -10,15 +10,14 @@ use lib.Dec.{ltb}
 use Rattle.kinds.specs.declared.kind.Kind.{Kind}
 use Rattle.kinds.specs.declared.kind.Kind.the-variants.{Uint, String, Utf8, Binary, Float}
 use Rattle.elements.specs.Reading.{Outcome, done, refused}
-use Rattle.elements.specs.Rows.{rows, width, rowsOf}
+use Rattle.elements.specs.Rows.{rows, width, rowsOf, nth}
 use Rattle.elements.specs.Promise.{readOf, zeros}
-use Rattle.elements.specs.Theorems.{nth}
 use Rattle.elements.specs.declared.row.Row.{Row}
 use Rattle.elements.proofs.Readback.{rows-back}
 use Rattle.fields.specs.Children.{deeper, subtree, children, lastOf}
 use Rattle.fields.specs.Values.{Value, text, binary}
-use Rattle.fields.specs.Values.{numberIn, flagIn, partIn, realIn, languageIn, valueIn}
-use Rattle.fields.specs.Fields.{numberOf, flagOf, partOf, realOf, languageOf, valueOf, countOf}
+use Rattle.fields.specs.Values.{numberIn, flagIn, contentIn, realIn, languageIn, valueIn}
+use Rattle.fields.specs.Fields.{numberOf, flagOf, contentOf, realOf, languageOf, valueOf, countOf}
 use Rattle.fields.specs.declared.child.Child.{Child}
 use Rattle.fields.specs.declared.child.Child.the-variants.{At as ChildAt, Absent as NoChild}
 use Rattle.fields.proofs.Picked.{last-is}
@@ -112,7 +111,7 @@ module _ (s : List ℕ) (rs : List Row) (parent : ℕ) (l : parent ≤ length rs
       go NoChild e = tt
       go (ChildAt n r) e = child-payload id kind n r e
 
-  part-placed : (c : Child) → Paid c → Placed rs (partIn c)
+  part-placed : (c : Child) → Paid c → Placed rs (contentIn c)
   part-placed NoChild p = tt
   part-placed (ChildAt n r) p = p
 
@@ -148,8 +147,8 @@ module _ (s : List ℕ) (rs : List Row) (parent : ℕ) (l : parent ≤ length rs
   unfolding realOf
   reals id = real-placed (lastOf (children parent id Float below))
 
-  pub parts : (id : ℕ) (kind : Kind) → Placed rs (partOf s parent below id kind)
-  unfolding partOf
+  pub parts : (id : ℕ) (kind : Kind) → Placed rs (contentOf s parent below id kind)
+  unfolding contentOf
   parts id kind = part-placed (lastOf (children parent id kind below)) (paid id kind)
 
   pub languages : (isos ietfs : ℕ) → Placed rs (languageOf s parent below isos ietfs)

@@ -28,7 +28,7 @@ use Rattle.fields.specs.Contract.{BelowIs}
 use Rattle.fields.specs.declared.child.Below.{Below}
 use Rattle.records.specs.Steps.{reached}
 use Rattle.records.specs.Asked.{Asked, found, refusing, settled, sought, asked, tableAfter}
-use Rattle.records.specs.Contract.{LocatePromise}
+use Rattle.records.specs.Contract.{LocateMet}
 use Rattle.records.specs.Theorems.{RecordIsRead}
 use Rattle.records.specs.declared.locate.Step.{Step}
 use Rattle.records.specs.declared.locate.Spot.{Spot}
@@ -54,7 +54,7 @@ module _ (s : List ℕ) (start size parent : ℕ) (t : List ℕ) (first second t
 
   pub read-refused :
       (e : Refusal) (t′ : List ℕ) → ReadPromise s start size parent t (ReadRefused e) t′
-      → LocatePromise s question (length t) (Refused e) t′
+      → LocateMet s question (length t) (Refused e) t′
   unfolding asked tableOf
   read-refused e t′ p =
       let o = told-refused e (readOf s start size parent (length t)) (p .reply) in
@@ -77,7 +77,7 @@ module _ (s : List ℕ) (start size parent : ℕ) (t : List ℕ) (first second t
 
     pub no-spot :
         (e : Refusal) (t′ : List ℕ) → Absent ≡ reached (rowsOf t₁ n) first second third → e ≡ noRecord
-        → t′ ≡ zeros (length t₁) → LocatePromise s question (length t) (Refused e) t′
+        → t′ ≡ zeros (length t₁) → LocateMet s question (length t) (Refused e) t′
     no-spot e t′ w q z =
         let a = accepted-read s start size parent t n t₁ p in
         let d : question ≡ refusing e = came Absent w ∙ ap refusing (sym q) in
@@ -102,7 +102,7 @@ module _ (s : List ℕ) (start size parent : ℕ) (t : List ℕ) (first second t
 
     pub at-spot :
         (to : ℕ) (b : Below) → SpotAt to ≡ reached (rowsOf t₁ n) first second third → BelowIs t₁ n to b
-        → LocatePromise s question (length t) (At b n) t₁
+        → LocateMet s question (length t) (At b n) t₁
     at-spot to b w h =
         let d : question ≡ found (rowsOf t₁ n) (b .parent)
         = came (SpotAt to) w ∙ ap (found (rowsOf t₁ n)) (sym (h .master)) in

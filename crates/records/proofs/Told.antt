@@ -13,13 +13,13 @@ use Rattle.fields.specs.Values.{Value}
 use Rattle.fields.specs.declared.child.Below.{Below}
 use Rattle.records.specs.Asked.{Asked}
 use Rattle.records.specs.Told.{fields, refuses}
-use Rattle.records.specs.Contract.{Stands, LocatePromise}
+use Rattle.records.specs.Contract.{Stands, LocateMet}
 use Rattle.records.specs.Promise.{answerOf, RecordPromise, ofBelow}
 use Rattle.records.specs.declared.locate.Located.{Located}
 use Rattle.records.specs.declared.locate.Located.the-variants.{At, Refused}
 use Rattle.records.proofs.Ways.{readable}
 
-module _ {s : List ℕ} {a : Asked} {numbers : ℕ} {r : Located} {t′ : List ℕ} (p : LocatePromise s a numbers r t′) where
+module _ {s : List ℕ} {a : Asked} {numbers : ℕ} {r : Located} {t′ : List ℕ} (p : LocateMet s a numbers r t′) where
   pub told-refused : {values : List Row → ℕ → List Value} {e : Refusal} → r ≡ Refused e
       → RecordPromise values a numbers (refuses e) t′
   told-refused {values} q = record { reply = sym (ap (answerOf values) ((rw q at p) .reply)); table = p .table }
@@ -44,6 +44,6 @@ module _ {s : List ℕ} {a : Asked} {numbers : ℕ} {r : Located} {t′ : List �
 
 -- The same of a record that is built of the rows below its master.
 module _ (values : List ℕ → ℕ → List Row → List Value) {s : List ℕ} {a : Asked} {numbers : ℕ} {r : Located} where
-  pub told-below : {t′ : List ℕ} {b : Below} {n : ℕ} {vs : List Value} → LocatePromise s a numbers r t′ → r ≡ At b n
+  pub told-below : {t′ : List ℕ} {b : Below} {n : ℕ} {vs : List Value} → LocateMet s a numbers r t′ → r ≡ At b n
       → vs ≡ values s (b .parent) (rowsIn t′ b) → RecordPromise (ofBelow (values s)) a numbers (fields vs n) t′
   told-below {b = b} p q e = told-found p q (e ∙ ap (values s (b .parent)) (stands-at p q .below .are))

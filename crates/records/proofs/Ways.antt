@@ -9,8 +9,8 @@ use lib.Dec.{ltb, eqb}
 use borrow.Author.Tests.{eq-eqb, ne-eqb}
 use Rattle.kinds.specs.declared.kind.Kind.{Kind}
 use Rattle.kinds.specs.declared.kind.Kind.the-variants.{Master}
-use Rattle.elements.specs.Rows.{rowsOf}
-use Rattle.elements.specs.Theorems.{Each, Sound, nth}
+use Rattle.elements.specs.Rows.{rowsOf, nth}
+use Rattle.elements.specs.Theorems.{Each, Sound}
 use Rattle.elements.specs.declared.row.Row.{Row}
 use Rattle.elements.proofs.Numbered.{length-rows-of}
 use Rattle.fields.specs.Children.{deeper, subtree, children, lastOf, nthOf, rowsIn}

@@ -39,6 +39,6 @@ abbrev pub Answers : List ℕ → List ℕ → Asked → Located → Type 0
 Answers s t a (At b rows) = (a ≡ found (rowsOf t rows) (b .parent)) × Stands s t rows b
 Answers s t a (Refused e) = a ≡ refusing e
 
-pub record LocatePromise (s : List ℕ) (a : Asked) (numbers : ℕ) (r : Located) (t′ : List ℕ) : Type 0 where
+pub record LocateMet (s : List ℕ) (a : Asked) (numbers : ℕ) (r : Located) (t′ : List ℕ) : Type 0 where
   pub reply : Answers s t′ a r
   pub table : t′ ≡ tableAfter numbers a

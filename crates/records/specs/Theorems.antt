@@ -3,12 +3,11 @@ use Prim.Native.Nat.{ℕ, _+_, _<_}
 use mathlib.Core.Path.{_≡_}
 use mathlib.Core.List.{List, [], _∷_}
 use lib.ListN.{length}
-use Rattle.elements.specs.Rows.{rowsOf}
+use Rattle.elements.specs.Rows.{rowsOf, nth}
 use Rattle.elements.specs.Promise.{ReadPromise}
-use Rattle.elements.specs.Theorems.{nth}
 use Rattle.elements.specs.declared.row.Row.{Row}
 use Rattle.elements.specs.declared.reply.ReadReply.the-variants.{Rows}
-use Rattle.fields.specs.Values.{Value, unset, number, flag, part, iso, ietf, text, binary, real, count}
+use Rattle.fields.specs.Values.{Value, unset, number, flag, content, iso, ietf, text, binary, real, count}
 use Rattle.fields.specs.declared.child.Child.{Child}
 use Rattle.records.specs.Asked.{Asked, found, asked, listed, tableAfter}
 use Rattle.records.specs.Told.{Answer, fields}
@@ -36,7 +35,7 @@ abbrev pub Placed : List Row → Value → Type 0
 Placed rs unset = Unit
 Placed rs (number v) = Unit
 Placed rs (flag b) = Unit
-Placed rs (part at n) = PayloadOf rs at n
+Placed rs (content at n) = PayloadOf rs at n
 Placed rs (iso at n) = PayloadOf rs at n
 Placed rs (ietf at n) = PayloadOf rs at n
 Placed rs (text at n) = PayloadOf rs at n

@@ -6,7 +6,7 @@ ghost use Rattle.elements.specs.Rows.{width, rowsOf};
 ghost use Rattle.fields.specs.Contract.{AllJump};
 ghost use Rattle.records.specs.Steps.{spotOf, entered, reached};
 ghost use Rattle.records.specs.Asked.{asked};
-ghost use Rattle.records.specs.Contract.{Numbered, Known, LocatePromise};
+ghost use Rattle.records.specs.Contract.{Numbered, Known, LocateMet};
 use elements::ReadReply;
 use elements::clear;
 use elements::read;
@@ -99,7 +99,7 @@ pub fn locate(
     third: Step,
     table: &mut [u64],
 ) -> Located
-    ensures { λ r. ⌜ LocatePromise (now (recording .entry))
+    ensures { λ r. ⌜ LocateMet (now (recording .entry))
         (asked (now (recording .entry)) start size parent (length (now (table .entry))) first second third)
         (length (now (table .entry))) r (now (table .exit)) ⌝ }
 {

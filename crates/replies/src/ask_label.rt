@@ -1,6 +1,6 @@
 // `label RANGE LABEL BYTES`: the label of a boot stage.
 use bodies::Range;
-use fields::Part;
+use fields::Content;
 use labels::stage_label;
 use lines::numbers;
 use lines::words;
@@ -42,12 +42,12 @@ fn label_told<'a>(
 }
 
 // RANGE
-fn part_of(asked: Asked) -> Part {
+fn part_of(asked: Asked) -> Content {
     if asked.set {
-        return Part::At(Range {
+        return Content::At(Range {
             at: asked.at,
             length: asked.size,
         });
     }
-    Part::Unset
+    Content::Unset
 }

@@ -11,19 +11,19 @@ use Rattle.header.specs.declared.refusal.Refusal.{Refusal}
 use Rattle.elements.specs.Reading.{Outcome, done}
 use Rattle.elements.specs.Reading.{refused as unread}
 use Rattle.elements.specs.Promise.{allowed, filled, readOf, zeros, ReadPromise}
-use Rattle.elements.specs.Promise.{replyOf as readReply, tableOf as readTable, told as readTold}
+use Rattle.elements.specs.Promise.{replyOf as readReply, tableOf as readTable, readTold}
 use Rattle.elements.specs.declared.reply.ReadReply.the-variants.{Rows, Refused as ReadRefused}
 use Rattle.elements.proofs.Outcomes.{passes}
 use Rattle.elements.proofs.Limits.{within, by-start}
 use Rattle.seektable.specs.Answers.{onOutcome}
-use Rattle.seektable.specs.Lookup.{Place}
+use Rattle.seektable.specs.Lookup.{Lookup}
 use Rattle.seektable.specs.Lookup.{found as foundAt, absent as absentAt, stopped as stoppedAt}
 use Rattle.seektable.specs.Contract.{placeTold}
 use Rattle.seektable.specs.declared.lookup.PartPlace.the-variants.{Found as PlaceFound}
 use Rattle.seektable.specs.declared.lookup.PartPlace.the-variants.{Absent as PlaceAbsent, Refused as PlaceRefused}
-use Rattle.segments.specs.Walk.{placeOf}
-use Rattle.search.specs.Part.{parentOf, Search, found, absent, refused, onPlace, searchOf}
-use Rattle.search.specs.Part.{replyOf, tableOf, told, PartPromise}
+use Rattle.segments.specs.Walk.{lookupOf}
+use Rattle.search.specs.Part.{parentOf, Search, found, absent, refused, onLookup, searchOf}
+use Rattle.search.specs.Part.{replyOf, tableOf, partTold, PartPromise}
 use Rattle.search.specs.declared.part.Parent.the-variants.{Id, NoPart}
 use Rattle.search.specs.declared.part.PartReply.{PartReply}
 use Rattle.search.specs.declared.part.PartReply.the-variants.{Found, Absent, Refused}
@@ -31,18 +31,18 @@ use Rattle.search.proofs.Trusty.{found-inside}
 
 -- ---- what a place told
 
-told-stopped : (e : Refusal) (p : Place) → PlaceRefused e ≡ placeTold p → p ≡ stoppedAt e
+told-stopped : (e : Refusal) (p : Lookup) → PlaceRefused e ≡ placeTold p → p ≡ stoppedAt e
 told-stopped e (foundAt at size heads) q = let z : _≡_ {A = ℕ} 0 1 = cc in absurd (omega arith)
 told-stopped e (absentAt heads) q = let z : _≡_ {A = ℕ} 0 1 = cc in absurd (omega arith)
 told-stopped e (stoppedAt e′) q = cc
 
-told-absent : (n : ℕ) (p : Place) → PlaceAbsent n ≡ placeTold p
+told-absent : (n : ℕ) (p : Lookup) → PlaceAbsent n ≡ placeTold p
     → (heads : List ℕ) × (p ≡ absentAt heads) × (n ≡ length heads)
 told-absent n (foundAt at size heads) q = let z : _≡_ {A = ℕ} 0 1 = cc in absurd (omega arith)
 told-absent n (absentAt heads) q = (heads, refl, cc)
 told-absent n (stoppedAt e) q = let z : _≡_ {A = ℕ} 0 1 = cc in absurd (omega arith)
 
-told-found : (at size n : ℕ) (p : Place) → PlaceFound at size n ≡ placeTold p
+told-found : (at size n : ℕ) (p : Lookup) → PlaceFound at size n ≡ placeTold p
     → (heads : List ℕ) × (p ≡ foundAt at size heads) × (n ≡ length heads)
 told-found at size n (foundAt at′ size′ heads) q = (heads, cc, cc)
 told-found at size n (absentAt heads) q = let z : _≡_ {A = ℕ} 0 1 = cc in absurd (omega arith)
@@ -58,9 +58,9 @@ allowed-at s at numbers a l =
     sym (by-start s at numbers (w .bytes) (w .multiple) (w .few)) ∙ le-leb at (length s) l
 
 pub found-allowed : (s : List ℕ) (part numbers at size n : ℕ) → allowed s 0 numbers ≡ true
-    → PlaceFound at size n ≡ placeTold (placeOf s part) → allowed s at numbers ≡ true
+    → PlaceFound at size n ≡ placeTold (lookupOf s part) → allowed s at numbers ≡ true
 found-allowed s part numbers at size n a w =
-    let (heads, q, l) = told-found at size n (placeOf s part) w in
+    let (heads, q, l) = told-found at size n (lookupOf s part) w in
     allowed-at s at numbers a (found-inside s part at size heads q)
 
 -- ---- the search by its cases
@@ -82,8 +82,8 @@ module _ (s : List ℕ) (part numbers : ℕ) where
     unfolding searchOf
     search-none i = rw (a, i) refl
 
-    search-at : (parent : ℕ) → parentOf part ≡ Id parent → (p : Place) → placeOf s part ≡ p
-        → searchOf s part numbers ≡ onPlace p (reading s numbers parent)
+    search-at : (parent : ℕ) → parentOf part ≡ Id parent → (p : Lookup) → lookupOf s part ≡ p
+        → searchOf s part numbers ≡ onLookup p (reading s numbers parent)
     unfolding searchOf
     search-at parent i p q = rw (a, i, q) refl
 
@@ -97,14 +97,14 @@ read-at s at size parent numbers a = passes _ _ _ (ap not a)
 
 module _ (at size numbers : ℕ) (heads t′ : List ℕ) where
   read-refused : (e : Refusal) (o : Outcome) → readTold (ReadRefused e) ≡ readReply o → t′ ≡ readTable at numbers o
-      → (told (Refused e) ≡ replyOf (as-search at size heads o)) × (t′ ≡ tableOf numbers (as-search at size heads o))
+      → (partTold (Refused e) ≡ replyOf (as-search at size heads o)) × (t′ ≡ tableOf numbers (as-search at size heads o))
   unfolding tableOf readTable
   read-refused e (done f) q w = let z : _≡_ {A = ℕ} 0 1 = cc in absurd (omega arith)
   read-refused e (unread e′) q w = (q, w)
 
   read-rows : (rows n : ℕ) → n ≡ length heads → (o : Outcome) → readTold (Rows rows) ≡ readReply o
       → t′ ≡ readTable at numbers o
-      → (told (Found at size rows n) ≡ replyOf (as-search at size heads o))
+      → (partTold (Found at size rows n) ≡ replyOf (as-search at size heads o))
       × (t′ ≡ tableOf numbers (as-search at size heads o))
   unfolding tableOf
   read-rows rows n l (done f) q w = (cc, w)
@@ -113,7 +113,7 @@ module _ (at size numbers : ℕ) (heads t′ : List ℕ) where
 module _ (s : List ℕ) (part : ℕ) (t : List ℕ) where
   -- A reply and a table that tell what the search comes to are as promised.
   promised : (x : Search) → searchOf s part (length t) ≡ x → (r : PartReply) (t′ : List ℕ)
-      → told r ≡ replyOf x → t′ ≡ tableOf (length t) x → PartPromise s part t r t′
+      → partTold r ≡ replyOf x → t′ ≡ tableOf (length t) x → PartPromise s part t r t′
   promised x q r t′ e w = record { reply = e ∙ sym (ap replyOf q); table = w ∙ sym (ap (tableOf (length t)) q) }
 
   -- A refusal before anything was read into the table.
@@ -132,33 +132,33 @@ module _ (s : List ℕ) (part : ℕ) (t : List ℕ) where
     find-none e t′ i j z = cleared e badArgument t′ (search-none s part (length t) a i) j z
 
     module _ (parent : ℕ) (i : parentOf part ≡ Id parent) where
-      pub find-stopped : (e : Refusal) (t′ : List ℕ) → PlaceRefused e ≡ placeTold (placeOf s part)
+      pub find-stopped : (e : Refusal) (t′ : List ℕ) → PlaceRefused e ≡ placeTold (lookupOf s part)
           → t′ ≡ zeros (length t) → PartPromise s part t (Refused e) t′
       find-stopped e t′ w z =
-          let q = search-at s part (length t) a parent i (stoppedAt e) (told-stopped e (placeOf s part) w) in
+          let q = search-at s part (length t) a parent i (stoppedAt e) (told-stopped e (lookupOf s part) w) in
           cleared e e t′ q refl z
 
-      absent-promised : (n : ℕ) (heads t′ : List ℕ) → placeOf s part ≡ absentAt heads → n ≡ length heads
+      absent-promised : (n : ℕ) (heads t′ : List ℕ) → lookupOf s part ≡ absentAt heads → n ≡ length heads
           → t′ ≡ zeros (length t) → PartPromise s part t (Absent n) t′
       unfolding tableOf
       absent-promised n heads t′ q l z =
           promised (absent heads) (search-at s part (length t) a parent i (absentAt heads) q) (Absent n) t′
-          (ap (λ (k : ℕ). told (Absent k)) l) z
+          (ap (λ (k : ℕ). partTold (Absent k)) l) z
 
-      pub find-absent : (n : ℕ) (t′ : List ℕ) → PlaceAbsent n ≡ placeTold (placeOf s part)
+      pub find-absent : (n : ℕ) (t′ : List ℕ) → PlaceAbsent n ≡ placeTold (lookupOf s part)
           → t′ ≡ zeros (length t) → PartPromise s part t (Absent n) t′
       find-absent n t′ w z =
-          let (heads, q, l) = told-absent n (placeOf s part) w in
+          let (heads, q, l) = told-absent n (lookupOf s part) w in
           absent-promised n heads t′ q l z
 
-      module _ (at size n : ℕ) (w : PlaceFound at size n ≡ placeTold (placeOf s part)) where
+      module _ (at size n : ℕ) (w : PlaceFound at size n ≡ placeTold (lookupOf s part)) where
         read-is : readOf s at size parent (length t) ≡ filled s at size parent (length t)
         read-is = read-at s at size parent (length t) (found-allowed s part (length t) at size n a w)
 
         pub find-refused : (e : Refusal) (t′ : List ℕ) → ReadPromise s at size parent t (ReadRefused e) t′
             → PartPromise s part t (Refused e) t′
         find-refused e t′ p =
-            let (heads, q, l) = told-found at size n (placeOf s part) w in
+            let (heads, q, l) = told-found at size n (lookupOf s part) w in
             let o = filled s at size parent (length t) in
             let (r, k) = read-refused at size (length t) heads t′ e o (p .reply ∙ ap readReply read-is)
             (p .table ∙ ap (readTable at (length t)) read-is) in
@@ -168,7 +168,7 @@ module _ (s : List ℕ) (part : ℕ) (t : List ℕ) where
         pub find-rows : (rows : ℕ) (t′ : List ℕ) → ReadPromise s at size parent t (Rows rows) t′
             → PartPromise s part t (Found at size rows n) t′
         find-rows rows t′ p =
-            let (heads, q, l) = told-found at size n (placeOf s part) w in
+            let (heads, q, l) = told-found at size n (lookupOf s part) w in
             let o = filled s at size parent (length t) in
             let (r, k) = read-rows at size (length t) heads t′ rows n l o (p .reply ∙ ap readReply read-is)
             (p .table ∙ ap (readTable at (length t)) read-is) in

@@ -15,12 +15,12 @@ use Rattle.elements.specs.Rows.{rows, width, rowsOf}
 use Rattle.elements.specs.Promise.{allowed, filled, readOf}
 use Rattle.elements.specs.Promise.{replyOf as readReply, tableOf as readTable}
 use Rattle.elements.proofs.Readback.{accepted-read}
-use Rattle.seektable.specs.Lookup.{Place}
+use Rattle.seektable.specs.Lookup.{Lookup}
 use Rattle.seektable.specs.Lookup.{found as foundAt, absent as absentAt, stopped as stoppedAt}
 use Rattle.seektable.specs.Theorems.{GoodHeads}
-use Rattle.segments.specs.Walk.{placeOf}
-use Rattle.search.specs.Part.{parentOf, Search, found, absent, refused, onParent, onPlace, searchOf}
-use Rattle.search.specs.Part.{headsOf, replyOf, tableOf, told, PartPromise}
+use Rattle.segments.specs.Walk.{lookupOf}
+use Rattle.search.specs.Part.{parentOf, Search, found, absent, refused, onParent, onLookup, searchOf}
+use Rattle.search.specs.Part.{headsOf, replyOf, tableOf, partTold, PartPromise}
 use Rattle.search.specs.Theorems.{HeadsAllowed, HeadsCounted, FoundBy, FoundIsPart, FoundIsRead}
 use Rattle.search.specs.declared.part.Parent.{Parent}
 use Rattle.search.specs.declared.part.Parent.the-variants.{Id, NoPart}
@@ -38,8 +38,8 @@ module _ (s : List ℕ) (part numbers : ℕ) where
   heads-of-reading at size heads h (done f) = h
   heads-of-reading at size heads h (unread e) = none-read s
 
-  heads-of-place : (parent : ℕ) (p : Place) → Placed s part p
-      → GoodHeads s (headsOf (onPlace p (reading s numbers parent)))
+  heads-of-place : (parent : ℕ) (p : Lookup) → Placed s part p
+      → GoodHeads s (headsOf (onLookup p (reading s numbers parent)))
   unfolding headsOf
   heads-of-place parent (foundAt at size heads) t =
       heads-of-reading at size heads (t .1) (filled s at size parent numbers)
@@ -54,20 +54,20 @@ heads-allowed s part numbers = by (not (allowed s 0 numbers)) (parentOf part)
         → GoodHeads s
         (headsOf
         (cond b (refused badArgument)
-        (onParent x (refused badArgument) (λ parent. onPlace (placeOf s part) (reading s numbers parent)))))
+        (onParent x (refused badArgument) (λ parent. onLookup (lookupOf s part) (reading s numbers parent)))))
     by true x = none-read s
-    by false (Id parent) = heads-of-place s part numbers parent (placeOf s part) (place-trusty s part)
+    by false (Id parent) = heads-of-place s part numbers parent (lookupOf s part) (place-trusty s part)
     by false NoPart = none-read s
 
 -- ---- what a reply tells of the search
 
-reply-found : (at size rows n : ℕ) (x : Search) → told (Found at size rows n) ≡ replyOf x
+reply-found : (at size rows n : ℕ) (x : Search) → partTold (Found at size rows n) ≡ replyOf x
     → (heads : List ℕ) × (f : Forest) × (x ≡ found at size heads f) × (rows ≡ count f) × (n ≡ length heads)
 reply-found at size rows n (found at′ size′ heads f) q = (heads, f, cc, cc, cc)
 reply-found at size rows n (absent heads) q = let z : _≡_ {A = ℕ} 0 1 = cc in absurd (omega arith)
 reply-found at size rows n (refused e) q = let z : _≡_ {A = ℕ} 0 1 = cc in absurd (omega arith)
 
-reply-absent : (n : ℕ) (x : Search) → told (Absent n) ≡ replyOf x
+reply-absent : (n : ℕ) (x : Search) → partTold (Absent n) ≡ replyOf x
     → (heads : List ℕ) × (x ≡ absent heads) × (n ≡ length heads)
 reply-absent n (found at size heads f) q = let z : _≡_ {A = ℕ} 0 1 = cc in absurd (omega arith)
 reply-absent n (absent heads) q = (heads, refl, cc)
@@ -91,12 +91,12 @@ record Sought (s : List ℕ) (part numbers at size : ℕ) (heads : List ℕ) (f 
   parent : ℕ
   within : allowed s 0 numbers ≡ true
   named : parentOf part ≡ Id parent
-  place : placeOf s part ≡ foundAt at size heads
+  place : lookupOf s part ≡ foundAt at size heads
   read : filled s at size parent numbers ≡ done f
 
 module _ (s : List ℕ) (part numbers at size : ℕ) (heads : List ℕ) (f : Forest) where
   sought-read : (parent at′ size′ : ℕ) (hs : List ℕ) → allowed s 0 numbers ≡ true → parentOf part ≡ Id parent
-      → placeOf s part ≡ foundAt at′ size′ hs
+      → lookupOf s part ≡ foundAt at′ size′ hs
       → (o : Outcome) → filled s at′ size′ parent numbers ≡ o
       → as-search at′ size′ hs o ≡ found at size heads f
       → Sought s part numbers at size heads f
@@ -115,8 +115,8 @@ module _ (s : List ℕ) (part numbers at size : ℕ) (heads : List ℕ) (f : For
   sought-read parent at′ size′ hs a i p (unread r) e w = let z : _≡_ {A = ℕ} 0 1 = cc in absurd (omega arith)
 
   sought-at : (parent : ℕ) → allowed s 0 numbers ≡ true → parentOf part ≡ Id parent
-      → (p : Place) → placeOf s part ≡ p
-      → onPlace p (reading s numbers parent) ≡ found at size heads f → Sought s part numbers at size heads f
+      → (p : Lookup) → lookupOf s part ≡ p
+      → onLookup p (reading s numbers parent) ≡ found at size heads f → Sought s part numbers at size heads f
   sought-at parent a i (foundAt at′ size′ hs) p w =
       sought-read parent at′ size′ hs a i p (filled s at′ size′ parent numbers) refl w
   sought-at parent a i (absentAt hs) p w = let z : _≡_ {A = ℕ} 0 1 = cc in absurd (omega arith)
@@ -128,10 +128,10 @@ module _ (s : List ℕ) (part numbers at size : ℕ) (heads : List ℕ) (f : For
     where
       by : (b : Bool) → allowed s 0 numbers ≡ b → (x : Parent) → parentOf part ≡ x
           → cond (not b) (refused badArgument)
-          (onParent x (refused badArgument) (λ parent. onPlace (placeOf s part) (reading s numbers parent)))
+          (onParent x (refused badArgument) (λ parent. onLookup (lookupOf s part) (reading s numbers parent)))
           ≡ found at size heads f
           → Sought s part numbers at size heads f
-      by true a (Id parent) i w = sought-at parent a i (placeOf s part) refl w
+      by true a (Id parent) i w = sought-at parent a i (lookupOf s part) refl w
       by true a NoPart i w = let z : _≡_ {A = ℕ} 0 1 = cc in absurd (omega arith)
       by false a x i w = let z : _≡_ {A = ℕ} 0 1 = cc in absurd (omega arith)
 

@@ -16,11 +16,11 @@ use Rattle.header.specs.declared.cursor.HeaderRead.the-variants.{Read, Refused}
 use Rattle.header.proofs.Inside.{header-there}
 use Rattle.seeks.specs.Seeks.{seekHeadId}
 use Rattle.seektable.specs.Answers.{onHeader}
-use Rattle.seektable.specs.Lookup.{Place, found, absent, stopped, byHeads}
+use Rattle.seektable.specs.Lookup.{Lookup, found, absent, stopped, byHeads}
 use Rattle.seektable.specs.Theorems.{IsAt, AreHeads, Distinct, GoodHeads, ByHeads}
 use Rattle.seektable.specs.declared.heads.Head.{Head}
 use Rattle.seektable.proofs.Leads.{heads-lead}
-use Rattle.segments.specs.Walk.{ends, over, visit, onVisit, walk, segmentOf, children, placeOf}
+use Rattle.segments.specs.Walk.{ends, over, visit, onVisit, walk, segmentOf, children, lookupOf}
 use Rattle.search.specs.Theorems.{Way, met, named, FoundBy}
 
 -- No head at all.
@@ -29,34 +29,34 @@ unfolding AreHeads Distinct
 none-read s = record { are = tt; distinct = tt; few = omega arith }
 
 -- What a place is: found one way or the other, or absent, with good heads.
-abbrev Trusty : List ℕ → ℕ → ℕ → Place → Type 0
+abbrev Trusty : List ℕ → ℕ → ℕ → Lookup → Type 0
 Trusty s wanted start (found at size heads) = Way s wanted start at size heads × GoodHeads s heads
 Trusty s wanted start (absent heads) = GoodHeads s heads
 Trusty s wanted start (stopped e) = Unit
 
 -- The same of the whole recording.
-abbrev pub Placed : List ℕ → ℕ → Place → Type 0
+abbrev pub Placed : List ℕ → ℕ → Lookup → Type 0
 Placed s wanted (found at size heads) = FoundBy s wanted at size heads × GoodHeads s heads
 Placed s wanted (absent heads) = GoodHeads s heads
 Placed s wanted (stopped e) = Unit
 
 module _ (s : List ℕ) (wanted start : ℕ) where
   -- Either way of a choice.
-  either : (b : Bool) (p q : Place) → Trusty s wanted start p → Trusty s wanted start q
+  either : (b : Bool) (p q : Lookup) → Trusty s wanted start p → Trusty s wanted start q
       → Trusty s wanted start (cond b p q)
   either true p q t u = t
   either false p q t u = u
 
   -- What the heads lead to.
   led : (first : Head) → IsAt s seekHeadId (first .address) (first .payload) (first .size)
-      → (p : Place) → ByHeads s wanted start first p → Trusty s wanted start p
+      → (p : Lookup) → ByHeads s wanted start first p → Trusty s wanted start p
   led first i (found at size heads) b = (named first i (b .0), b .1)
   led first i (absent heads) b = b .1
   led first i (stopped e) b = tt
 
   -- What a child ends the search with, and what follows one that is passed over.
   visit-trusty : (at : ℕ) (h : Header) (payload : Cursor) → headerAt s at ≡ Read h payload
-      → (next : Place) → Trusty s wanted start next
+      → (next : Lookup) → Trusty s wanted start next
       → Trusty s wanted start (onVisit (visit s wanted start at h payload) next)
   unfolding visit
   visit-trusty at h payload q next t =
@@ -87,7 +87,7 @@ module _ (s : List ℕ) (wanted start : ℕ) where
       either (leb end at) _ _ (none-read s) (headed (headerAt s at) refl _ (λ h payload.
       either (ltb end (payload .at + h .size)) _ _ tt (walk-trusty end most (payload .at + h .size))))
     where
-      headed : (x : HeaderRead) → headerAt s at ≡ x → (next : Header → Cursor → Place)
+      headed : (x : HeaderRead) → headerAt s at ≡ x → (next : Header → Cursor → Lookup)
           → ((h : Header) (payload : Cursor) → Trusty s wanted start (next h payload))
           → Trusty s wanted start
           (onHeader x stopped (λ h payload. onVisit (visit s wanted start at h payload) (next h payload)))
@@ -95,12 +95,12 @@ module _ (s : List ℕ) (wanted start : ℕ) where
       headed (Read h payload) q next t = visit-trusty at h payload q _ (t h payload)
 
 module _ (s : List ℕ) (wanted : ℕ) where
-  pub place-trusty : Placed s wanted (placeOf s wanted)
-  unfolding placeOf children
+  pub place-trusty : Placed s wanted (lookupOf s wanted)
+  unfolding lookupOf children
   place-trusty = go (segmentOf s) refl
     where
       in-segment : (h : Header) (start : Cursor) → segmentOf s ≡ Read h start
-          → (p : Place) → Trusty s wanted (start .at) p → Placed s wanted p
+          → (p : Lookup) → Trusty s wanted (start .at) p → Placed s wanted p
       in-segment h start q (found at size heads) t =
           (record { segment = h; start = start; is-segment = q; way = t .0 }, t .1)
       in-segment h start q (absent heads) t = t
@@ -115,12 +115,12 @@ module _ (s : List ℕ) (wanted : ℕ) where
 
   -- ---- where a part was found
 
-  pub found-part : (at size : ℕ) (heads : List ℕ) → placeOf s wanted ≡ found at size heads
+  pub found-part : (at size : ℕ) (heads : List ℕ) → lookupOf s wanted ≡ found at size heads
       → FoundBy s wanted at size heads
   found-part at size heads q = subst (Placed s wanted) q place-trusty .0
 
   -- Its payload starts in the recording.
-  pub found-inside : (at size : ℕ) (heads : List ℕ) → placeOf s wanted ≡ found at size heads → at ≤ length s
+  pub found-inside : (at size : ℕ) (heads : List ℕ) → lookupOf s wanted ≡ found at size heads → at ≤ length s
   found-inside at size heads q = by (found-part at size heads q .way)
     where
       inside : (address : ℕ) → IsAt s wanted address (record { at = at }) size → at ≤ length s

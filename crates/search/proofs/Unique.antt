@@ -5,7 +5,7 @@ use mathlib.Core.Bool.{cond}
 use lib.ListN.{getD}
 use lib.Dec.{eqb}
 use Rattle.header.specs.Reply.{Reply, accepted, refusal}
-use Rattle.search.specs.Part.{searchOf, replyOf, tableOf, told}
+use Rattle.search.specs.Part.{searchOf, replyOf, tableOf, partTold}
 use Rattle.search.specs.Theorems.{OnePart}
 use Rattle.search.specs.declared.part.PartReply.{PartReply}
 use Rattle.search.specs.declared.part.PartReply.the-variants.{Found, Absent, Refused}
@@ -18,7 +18,7 @@ replied (accepted values) =
     (Found (getD values 1 0) (getD values 2 0) (getD values 3 0) (getD values 4 0))
 replied (refusal number id) = Refused (record { number = number; id = id })
 
-replied-back : (r : PartReply) → replied (told r) ≡ r
+replied-back : (r : PartReply) → replied (partTold r) ≡ r
 replied-back (Found at size rows heads) = refl
 replied-back (Absent heads) = refl
 replied-back (Refused e) = refl

@@ -17,8 +17,8 @@ use Rattle.seeks.specs.Seeks.{headOf, entries}
 use Rattle.seeks.specs.Table.{latestFrom}
 use Rattle.seektable.specs.Heads.{chain}
 use Rattle.seektable.specs.Lookup.{byHeads}
-use Rattle.segments.specs.Walk.{toSegment, segmentOf, visit, walk, children, placeOf}
-use Rattle.search.specs.Part.{parentOf, Search, found, absent, refused, searchOf, replyOf, tableOf, told}
+use Rattle.segments.specs.Walk.{toSegment, segmentOf, visit, walk, children, lookupOf}
+use Rattle.search.specs.Part.{parentOf, Search, found, absent, refused, searchOf, replyOf, tableOf, partTold}
 use Rattle.search.specs.Theorems.{tagsAlone, tagsBehindAHead, NotMadeUp, NotUntouched}
 use Rattle.search.specs.declared.part.PartReply.{PartReply}
 use Rattle.search.specs.declared.part.PartReply.the-variants.{Found, Absent, Refused}
@@ -34,21 +34,21 @@ behind = replyOf (searchOf tagsBehindAHead 0x1254C367 0) ≡ accepted (0 ∷ 0 �
 is-alone : alone
 unfolding alone octetBits bits oneMore widthOf bigEndianFrom bigEndian ofWidth vintOf sized named headerOf
     headerRead headerAt count siblings masterBody isTable allowed filled
-    toSegment segmentOf visit walk children placeOf parentOf searchOf
+    toSegment segmentOf visit walk children lookupOf parentOf searchOf
 is-alone = refl
 
 is-behind : behind
 unfolding behind octetBits bits oneMore widthOf bigEndianFrom bigEndian ofWidth vintOf sized named headerOf
     headerRead headerAt count siblings masterBody isTable allowed filled headOf entries latestFrom chain byHeads
-    toSegment segmentOf visit walk children placeOf parentOf searchOf
+    toSegment segmentOf visit walk children lookupOf parentOf searchOf
 is-behind = refl
 
-one-found : (r : PartReply) → told r ≡ accepted (1 ∷ 10 ∷ 0 ∷ 0 ∷ 0 ∷ []) → r ≡ Found 10 0 0 0
+one-found : (r : PartReply) → partTold r ≡ accepted (1 ∷ 10 ∷ 0 ∷ 0 ∷ 0 ∷ []) → r ≡ Found 10 0 0 0
 one-found (Found at size rows heads) q = cc
 one-found (Absent heads) q = let z : _≡_ {A = ℕ} 0 1 = cc in absurd (omega arith)
 one-found (Refused e) q = let z : _≡_ {A = ℕ} 0 1 = cc in absurd (omega arith)
 
-none-found : (r : PartReply) → told r ≡ accepted (0 ∷ 0 ∷ 0 ∷ 0 ∷ 1 ∷ []) → r ≡ Absent 1
+none-found : (r : PartReply) → partTold r ≡ accepted (0 ∷ 0 ∷ 0 ∷ 0 ∷ 1 ∷ []) → r ≡ Absent 1
 none-found (Found at size rows heads) q = let z : _≡_ {A = ℕ} 0 1 = cc in absurd (omega arith)
 none-found (Absent heads) q = cc
 none-found (Refused e) q = let z : _≡_ {A = ℕ} 0 1 = cc in absurd (omega arith)
@@ -62,13 +62,13 @@ not-made-up t u r r′ t′ u′ l m p q =
 
 -- ---- the table
 
-zeros-absent : (numbers n : ℕ) (x : Search) → told (Absent n) ≡ replyOf x → tableOf numbers x ≡ zeros numbers
+zeros-absent : (numbers n : ℕ) (x : Search) → partTold (Absent n) ≡ replyOf x → tableOf numbers x ≡ zeros numbers
 unfolding tableOf
 zeros-absent numbers n (found at size heads f) q = let z : _≡_ {A = ℕ} 0 1 = cc in absurd (omega arith)
 zeros-absent numbers n (absent heads) q = refl
 zeros-absent numbers n (refused e) q = refl
 
-zeros-refused : (numbers : ℕ) (e : Refusal) (x : Search) → told (Refused e) ≡ replyOf x
+zeros-refused : (numbers : ℕ) (e : Refusal) (x : Search) → partTold (Refused e) ≡ replyOf x
     → tableOf numbers x ≡ zeros numbers
 unfolding tableOf
 zeros-refused numbers e (found at size heads f) q = let z : _≡_ {A = ℕ} 0 1 = cc in absurd (omega arith)

@@ -13,9 +13,9 @@ use Rattle.elements.specs.Reading.{done}
 use Rattle.elements.specs.Promise.{allowed, filled, zeros}
 use Rattle.elements.specs.Promise.{tableOf as readTable}
 use Rattle.seektable.specs.Answers.{onOutcome}
-use Rattle.seektable.specs.Lookup.{Place}
+use Rattle.seektable.specs.Lookup.{Lookup}
 use Rattle.seektable.specs.Lookup.{found as foundAt, absent as absentAt, stopped as stoppedAt}
-use Rattle.segments.specs.Walk.{placeOf}
+use Rattle.segments.specs.Walk.{lookupOf}
 use Rattle.search.specs.declared.part.Parent.{Parent}
 use Rattle.search.specs.declared.part.Parent.the-variants.{Id, NoPart}
 use Rattle.search.specs.declared.part.PartReply.{PartReply}
@@ -41,10 +41,10 @@ abbrev pub onParent : Parent → Search → (ℕ → Search) → Search
 onParent (Id parent) none some = some parent
 onParent NoPart none some = none
 
-abbrev pub onPlace : Place → (ℕ → ℕ → List ℕ → Search) → Search
-onPlace (foundAt at size heads) next = next at size heads
-onPlace (absentAt heads) next = absent heads
-onPlace (stoppedAt e) next = refused e
+abbrev pub onLookup : Lookup → (ℕ → ℕ → List ℕ → Search) → Search
+onLookup (foundAt at size heads) next = next at size heads
+onLookup (absentAt heads) next = absent heads
+onLookup (stoppedAt e) next = refused e
 
 -- The search for a part with a table of so many numbers (document 01, Seek tables and the search): 14 for the lengths
 -- (no start is given) and for the part; then the walk; then the part's payload, read as the public read would fill the
@@ -53,7 +53,7 @@ unfoldable pub searchOf : List ℕ → ℕ → ℕ → Search
 searchOf s part numbers =
     cond (not (allowed s 0 numbers)) (refused badArgument)
     (onParent (parentOf part) (refused badArgument) (λ parent.
-    onPlace (placeOf s part) (λ at size heads.
+    onLookup (lookupOf s part) (λ at size heads.
     onOutcome (filled s at size parent numbers) refused (λ f. found at size heads f))))
 
 -- The addresses of the heads of an accepted search.
@@ -76,11 +76,11 @@ tableOf numbers (absent heads) = zeros numbers
 tableOf numbers (refused e) = zeros numbers
 
 -- Document 01's number and values for each case of `PartReply`; a 1 or 0 in front tells whether the part is there.
-abbrev pub told : PartReply → Reply
-told (Found at size rows heads) = accepted (1 ∷ at ∷ size ∷ rows ∷ heads ∷ [])
-told (Absent heads) = accepted (0 ∷ 0 ∷ 0 ∷ 0 ∷ heads ∷ [])
-told (Refused e) = refusalOf e
+abbrev pub partTold : PartReply → Reply
+partTold (Found at size rows heads) = accepted (1 ∷ at ∷ size ∷ rows ∷ heads ∷ [])
+partTold (Absent heads) = accepted (0 ∷ 0 ∷ 0 ∷ 0 ∷ heads ∷ [])
+partTold (Refused e) = refusalOf e
 
 pub record PartPromise (s : List ℕ) (part : ℕ) (t : List ℕ) (r : PartReply) (t′ : List ℕ) : Type 0 where
-  pub reply : told r ≡ replyOf (searchOf s part (length t))
+  pub reply : partTold r ≡ replyOf (searchOf s part (length t))
   pub table : t′ ≡ tableOf (length t) (searchOf s part (length t))

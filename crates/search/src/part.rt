@@ -9,7 +9,7 @@ use header::Refusal;
 use kinds::TABLE;
 use kinds::ids;
 use seektable::PartPlace;
-use segments::place_of;
+use segments::look_up;
 
 // The payload's address and size, how many rows it has, and how many seek heads were read; or that the part is absent;
 // or a refusal.
@@ -58,7 +58,7 @@ pub fn find_part(recording: &[u8], part: u32, table: &mut [u64]) -> PartReply
         Parent::NoPart => PartReply::Refused(Refusal::bad_argument()),
         Parent::Id(parent) => {
             let kinds = TABLE;
-            match place_of(recording, &kinds, part) {
+            match look_up(recording, &kinds, part) {
                 PartPlace::Refused(refusal) => PartReply::Refused(refusal),
                 PartPlace::Absent { heads } => PartReply::Absent { heads },
                 PartPlace::Found { at, size, heads } => {

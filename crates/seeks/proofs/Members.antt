@@ -99,7 +99,7 @@ module _ (s : List ℕ) (at n a l : ℕ) where
 module _ (s : List ℕ) (seek : Seek) (h : Header) (place : Cursor) where
   pub bytes-inside : (b : Body) → Holds s h (place .at) seekId 1 b → BytesInside s b
   bytes-inside (Bytes r) x =
-      let (a, l) = bytes-whole s (place .at) (h .size) (r .at) (r .length) (kindUnder seekId (h .id)) (x .body) in
+      let (a, l) = bytes-whole s (place .at) (h .size) (r .at) (r .length) (kindUnder (h .id) seekId) (x .body) in
       omega (arith, x .inside)
   bytes-inside (Integer z) x = tt
   bytes-inside (Unsigned v) x = tt
@@ -132,8 +132,8 @@ module _ (s : List ℕ) (seek : Seek) (h : Header) (place : Cursor) where
 -- ---- a child of a head
 
 -- A Seek is a master wherever it stands in a head.
-seek-is-master : (h : Header) → h .id ≡ seekId → numberOf (kindUnder segmentId (h .id)) ≡ 1
-unfolding kindUnder keeps member kindIn elements
+seek-is-master : (h : Header) → h .id ≡ seekId → numberOf (kindUnder (h .id) segmentId) ≡ 1
+unfolding kindUnder member keeps kindIn elements
 seek-is-master h q = rw q refl
 
 module _ (s : List ℕ) (wanted : ℕ) (table : Seektable) (h : Header) (place : Cursor) where
@@ -163,7 +163,7 @@ module _ (s : List ℕ) (wanted : ℕ) (table : Seektable) (h : Header) (place :
     holds-members : inner s h (place .at) segmentId 0 ≡ seekBody s (place .at) (h .size)
     unfolding inner seekBody
     holds-members =
-        rw (master-body s (place .at) (h .size) (kindUnder segmentId (h .id)) (seek-is-master h q), q)
+        rw (master-body s (place .at) (h .size) (kindUnder (h .id) segmentId) (seek-is-master h q), q)
 
     of-told : (o : Outcome) → {r : Refusal} → SeekRefused r ≡ seekTold s (place .at) o → o ≡ refused r
     of-told (done f) w = seek-not w

@@ -44,13 +44,13 @@ module _ (s : List ℕ) (h : Header) (place : Cursor) (parent depth : ℕ) where
   abbrev elements-below : Outcome
   elements-below = masterBody s withoutRows 0 (depth + 1) (h .id) (place .at) (h .size) 0
 
-  pub skim-leaf : (r : BodyRead) → (numberOf (kindUnder parent (h .id)) ≡ 1 → ⊥)
-      → r ≡ bodyRead (kindUnder parent (h .id)) s (place .at) (h .size) → Skimmed s h place parent depth r
+  pub skim-leaf : (r : BodyRead) → (numberOf (kindUnder (h .id) parent) ≡ 1 → ⊥)
+      → r ≡ bodyRead (kindUnder (h .id) parent) s (place .at) (h .size) → Skimmed s h place parent depth r
   unfolding inner bodyRead
   skim-leaf r m q = record {
-    refusal = λ e w. held-refused s (place .at) (h .size) (kindUnder parent (h .id)) e elements-below (sym q ∙ w);
+    refusal = λ e w. held-refused s (place .at) (h .size) (kindUnder (h .id) parent) e elements-below (sym q ∙ w);
     body = λ b next w.
-        let l = leaf-read s (place .at) (h .size) (kindUnder parent (h .id)) elements-below b next m (sym q ∙ w) in
+        let l = leaf-read s (place .at) (h .size) (kindUnder (h .id) parent) elements-below b next m (sym q ∙ w) in
         record {
           kids = none;
           holds = l .holds;
@@ -59,9 +59,9 @@ module _ (s : List ℕ) (h : Header) (place : Cursor) (parent depth : ℕ) where
         };
   }
 
-  module _ (m : numberOf (kindUnder parent (h .id)) ≡ 1) where
-    is-master : bodyOf s (place .at) (h .size) (kindUnder parent (h .id)) ≡ master
-    is-master = master-body s (place .at) (h .size) (kindUnder parent (h .id)) m
+  module _ (m : numberOf (kindUnder (h .id) parent) ≡ 1) where
+    is-master : bodyOf s (place .at) (h .size) (kindUnder (h .id) parent) ≡ master
+    is-master = master-body s (place .at) (h .size) (kindUnder (h .id) parent) m
 
     below : inner s h (place .at) parent depth ≡ elements-below
     unfolding inner

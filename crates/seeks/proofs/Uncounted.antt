@@ -47,7 +47,7 @@ module _ (s : List ℕ) (cap : ℕ) where
       body m h =
           refuseIf (full withoutRows cap m) noFreeRow
           (above (elementOf parent h)
-          (held (bodyOf s (at + h .length) (h .size) (kindUnder parent (h .id)))
+          (held (bodyOf s (at + h .length) (h .size) (kindUnder (h .id) parent))
           (siblings (element s withoutRows cap levels (h .id)) (h .size) (at + h .length) (h .size) (m + 1))))
 
       go : (x : Heading)
@@ -57,7 +57,7 @@ module _ (s : List ℕ) (cap : ℕ) where
           let read = element s withoutRows cap levels (h .id) in
           let start = at + h .length in
           ap (λ (x : Outcome). above (elementOf parent h)
-          (held (bodyOf s start (h .size) (kindUnder parent (h .id))) x))
+          (held (bodyOf s start (h .size) (kindUnder (h .id) parent)) x))
           (siblings-uncounted read (lower (h .id)) (h .size) start (h .size) (n + 1)
           ∙ sym (siblings-uncounted read (lower (h .id)) (h .size) start (h .size) (0 + 1)))
       go (refusedHeader e) lower = refl

@@ -41,14 +41,14 @@ Shallow depth = depth < depths
 -- What the body after a header holds, under a parent id and at a depth: the elements of a master, else none.
 unfoldable pub inner : List ℕ → Header → ℕ → ℕ → ℕ → Outcome
 inner s h at parent depth =
-    held (bodyOf s at (h .size) (kindUnder parent (h .id)))
+    held (bodyOf s at (h .size) (kindUnder (h .id) parent))
     (masterBody s withoutRows 0 (depth + 1) (h .id) at (h .size) 0)
 
 -- A body that was read, and what it holds.
 pub record Holds (s : List ℕ) (h : Header) (at parent depth : ℕ) (b : Body) : Type 0 where
   pub kids : Forest
   pub holds : inner s h at parent depth ≡ done kids
-  pub body : valuesOf b ≡ bodyOf s at (h .size) (kindUnder parent (h .id))
+  pub body : valuesOf b ≡ bodyOf s at (h .size) (kindUnder (h .id) parent)
   pub inside : at + h .size ≤ length s
 
 -- What `skim_body` answers: what the body holds, or its refusal.
@@ -70,7 +70,7 @@ BytesInside s Master = Unit
 pub record MemberIs (s : List ℕ) (seek : Seek) (h : Header) (at : ℕ) (more : Seek) : Type 0 where
   pub kids : Forest
   pub holds : inner s h at seekId 1 ≡ done kids
-  pub is : more ≡ noted s (h .id) (bodyOf s at (h .size) (kindUnder seekId (h .id))) seek
+  pub is : more ≡ noted s (h .id) (bodyOf s at (h .size) (kindUnder (h .id) seekId)) seek
   pub inside : at + h .size ≤ length s
 
 -- What `seek_member` answers.

@@ -28,7 +28,8 @@ use Rattle.seeks.specs.declared.head.Seektable.{Seektable}
 use Rattle.seeks.specs.declared.head.HeadRead.the-variants.{Read as HeadIs, Refused as HeadRefused}
 use Rattle.seeks.proofs.Entries.{latest-append}
 use Rattle.seektable.specs.Answers.{onHeader}
-use Rattle.seektable.specs.Heads.{tooFar, member, sought}
+use Rattle.kinds.specs.Kinds.{member}
+use Rattle.seektable.specs.Heads.{tooFar, sought}
 use Rattle.seektable.specs.Heads.{Chain, chained, broken, follow, chain, linkedHeads}
 use Rattle.seektable.specs.Contract.{headsTold}
 use Rattle.seektable.specs.declared.heads.Head.{Head}

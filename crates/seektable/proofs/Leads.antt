@@ -21,7 +21,8 @@ use Rattle.seeks.specs.declared.seek.Seek.{Seek}
 use Rattle.seeks.specs.declared.head.Latest.{Latest}
 use Rattle.seeks.specs.declared.head.Latest.the-variants.{Nowhere, At}
 use Rattle.seektable.specs.Answers.{onHeader, onOutcome}
-use Rattle.seektable.specs.Heads.{tooFar, member, sought, mostHeads, linkedHeads}
+use Rattle.kinds.specs.Kinds.{member}
+use Rattle.seektable.specs.Heads.{tooFar, sought, mostHeads, linkedHeads}
 use Rattle.seektable.specs.Heads.{Chain, chained, broken, follow, chain}
 use Rattle.seektable.specs.Lookup.{found, absent, stopped, onChain, byHeads}
 use Rattle.seektable.specs.Theorems.{IsAt, IsHead, AreHeads, NotAmong, Distinct, GoodHeads, ByHeads, HeadsLead}
@@ -34,12 +35,12 @@ use Rattle.seektable.proofs.Chains.{sought-read}
 not-among : (x : ℕ) (ys : List ℕ) → member x ys ≡ false → NotAmong x ys
 unfolding member NotAmong
 not-among x [] m = tt
-not-among x (y ∷ ys) m = go (eqb y x) refl m (not-among x ys)
+not-among x (y ∷ ys) m = go (eqb x y) refl m (not-among x ys)
   where
-    go : (b : Bool) → eqb y x ≡ b → (b || member x ys) ≡ false → (member x ys ≡ false → NotAmong x ys)
+    go : (b : Bool) → eqb x y ≡ b → (b || member x ys) ≡ false → (member x ys ≡ false → NotAmong x ys)
         → (x ≡ y → ⊥) × NotAmong x ys
     go true e q k = let z : _≡_ {A = ℕ} 0 1 = cc in absurd (let w : ⊥ = omega arith in w)
-    go false e q k = ((λ w. eqb-false y x e (sym w)), k q)
+    go false e q k = (eqb-false x y e, k q)
 
 among-append : (x y : ℕ) (ys : List ℕ) → NotAmong x ys → (x ≡ y → ⊥) → NotAmong x (ys ++ (y ∷ []))
 unfolding NotAmong

@@ -1,22 +1,22 @@
 -- How `member` goes along the addresses that were noted. Assumes nothing.
 use Prim.Native.Nat.{ℕ, _+_, _≤_, _<_}
-use mathlib.Core.Path.{_≡_}
+use mathlib.Core.Path.{_≡_, sym}
 use mathlib.Core.List.{List, [], _∷_, _++_}
 use mathlib.Core.Bool.{true, false}
 use native.Mathlib.Numerals.{add-one}
 use lib.ListN.{length, take, drop, set, getD, drop-of-length-le}
 use lib.Seq.{drop-cons, take-suc-set}
 use borrow.Author.Tests.{eq-eqb, ne-eqb}
-use Rattle.seektable.specs.Heads.{member}
+use Rattle.kinds.specs.Kinds.{member}
 
 module _ (x : ℕ) (ys : List ℕ) (i : ℕ) where
   pub member-here : i < length ys → getD ys i 0 ≡ x → member x (drop i ys) ≡ true
   unfolding member
-  member-here h e = rw (drop-cons ys i 0 h, eq-eqb (getD ys i 0) x e)
+  member-here h e = rw (drop-cons ys i 0 h, eq-eqb x (getD ys i 0) (sym e))
 
   pub member-later : i < length ys → (getD ys i 0 ≡ x → ⊥) → member x (drop i ys) ≡ member x (drop (i + 1) ys)
   unfolding member
-  member-later h e = rw (drop-cons ys i 0 h, ne-eqb (getD ys i 0) x e, add-one i)
+  member-later h e = rw (drop-cons ys i 0 h, ne-eqb x (getD ys i 0) (λ q. e (sym q)), add-one i)
 
   pub no-member : length ys ≤ i → member x (drop i ys) ≡ false
   unfolding member

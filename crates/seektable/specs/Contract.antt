@@ -3,7 +3,7 @@ use Prim.Native.Nat.{ℕ}
 use lib.ListN.{length}
 use Rattle.seeks.specs.Table.{latest}
 use Rattle.seektable.specs.Heads.{Chain, chained, broken}
-use Rattle.seektable.specs.Lookup.{Place, found, absent, stopped}
+use Rattle.seektable.specs.Lookup.{Lookup, found, absent, stopped}
 use Rattle.seektable.specs.declared.heads.HeadsRead.{HeadsRead}
 use Rattle.seektable.specs.declared.heads.HeadsRead.the-variants.{Read as HeadsAre, Refused as HeadsRefused}
 use Rattle.seektable.specs.declared.lookup.PartPlace.{PartPlace}
@@ -15,7 +15,7 @@ headsTold wanted (chained heads es) = HeadsAre (latest wanted es) (length heads)
 headsTold wanted (broken e) = HeadsRefused e
 
 -- How `by_heads` tells where a part is.
-abbrev pub placeTold : Place → PartPlace
+abbrev pub placeTold : Lookup → PartPlace
 placeTold (found at size heads) = Found at size (length heads)
 placeTold (absent heads) = Absent (length heads)
 placeTold (stopped e) = Refused e

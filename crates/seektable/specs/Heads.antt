@@ -2,13 +2,14 @@
 -- and the search).
 use Prim.Native.Nat.{ℕ, zero, suc, _+_, _-_}
 use mathlib.Core.List.{List, [], _∷_, _++_}
-use mathlib.Core.Bool.{Bool, false, cond, _||_}
+use mathlib.Core.Bool.{Bool, cond}
 use lib.Dec.{ltb, eqb}
 use Rattle.header.specs.Refusals.{invalidSeekHead, staleEntry, headAgain, tooManyHeads}
 use Rattle.header.specs.Reads.{headerAt}
 use Rattle.header.specs.declared.cursor.HeaderRead.{HeaderRead}
 use Rattle.header.specs.declared.cursor.HeaderRead.the-variants.{Read, Refused}
 use Rattle.header.specs.declared.refusal.Refusal.{Refusal}
+use Rattle.kinds.specs.Kinds.{member}
 use Rattle.seeks.specs.Seeks.{seekHeadId, headOf, entries}
 use Rattle.seeks.specs.Table.{onLatest, latest}
 use Rattle.seeks.specs.declared.seek.Seek.{Seek}
@@ -24,11 +25,6 @@ lastAddress = 18446744073709551615
 -- Whether the segment's start plus a position exceeds it.
 abbrev pub tooFar : ℕ → ℕ → Bool
 tooFar start position = ltb lastAddress (start + position)
-
--- Whether an address is among some.
-unfoldable pub member : ℕ → List ℕ → Bool
-member x [] = false
-member x (y ∷ ys) = eqb y x || member x ys
 
 -- The header that a sought address holds: 9 where its id is another.
 unfoldable pub sought : List ℕ → ℕ → ℕ → HeaderRead

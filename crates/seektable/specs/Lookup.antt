@@ -12,18 +12,18 @@ use Rattle.seektable.specs.declared.heads.Head.{Head}
 
 -- Where a part is: its payload's address and size, or that it is absent, with the addresses of the heads that were
 -- read; or why the search stopped.
-pub data Place : Type 0 where
-  found : ℕ → ℕ → List ℕ → Place
-  absent : List ℕ → Place
-  stopped : Refusal → Place
+pub data Lookup : Type 0 where
+  found : ℕ → ℕ → List ℕ → Lookup
+  absent : List ℕ → Lookup
+  stopped : Refusal → Lookup
 
-abbrev pub onChain : Chain → (List ℕ → List Seek → Place) → Place
+abbrev pub onChain : Chain → (List ℕ → List Seek → Lookup) → Lookup
 onChain (chained heads es) next = next heads es
 onChain (broken e) next = stopped e
 
 -- When all linked heads were read, the wanted id is looked up: absent, or 8, header, 9. The wanted id is never that of
 -- a seek head, whose entries were dropped.
-unfoldable pub byHeads : List ℕ → ℕ → ℕ → Head → Place
+unfoldable pub byHeads : List ℕ → ℕ → ℕ → Head → Lookup
 byHeads s wanted start first =
     onChain (linkedHeads s start first) (λ heads es.
     onLatest (latest wanted es) (absent heads) (λ position.

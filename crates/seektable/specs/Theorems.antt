@@ -15,7 +15,7 @@ use Rattle.seeks.specs.Table.{latest}
 use Rattle.seeks.specs.declared.seek.Seek.{Seek}
 use Rattle.seeks.specs.declared.head.Latest.the-variants.{Nowhere, At}
 use Rattle.seektable.specs.Heads.{chained, mostHeads, linkedHeads}
-use Rattle.seektable.specs.Lookup.{Place, found, absent, stopped, byHeads}
+use Rattle.seektable.specs.Lookup.{Lookup, found, absent, stopped, byHeads}
 use Rattle.seektable.specs.declared.heads.Head.{Head}
 
 -- An element with that id is at an address: its header was read there, and its payload has that place and size.
@@ -72,7 +72,7 @@ pub record Unnamed (s : List ℕ) (wanted start : ℕ) (first : Head) (heads : L
   pub never : latest wanted entries ≡ Nowhere
 
 -- What a place that the heads lead to is.
-abbrev pub ByHeads : List ℕ → ℕ → ℕ → Head → Place → Type 0
+abbrev pub ByHeads : List ℕ → ℕ → ℕ → Head → Lookup → Type 0
 ByHeads s wanted start first (found at size heads) = Named s wanted start first at size heads × GoodHeads s heads
 ByHeads s wanted start first (absent heads) = Unnamed s wanted start first heads × GoodHeads s heads
 ByHeads s wanted start first (stopped e) = Unit

@@ -12,11 +12,11 @@ use Rattle.header.specs.declared.cursor.HeaderRead.the-variants.{Read, Refused 
 use Rattle.header.specs.declared.refusal.Refusal.{Refusal}
 use Rattle.header.proofs.Inside.{header-there}
 use Rattle.seeks.specs.Seeks.{seekHeadId}
-use Rattle.seektable.specs.Lookup.{Place, absent, stopped, byHeads}
+use Rattle.seektable.specs.Lookup.{Lookup, absent, stopped, byHeads}
 use Rattle.seektable.specs.Contract.{placeTold}
 use Rattle.seektable.specs.declared.lookup.PartPlace.{PartPlace}
 use Rattle.seektable.specs.declared.lookup.PartPlace.the-variants.{Found, Absent, Refused}
-use Rattle.segments.specs.Walk.{Visit, ends, over, visit, walk, children, segmentOf, placeOf}
+use Rattle.segments.specs.Walk.{Visit, ends, over, visit, walk, children, segmentOf, lookupOf}
 use Rattle.segments.specs.Contract.{visitTold}
 use Rattle.segments.specs.declared.walk.Visit.the-variants.{Ends, Over}
 
@@ -40,7 +40,7 @@ module _ (s : List ℕ) (wanted start at : ℕ) (h : Header) (payload : Cursor) 
   unfolding visit
   visit-over i w = rw (ne-eqb (h .id) seekHeadId i, ne-eqb (h .id) wanted w) refl
 
-told-ends : (p : PartPlace) (v : Visit) → Ends p ≡ visitTold v → (q : Place) × (v ≡ ends q) × (p ≡ placeTold q)
+told-ends : (p : PartPlace) (v : Visit) → Ends p ≡ visitTold v → (q : Lookup) × (v ≡ ends q) × (p ≡ placeTold q)
 told-ends p (ends q) e = (q, refl, cc)
 told-ends p over e = let z : _≡_ {A = ℕ} 0 1 = cc in absurd (omega arith)
 
@@ -74,7 +74,7 @@ module _ (s : List ℕ) (wanted start size : ℕ) where
 
     module _ (more : at < end) where
       -- What one turn of the walk gives, the whole gives.
-      turn : (p : Place) → ((most : ℕ) → walk s wanted start end (suc most) at ≡ p) → placeTold p ≡ told
+      turn : (p : Lookup) → ((most : ℕ) → walk s wanted start end (suc most) at ≡ p) → placeTold p ≡ told
       turn p k = sym (ap placeTold (g .rest ∙ go (g .most) (g .enough)))
         where
           go : (most : ℕ) → end - at ≤ most → walk s wanted start end most at ≡ p
@@ -87,7 +87,7 @@ module _ (s : List ℕ) (wanted start size : ℕ) where
 
       module _ (h : Header) (payload : Cursor) (q : headerAt s at ≡ Read h payload) where
         -- What a child ends the search with, the whole gives.
-        ended : (p : Place) → visit s wanted start at h payload ≡ ends p → placeTold p ≡ told
+        ended : (p : Lookup) → visit s wanted start at h payload ≡ ends p → placeTold p ≡ told
         unfolding walk
         ended p v = turn p (λ most. rw (lt-leb end at more, q, v) refl)
 
@@ -127,11 +127,11 @@ module _ (s : List ℕ) (wanted start size : ℕ) where
 -- ---- the whole
 
 module _ (s : List ℕ) (wanted : ℕ) where
-  pub place-refused : (e : Refusal) → segmentOf s ≡ HeaderRefused e → Refused e ≡ placeTold (placeOf s wanted)
-  unfolding placeOf
+  pub place-refused : (e : Refusal) → segmentOf s ≡ HeaderRefused e → Refused e ≡ placeTold (lookupOf s wanted)
+  unfolding lookupOf
   place-refused e q = rw q refl
 
   pub place-walked : (h : Header) (start : Cursor) → segmentOf s ≡ Read h start
-      → placeTold (children s wanted (start .at) (h .size)) ≡ placeTold (placeOf s wanted)
-  unfolding placeOf
+      → placeTold (children s wanted (start .at) (h .size)) ≡ placeTold (lookupOf s wanted)
+  unfolding lookupOf
   place-walked h start q = rw q refl

@@ -13,7 +13,7 @@ use Rattle.header.specs.declared.cursor.HeaderRead.{HeaderRead}
 use Rattle.header.specs.declared.cursor.HeaderRead.the-variants.{Read, Refused}
 use Rattle.seeks.specs.Seeks.{segmentId, seekHeadId}
 use Rattle.seektable.specs.Answers.{onHeader}
-use Rattle.seektable.specs.Lookup.{Place, found, absent, stopped, byHeads}
+use Rattle.seektable.specs.Lookup.{Lookup, found, absent, stopped, byHeads}
 
 -- ---- before the segment
 
@@ -32,7 +32,7 @@ segmentOf s = toSegment s (length s) 0
 
 -- What a child does to the search: it ends it, or is passed over.
 pub data Visit : Type 0 where
-  ends : Place → Visit
+  ends : Lookup → Visit
   over : Visit
 
 -- A child whose header is at an address, and its payload at a place: a seek head leads on by its entries, the wanted
@@ -43,13 +43,13 @@ visit s wanted start at h payload =
     (ends (byHeads s wanted start (record { address = at; payload = payload; size = h .size })))
     (cond (eqb (h .id) wanted) (ends (found (payload .at) (h .size) [])) over)
 
-abbrev pub onVisit : Visit → Place → Place
+abbrev pub onVisit : Visit → Lookup → Lookup
 onVisit (ends p) next = p
 onVisit over next = next
 
 -- The children from an address on, up to the segment's end. A child that is passed over need not be there, but it is 3
 -- if it is larger than what was left. Each takes a byte at least: `most` bounds how many there are.
-unfoldable pub walk : List ℕ → ℕ → ℕ → ℕ → ℕ → ℕ → Place
+unfoldable pub walk : List ℕ → ℕ → ℕ → ℕ → ℕ → ℕ → Lookup
 walk s wanted start end zero at = absent []
 walk s wanted start end (suc most) at =
     cond (leb end at) (absent [])
@@ -58,9 +58,9 @@ walk s wanted start end (suc most) at =
     (cond (ltb end (payload .at + h .size)) (stopped overrun)
     (walk s wanted start end most (payload .at + h .size)))))
 
-unfoldable pub children : List ℕ → ℕ → ℕ → ℕ → Place
+unfoldable pub children : List ℕ → ℕ → ℕ → ℕ → Lookup
 children s wanted start size = walk s wanted start (start + size) size start
 
 -- Where the wanted part is. The segment starts at the address after its header.
-unfoldable pub placeOf : List ℕ → ℕ → Place
-placeOf s wanted = onHeader (segmentOf s) stopped (λ h start. children s wanted (start .at) (h .size))
+unfoldable pub lookupOf : List ℕ → ℕ → Lookup
+lookupOf s wanted = onHeader (segmentOf s) stopped (λ h start. children s wanted (start .at) (h .size))

@@ -2,7 +2,7 @@
 ghost use mathlib.Core.Path.{_≡_};
 ghost use Rattle.seeks.specs.Contract.{Readable};
 ghost use Rattle.seektable.specs.Contract.{placeTold};
-ghost use Rattle.segments.specs.Walk.{visit as visitOf, children, placeOf};
+ghost use Rattle.segments.specs.Walk.{visit as visitOf, children, lookupOf};
 ghost use Rattle.segments.specs.Contract.{visitTold, Listed, Sized};
 use crate::segment::segment_of;
 use header::Cursor;
@@ -86,9 +86,9 @@ fn walk(recording: &[u8], kinds: &[u64], wanted: u32, start: Cursor, size: u64) 
 }
 
 // Where the wanted part is.
-pub fn place_of(recording: &[u8], kinds: &[u64], wanted: u32) -> PartPlace
+pub fn look_up(recording: &[u8], kinds: &[u64], wanted: u32) -> PartPlace
     requires { ⌜ Listed (now recording) (now kinds) ⌝ }
-    ensures { λ r. ⌜ r ≡ placeTold (placeOf (now (recording .entry)) wanted) ⌝ }
+    ensures { λ r. ⌜ r ≡ placeTold (lookupOf (now (recording .entry)) wanted) ⌝ }
 {
     match segment_of(recording) {
         HeaderRead::Refused(refusal) => PartPlace::Refused(refusal),

@@ -10,11 +10,10 @@ use Rattle.utf8.specs.Utf8.{utf8Char, behind, anyOf, goesOn, utf8}
 use Rattle.bodies.specs.Bodies.{bodyOf}
 use Rattle.elements.specs.Forest.{span, count, join}
 use Rattle.elements.specs.Reading.{refuseIf, full, siblings, element, masterBody}
-use Rattle.elements.specs.Rows.{rows}
+use Rattle.elements.specs.Rows.{rows, nth}
 use Rattle.elements.specs.Promise.{isTable, allowed, filled, readOf}
-use Rattle.elements.specs.Theorems.{nth}
 use Rattle.fields.specs.Children.{deeper, subtree, fits, childrenFrom, lastFrom, nthOf}
-use Rattle.fields.specs.Fields.{numberOf, flagOf, partOf, languageOf, valueOf, countOf}
+use Rattle.fields.specs.Fields.{numberOf, flagOf, contentOf, languageOf, valueOf, countOf}
 use Rattle.records.specs.Steps.{reached}
 use Rattle.records.specs.Asked.{asked}
 use Rattle.records.specs.Cases.{Hold}
@@ -23,9 +22,9 @@ use Rattle.tags.specs.Cases.{cases}
 
 pub cases-hold : Hold cases
 unfolding octetBits bits oneMore widthOf bigEndianFrom bigEndian ofWidth vintOf sized named headerOf headerRead
-    headerAt elements kindIn keeps demoted kindUnder member utf8Char behind anyOf goesOn utf8 bodyOf
+    headerAt elements kindIn keeps demoted kindUnder utf8Char member behind anyOf goesOn utf8 bodyOf
     span count join refuseIf full siblings element masterBody rows isTable allowed filled readOf nth
-    deeper subtree fits childrenFrom lastFrom nthOf numberOf flagOf partOf languageOf valueOf countOf
+    deeper subtree fits childrenFrom lastFrom nthOf numberOf flagOf contentOf languageOf valueOf countOf
     reached asked simpleOf targetOf targetsOf tagOf uidOf
 cases-hold =
     let later : Hold (drop 4 cases) = (refl, (refl, (refl, (refl, tt)))) in

@@ -21,7 +21,7 @@ use Rattle.fields.specs.declared.child.Child.{Child}
 use Rattle.fields.specs.declared.child.Child.the-variants.{At as ChildAt, Absent as NoChild}
 use Rattle.records.specs.Asked.{Asked, found, refusing, hasMember, listed, tableAfter}
 use Rattle.records.specs.Told.{fields, refuses}
-use Rattle.records.specs.Contract.{Stands, LocatePromise}
+use Rattle.records.specs.Contract.{Stands, LocateMet}
 use Rattle.records.specs.Promise.{answerOf, RecordPromise}
 use Rattle.records.specs.declared.locate.Located.the-variants.{At, Refused}
 use Rattle.records.proofs.Inner.{lastInner, inner-is, inner-fields}
@@ -65,7 +65,7 @@ module _ (s t : List ℕ) (rows : ℕ) (b : Below) (h : Stands s t rows b) where
 
 module _ (s : List ℕ) (a : Asked) (numbers : ℕ) (list : UidList) (i : ℕ) where
   pub uid-refused :
-      (t′ : List ℕ) (e : Refusal) → LocatePromise s a numbers (Refused e) t′
+      (t′ : List ℕ) (e : Refusal) → LocateMet s a numbers (Refused e) t′
       → RecordPromise (uidOf s list i) (listed a (memberOf list i)) numbers (refuses e) t′
   uid-refused t′ e p =
       let d : listed a (memberOf list i) ≡ refusing e = ap (λ (x : Asked). listed x (memberOf list i)) (p .reply) in
@@ -75,7 +75,7 @@ module _ (s : List ℕ) (a : Asked) (numbers : ℕ) (list : UidList) (i : ℕ) w
       }
 
   module _
-      (t₁ : List ℕ) (n : ℕ) (b : Below) (p : LocatePromise s a numbers (At b n) t₁) (id : ℕ)
+      (t₁ : List ℕ) (n : ℕ) (b : Below) (p : LocateMet s a numbers (At b n) t₁) (id : ℕ)
       (k : id ≡ memberId list)
     where
       is-member : (c : Child) → c ≡ nthOf i (children (b .parent) id Uint (rowsIn t₁ b))

@@ -5,11 +5,11 @@ use mathlib.Core.List.{[], _∷_, _++_}
 use native.Mathlib.Omega.{arith}
 use Rattle.fields.specs.declared.field.Number.{Number}
 use Rattle.fields.specs.declared.field.Flag.{Flag}
-use Rattle.fields.specs.declared.field.Part.{Part}
+use Rattle.fields.specs.declared.field.Content.{Content}
 use Rattle.fields.specs.declared.field.Language.{Language}
 use Rattle.fields.specs.declared.field.TagValue.{TagValue}
 use Rattle.fields.specs.Values.{count}
-use Rattle.fields.proofs.Once.{number-once, flag-once, part-once, language-once, value-once}
+use Rattle.fields.proofs.Once.{number-once, flag-once, content-once, language-once, value-once}
 use Rattle.records.specs.Promise.{ofBelow}
 use Rattle.records.proofs.Lists.{first, rest, count-once}
 use Rattle.records.proofs.Unique.{same-refused, one-answer}
@@ -35,12 +35,12 @@ use Rattle.tags.specs.declared.uid.UidReply.the-variants.{Uid, Refused a
 simple-once : (a b : SimpleTag) → simpleValues a ≡ simpleValues b → a ≡ b
 simple-once a b q =
     same
-    (part-once (a .name) (b .name) (first q))
+    (content-once (a .name) (b .name) (first q))
     (language-once (a .language) (b .language) (first (rest q)))
     (flag-once (a .default) (b .default) (first (rest (rest q))))
     (value-once (a .value) (b .value) (first (rest (rest (rest q)))))
   where
-    same : {x0 y0 : Part} {x1 y1 : Language} {x2 y2 : Flag} {x3 y3 : TagValue}
+    same : {x0 y0 : Content} {x1 y1 : Language} {x2 y2 : Flag} {x3 y3 : TagValue}
         → x0 ≡ y0 → x1 ≡ y1 → x2 ≡ y2 → x3 ≡ y3
         → _≡_ {A = SimpleTag} (record { name = x0; language = x1; default = x2; value = x3 })
         (record { name = y0; language = y1; default = y2; value = y3 })
@@ -50,13 +50,13 @@ target-once : (a b : Target) → targetValues a ≡ targetValues b → a ≡ b
 target-once a b q =
     same
     (number-once (a .«target_type_value») (b .«target_type_value») (first q))
-    (part-once (a .«target_type») (b .«target_type») (first (rest q)))
+    (content-once (a .«target_type») (b .«target_type») (first (rest q)))
     (count-once (a .tracks) (b .tracks) (first (rest (rest q))))
     (count-once (a .editions) (b .editions) (first (rest (rest (rest q)))))
     (count-once (a .chapters) (b .chapters) (first (rest (rest (rest (rest q))))))
     (count-once (a .attachments) (b .attachments) (first (rest (rest (rest (rest (rest q)))))))
   where
-    same : {x0 y0 : Number} {x1 y1 : Part} {x2 y2 : ℕ} {x3 y3 : ℕ} {x4 y4 : ℕ} {x5 y5 : ℕ}
+    same : {x0 y0 : Number} {x1 y1 : Content} {x2 y2 : ℕ} {x3 y3 : ℕ} {x4 y4 : ℕ} {x5 y5 : ℕ}
         → x0 ≡ y0 → x1 ≡ y1 → x2 ≡ y2 → x3 ≡ y3 → x4 ≡ y4 → x5 ≡ y5
         → _≡_ {A = Target}
         (record {

@@ -7,7 +7,7 @@ use Rattle.kinds.specs.declared.kind.Kind.the-variants.{Master, Uint, String, U
 use Rattle.elements.specs.declared.row.Row.{Row}
 use Rattle.fields.specs.Children.{subtree, children, nthOf}
 use Rattle.fields.specs.Values.{Value, flag, numberIn}
-use Rattle.fields.specs.Fields.{lastChild, numberOf, flagOf, partOf, languageOf, valueOf, countOf}
+use Rattle.fields.specs.Fields.{lastChild, numberOf, flagOf, contentOf, languageOf, valueOf, countOf}
 use Rattle.fields.specs.declared.child.Child.{Child}
 use Rattle.fields.specs.declared.child.Child.the-variants.{At as ChildAt, Absent as NoChild}
 use Rattle.tags.specs.declared.uid.UidList.{UidList}
@@ -17,7 +17,7 @@ use Rattle.tags.specs.declared.uid.UidList.the-variants.{Track, Edition,
 module _ (s : List ℕ) (parent : ℕ) (below : List Row) where
   unfoldable pub simpleOf : List Value
   simpleOf =
-      partOf s parent below 0x45A3 Utf8  -- name
+      contentOf s parent below 0x45A3 Utf8  -- name
       ∷ languageOf s parent below 0x447A 0x447B  -- language: ISO 639, IETF
       ∷ flagOf s parent below 0x4484  -- default
       ∷ valueOf s parent below 0x4487 0x4485  -- value: text, bytes
@@ -27,7 +27,7 @@ module _ (s : List ℕ) (parent : ℕ) (below : List Row) where
   unfoldable pub targetOf : List Value
   targetOf =
       numberOf s parent below 0x68CA  -- target number
-      ∷ partOf s parent below 0x63CA String  -- target type
+      ∷ contentOf s parent below 0x63CA String  -- target type
       ∷ countOf s parent below 0x63C5 Uint  -- track uids
       ∷ countOf s parent below 0x63C9 Uint  -- edition uids
       ∷ countOf s parent below 0x63C4 Uint  -- chapter uids

@@ -2,7 +2,7 @@
 use mathlib.Core.List.{List, [], _∷_, _++_}
 use mathlib.Core.Bool.{true, false}
 use Rattle.fields.specs.Values.{Value, number, flag, count}
-use Rattle.fields.specs.Told.{numberTold, flagTold, partTold, languageTold, valueTold}
+use Rattle.fields.specs.Told.{numberTold, flagTold, contentTold, languageTold, valueTold}
 use Rattle.records.specs.Told.{Answer, fields, refuses}
 use Rattle.tags.specs.declared.tag.Target.{Target}
 use Rattle.tags.specs.declared.tag.Targets.{Targets}
@@ -20,12 +20,12 @@ use Rattle.tags.specs.declared.simple.SimpleReply.the-variants.{Simple a
 
 abbrev pub simpleValues : SimpleTag → List Value
 simpleValues t =
-    partTold (t .name) ∷ languageTold (t .language) ∷ flagTold (t .default) ∷ valueTold (t .value) ∷ []
+    contentTold (t .name) ∷ languageTold (t .language) ∷ flagTold (t .default) ∷ valueTold (t .value) ∷ []
 
 abbrev pub targetValues : Target → List Value
 targetValues t =
     numberTold (t .«target_type_value»)
-    ∷ partTold (t .«target_type»)
+    ∷ contentTold (t .«target_type»)
     ∷ count (t .tracks)
     ∷ count (t .editions)
     ∷ count (t .chapters)

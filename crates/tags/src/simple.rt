@@ -8,11 +8,11 @@ ghost use Rattle.tags.specs.Promise.{SimplePromise};
 use fields::Below;
 use fields::Flag;
 use fields::Language;
-use fields::Part;
+use fields::Content;
 use fields::TagValue;
 use fields::flag_field;
 use fields::language_field;
-use fields::part_field;
+use fields::content_field;
 use fields::value_field;
 use header::Refusal;
 use kinds::Kind;
@@ -22,7 +22,7 @@ use records::locate::Step;
 use records::locate::locate;
 
 pub struct SimpleTag {
-    pub name: Part,
+    pub name: Content,
     pub language: Language,
     pub default: Flag,
     pub value: TagValue,
@@ -40,7 +40,7 @@ fn simple_in(recording: &[u8], table: &[u64], master: Below) -> SimpleTag
         (master .parent) (rowsIn (now (table .entry)) master) ⌝ }
 {
     SimpleTag {
-        name: part_field(recording, table, master, ids::TAGNAME, Kind::Utf8),
+        name: content_field(recording, table, master, ids::TAGNAME, Kind::Utf8),
         language: language_field(
             recording,
             table,

@@ -10,11 +10,11 @@ ghost use Rattle.tags.specs.Promise.{TagPromise};
 use fields::Below;
 use fields::Child;
 use fields::Number;
-use fields::Part;
+use fields::Content;
 use fields::count_children;
 use fields::last_child;
 use fields::number_field;
-use fields::part_field;
+use fields::content_field;
 use fields::rows_below;
 use header::Refusal;
 use kinds::Kind;
@@ -26,7 +26,7 @@ use records::locate::locate;
 // What a tag applies to: the target number as it stands, and how many uids each list has.
 pub struct Target {
     pub target_type_value: Number,
-    pub target_type: Part,
+    pub target_type: Content,
     pub tracks: u64,
     pub editions: u64,
     pub chapters: u64,
@@ -57,7 +57,7 @@ fn target_in(recording: &[u8], table: &[u64], master: Below) -> Target
 {
     Target {
         target_type_value: number_field(recording, table, master, ids::TARGETTYPEVALUE),
-        target_type: part_field(recording, table, master, ids::TARGETTYPE, Kind::String),
+        target_type: content_field(recording, table, master, ids::TARGETTYPE, Kind::String),
         tracks: count_children(table, master, ids::TAG_TRACK_UID, Kind::Uint),
         editions: count_children(table, master, ids::TAG_EDITION_UID, Kind::Uint),
         chapters: count_children(table, master, ids::TAG_CHAPTER_UID, Kind::Uint),

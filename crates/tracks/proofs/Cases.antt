@@ -11,9 +11,8 @@ use Rattle.bodies.specs.Bodies.{bodyOf}
 use Rattle.bodies.specs.Numbers.{floatOf}
 use Rattle.elements.specs.Forest.{span, count, join}
 use Rattle.elements.specs.Reading.{refuseIf, full, siblings, element, masterBody}
-use Rattle.elements.specs.Rows.{rows}
+use Rattle.elements.specs.Rows.{rows, nth}
 use Rattle.elements.specs.Promise.{isTable, allowed, filled, readOf}
-use Rattle.elements.specs.Theorems.{nth}
 use Rattle.fields.specs.Children.{deeper, subtree, fits, childrenFrom, lastFrom, nthOf}
 use Rattle.fields.specs.Fields.{numberOf, realOf}
 use Rattle.records.specs.Steps.{reached}
@@ -24,7 +23,7 @@ use Rattle.tracks.specs.Cases.{cases}
 
 pub cases-hold : Hold cases
 unfolding octetBits bits oneMore widthOf bigEndianFrom bigEndian ofWidth vintOf sized named headerOf headerRead
-    headerAt elements kindIn keeps demoted kindUnder member utf8Char behind anyOf goesOn utf8 bodyOf floatOf ofBits
+    headerAt elements kindIn keeps demoted kindUnder utf8Char member behind anyOf goesOn utf8 bodyOf floatOf ofBits
     span count join refuseIf full siblings element masterBody rows isTable allowed filled readOf nth
     deeper subtree fits childrenFrom lastFrom nthOf numberOf realOf
     reached asked audioOf

@@ -3,17 +3,17 @@ use Prim.Native.Nat.{ℕ}
 use mathlib.Core.Path.{ap}
 use mathlib.Core.List.{List}
 use Rattle.places.specs.Promise.{RangePromise, WhosePromise, rangeTold}
-use Rattle.places.specs.Promise.{told as whoseTold}
+use Rattle.places.specs.Promise.{whoseTold}
 use Rattle.places.specs.declared.payload.RangeReply.{RangeReply}
 use Rattle.places.specs.declared.whose.WhoseReply.{WhoseReply}
-use Rattle.search.specs.Part.{PartPromise, told}
+use Rattle.search.specs.Part.{PartPromise, partTold}
 use Rattle.search.specs.declared.part.PartReply.{PartReply}
 use Rattle.viewer.specs.Faces.{partFace, rangeFace, placeFace}
 use Rattle.viewer.specs.Promise.{UzPartPromise, UzRangePromise, UzPlacePromise}
 
 pub part-crosses :
     (s : List ℕ) (part : ℕ) (t : List ℕ) (r : PartReply) (t′ : List ℕ)
-    → PartPromise s part t r t′ → UzPartPromise s part t (partFace (told r)) t′
+    → PartPromise s part t r t′ → UzPartPromise s part t (partFace (partTold r)) t′
 part-crosses s part t r t′ p = record { reply = ap partFace (p .reply); table = p .table }
 
 pub range-crosses :

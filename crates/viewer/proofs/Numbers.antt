@@ -30,7 +30,7 @@ use Rattle.elements.specs.declared.row.Mode.{Mode}
 use Rattle.elements.specs.declared.row.Row.{Row}
 use Rattle.elements.specs.Rows.{rows, width, rowAt}
 use Rattle.elements.specs.Holds.{within}
-use Rattle.places.specs.Payload.{Place as Range, range, refused as refusedRange, placeOf as rangeOf}
+use Rattle.places.specs.Payload.{PayloadRange, range, refused as refusedRange, payloadRange}
 use Rattle.places.specs.Promise.{valuesOf}
 use Rattle.places.specs.Whose.{holderIn, named as namedRow, whoseIn, askedOf, whoseOf}
 use Rattle.places.specs.declared.whose.Holder.{Holder}
@@ -41,13 +41,14 @@ use Rattle.seeks.specs.declared.head.Latest.{Latest}
 use Rattle.seeks.specs.declared.head.Latest.the-variants.{Nowhere, At}
 use Rattle.seeks.specs.declared.seek.Seek.{Seek}
 use Rattle.seektable.specs.Answers.{onHeader, onOutcome}
-use Rattle.seektable.specs.Heads.{Chain, chained, broken, tooFar, member, sought, readHead, follow}
+use Rattle.kinds.specs.Kinds.{member}
+use Rattle.seektable.specs.Heads.{Chain, chained, broken, tooFar, sought, readHead, follow}
 use Rattle.seektable.specs.Heads.{chain, mostHeads, linkedHeads}
-use Rattle.seektable.specs.Lookup.{Place, found, absent, stopped, onChain, byHeads}
+use Rattle.seektable.specs.Lookup.{Lookup, found, absent, stopped, onChain, byHeads}
 use Rattle.seektable.specs.declared.heads.Head.{Head}
 use Rattle.segments.specs.Walk.{Visit, ends as endsAt, over, visit, onVisit}
-use Rattle.segments.specs.Walk.{toSegment, segmentOf, walk, children, placeOf}
-use Rattle.search.specs.Part.{parentOf, Search, onParent, onPlace, searchOf, replyOf}
+use Rattle.segments.specs.Walk.{toSegment, segmentOf, walk, children, lookupOf}
+use Rattle.search.specs.Part.{parentOf, Search, onParent, onLookup, searchOf, replyOf}
 use Rattle.search.specs.Part.{found as foundPart, absent as absentPart, refused as refusedPart}
 use Rattle.search.specs.declared.part.Parent.{Parent}
 use Rattle.search.specs.declared.part.Parent.the-variants.{Id, NoPart}
@@ -182,11 +183,11 @@ module _ (s : List ℕ) (mode : Mode) (cap : ℕ) where
       headed-good (headerOf (drop at s)) _ (heading-good (drop at s)) (λ h. (omega arith, omega arith))
   element-good (suc levels) parent at n =
       headed-good (headerOf (drop at s)) _ (heading-good (drop at s)) (λ h.
-      let body = bodyOf s (at + h .length) (h .size) (kindUnder parent (h .id)) in
+      let body = bodyOf s (at + h .length) (h .size) (kindUnder (h .id) parent) in
       let kids = siblings (element s mode cap levels (h .id)) (h .size) (at + h .length) (h .size) (n + 1) in
       refuse-good (full mode cap n) noFreeRow (above (elementOf parent h) (held body kids)) (omega arith, omega arith)
       (above-good (elementOf parent h) (held body kids)
-      (held-good body kids (body-good s (at + h .length) (h .size) (kindUnder parent (h .id)))
+      (held-good body kids (body-good s (at + h .length) (h .size) (kindUnder (h .id) parent))
       (siblings-good (element s mode cap levels (h .id)) (element-good levels (h .id)) (h .size) (at + h .length)
       (h .size) (n + 1)))))
 
@@ -264,12 +265,12 @@ chain-good s start (suc more) before es head =
 
 -- ---- the search
 
-abbrev GoodPlace : Place → Type 0
+abbrev GoodPlace : Lookup → Type 0
 GoodPlace (found at size heads) = Unit
 GoodPlace (absent heads) = Unit
 GoodPlace (stopped e) = Numbered (e .number)
 
-on-chain : (c : Chain) (next : List ℕ → List Seek → Place) → GoodChain c
+on-chain : (c : Chain) (next : List ℕ → List Seek → Lookup) → GoodChain c
     → ((heads : List ℕ) (es : List Seek) → GoodPlace (next heads es)) → GoodPlace (onChain c next)
 on-chain (chained heads es) next g k = k heads es
 on-chain (broken e) next g k = g
@@ -277,9 +278,9 @@ on-chain (broken e) next g k = g
 by-heads-good : (s : List ℕ) (wanted start : ℕ) (first : Head) → GoodPlace (byHeads s wanted start first)
 unfolding byHeads
 by-heads-good s wanted start first =
-    let part : List ℕ → ℕ → Place = λ heads position.
+    let part : List ℕ → ℕ → Lookup = λ heads position.
     onHeader (sought s (start + position) wanted) stopped (λ h payload. found (payload .at) (h .size) heads) in
-    let near : List ℕ → ℕ → Place = λ heads position.
+    let near : List ℕ → ℕ → Lookup = λ heads position.
     cond (tooFar start position) (stopped (invalidSeekHead wanted)) (part heads position) in
     on-chain (linkedHeads s start first) (λ heads es. onLatest (latest wanted es) (absent heads) (near heads))
     (chain-good s start (mostHeads - 1) [] [] first) (λ heads es.
@@ -301,7 +302,7 @@ abbrev GoodVisit : Visit → Type 0
 GoodVisit (endsAt p) = GoodPlace p
 GoodVisit over = Unit
 
-on-visit : (v : Visit) (next : Place) → GoodVisit v → GoodPlace next → GoodPlace (onVisit v next)
+on-visit : (v : Visit) (next : Lookup) → GoodVisit v → GoodPlace next → GoodPlace (onVisit v next)
 on-visit (endsAt p) next g k = g
 on-visit over next g k = k
 
@@ -322,8 +323,8 @@ walk-good s wanted start end (suc most) at =
     (choice GoodPlace (ltb end (payload .at + h .size)) (stopped overrun) _ (omega arith, omega arith)
     (walk-good s wanted start end most (payload .at + h .size)))))
 
-place-good : (s : List ℕ) (wanted : ℕ) → GoodPlace (placeOf s wanted)
-unfolding placeOf segmentOf children
+place-good : (s : List ℕ) (wanted : ℕ) → GoodPlace (lookupOf s wanted)
+unfolding lookupOf segmentOf children
 place-good s wanted =
     on-header GoodPlace (segmentOf s) stopped _ (segment-good s (length s) 0) (λ e g. g) (λ h start.
     walk-good s wanted (start .at) (start .at + h .size) (h .size) (start .at))
@@ -333,8 +334,8 @@ GoodSearch (foundPart at size heads f) = Unit
 GoodSearch (absentPart heads) = Unit
 GoodSearch (refusedPart e) = Numbered (e .number)
 
-on-place : (p : Place) (next : ℕ → ℕ → List ℕ → Search) → GoodPlace p
-    → ((at size : ℕ) (heads : List ℕ) → GoodSearch (next at size heads)) → GoodSearch (onPlace p next)
+on-place : (p : Lookup) (next : ℕ → ℕ → List ℕ → Search) → GoodPlace p
+    → ((at size : ℕ) (heads : List ℕ) → GoodSearch (next at size heads)) → GoodSearch (onLookup p next)
 on-place (found at size heads) next g k = k at size heads
 on-place (absent heads) next g k = tt
 on-place (stopped e) next g k = g
@@ -349,7 +350,7 @@ unfolding searchOf
 search-good s part numbers =
     choice GoodSearch (not (allowed s 0 numbers)) (refusedPart badArgument) _ (omega arith, omega arith)
     (on-parent (parentOf part) (refusedPart badArgument) _ (omega arith, omega arith) (λ parent.
-    on-place (placeOf s part) _ (place-good s part) (λ at size heads.
+    on-place (lookupOf s part) _ (place-good s part) (λ at size heads.
     on-outcome GoodSearch (filled s at size parent numbers) refusedPart _ (filled-good s at size parent numbers)
     (λ e g. g) (λ f. tt))))
 
@@ -367,11 +368,11 @@ part-good s part numbers = go (searchOf s part numbers) (search-good s part numb
     go (absentPart heads) g = tt
     go (refusedPart e) g = g
 
-pub range-good : (s t : List ℕ) (row : ℕ) → GoodReply (valuesOf (rangeOf s t row))
-unfolding rangeOf
+pub range-good : (s t : List ℕ) (row : ℕ) → GoodReply (valuesOf (payloadRange s t row))
+unfolding payloadRange
 range-good s t row =
     let r = rowAt t row in
-    choice (λ (p : Range). GoodReply (valuesOf p))
+    choice (λ (p : PayloadRange). GoodReply (valuesOf p))
     (allowed s 0 (length t) && (ltb row (length t / width) && leb (r .address + r .header + r .payload) (length s)))
     (range (r .address + r .header) (r .payload)) (refusedRange badArgument) tt (omega arith, omega arith)
 

@@ -5,7 +5,7 @@ use mathlib.Core.Path.{_≡_, refl, ap, sym, _∙_, subst}
 use native.Mathlib.Omega.{arith}
 use lib.ListN.{length}
 use Rattle.header.specs.Reply.{Reply, accepted, refusal}
-use Rattle.places.specs.Payload.{placeOf}
+use Rattle.places.specs.Payload.{payloadRange}
 use Rattle.places.specs.Promise.{valuesOf}
 use Rattle.places.specs.Whose.{askedOf, whoseOf}
 use Rattle.search.specs.Part.{searchOf, replyOf}
@@ -49,7 +49,7 @@ part-tells s part t r t′ p =
 
 pub range-tells : RangeTells
 range-tells s t row r p =
-    let reply = valuesOf (placeOf s t row) in
+    let reply = valuesOf (payloadRange s t row) in
     subst (Tells reply) (range-crossed reply ∙ ap (λ (x : UzRange). x .refused) (sym (p .reply)))
     (tells reply (range-good s t row))
 

@@ -5,7 +5,7 @@ use mathlib.Core.Path.{_≡_}
 use mathlib.Core.List.{List}
 use lib.ListN.{length}
 use Rattle.elements.specs.Promise.{tableOf as readTable}
-use Rattle.places.specs.Payload.{placeOf}
+use Rattle.places.specs.Payload.{payloadRange}
 use Rattle.places.specs.Promise.{valuesOf}
 use Rattle.places.specs.Whose.{askedOf, whoseOf}
 use Rattle.search.specs.Part.{searchOf, replyOf, tableOf}
@@ -19,7 +19,7 @@ pub record UzPartPromise (s : List ℕ) (part : ℕ) (t : List ℕ) (r : UzPart)
   pub table : t′ ≡ tableOf (length t) (searchOf s part (length t))
 
 pub record UzRangePromise (s t : List ℕ) (row : ℕ) (r : UzRange) : Type 0 where
-  pub reply : r ≡ rangeFace (valuesOf (placeOf s t row))
+  pub reply : r ≡ rangeFace (valuesOf (payloadRange s t row))
 
 pub record UzPlacePromise
     (s : List ℕ) (start size parent x : ℕ) (t : List ℕ) (r : UzPlace) (t′ : List ℕ) : Type 0 where

@@ -4,7 +4,7 @@ use mathlib.Core.Path.{_≡_}
 use mathlib.Core.List.{List}
 use lib.ListN.{length}
 use Rattle.header.specs.Reply.{Reply, accepted, refusal}
-use Rattle.places.specs.Payload.{placeOf}
+use Rattle.places.specs.Payload.{payloadRange}
 use Rattle.places.specs.Promise.{valuesOf}
 use Rattle.places.specs.Whose.{askedOf, whoseOf}
 use Rattle.search.specs.Part.{searchOf, replyOf}
@@ -51,7 +51,7 @@ PartTells =
 abbrev pub RangeTells : Type 0
 RangeTells =
     (s t : List ℕ) (row : ℕ) (r : UzRange)
-    → UzRangePromise s t row r → Tells (valuesOf (placeOf s t row)) (r .refused)
+    → UzRangePromise s t row r → Tells (valuesOf (payloadRange s t row)) (r .refused)
 
 abbrev pub PlaceTells : Type 0
 PlaceTells =

@@ -9,12 +9,12 @@ use Rattle.attachments.proofs.attachment.attachment_in.Tie as tie
 returns : tie.Need-returns
 unfolding attachmentOf
 returns c =
-    let part-field = c .before .before .before .part-field in
-    let part-field2 = c .before .before .part-field2 in
-    then (part-field .ensures)
-    (then (part-field2 .ensures)
-    (then (c .before .part-field3 .ensures)
-    (then (c .part-field4 .ensures) refl)))
+    let content-field = c .before .before .before .content-field in
+    let content-field2 = c .before .before .content-field2 in
+    then (content-field .ensures)
+    (then (content-field2 .ensures)
+    (then (c .before .content-field3 .ensures)
+    (then (c .content-field4 .ensures) refl)))
 
 pub attachment-in-spec : {M : Type 1} → statement M
 attachment-in-spec =

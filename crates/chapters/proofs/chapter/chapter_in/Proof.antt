@@ -14,13 +14,13 @@ returns c =
     let number-field3 = c .before .before .before .before .before .number-field3 in
     let flag-field = c .before .before .before .before .flag-field in
     let flag-field2 = c .before .before .before .flag-field2 in
-    let part-field = c .before .before .part-field in
+    let content-field = c .before .before .content-field in
     then (number-field .ensures)
     (then (number-field2 .ensures)
     (then (number-field3 .ensures)
     (then (flag-field .ensures)
     (then (flag-field2 .ensures)
-    (then (part-field .ensures)
+    (then (content-field .ensures)
     (then (c .before .number-field4 .ensures)
     (then (counted _ _ _ _ _ _ (c .count-children .ensures)) refl)))))))
 

@@ -9,7 +9,7 @@ use Rattle.chapters.proofs.display.display_in.Tie as tie
 returns : tie.Need-returns
 unfolding displayOf
 returns c =
-    then (c .before .part-field .ensures)
+    then (c .before .content-field .ensures)
     (then (c .language-field .ensures) refl)
 
 pub display-in-spec : {M : Type 1} → statement M

@@ -10,20 +10,20 @@ use borrow.Author.Needs.{needs}
 use Rattle.entries.proofs.track.track_in.Statement.{statement}
 use Rattle.entries.proofs.track.track_in.Tie as tie
 
-part-field-requires-2 : tie.Need-part-field-requires-2
-part-field-requires-2 c κs =
+content-field-requires-2 : tie.Need-content-field-requires-2
+content-field-requires-2 c κs =
     let near = c .before .before .before .before .before .before in
     let start = near .before .before .before .before .before .before .before in
     readable _ _ _ _ (start .pre)
 
-part-field-requires-3 : tie.Need-part-field-requires-3
-part-field-requires-3 c κs =
+content-field-requires-3 : tie.Need-content-field-requires-3
+content-field-requires-3 c κs =
     let near = c .before .before .before .before .before .before .before in
     let start = near .before .before .before .before .before .before .before in
     readable _ _ _ _ (start .pre)
 
-part-field-requires-4 : tie.Need-part-field-requires-4
-part-field-requires-4 c κs =
+content-field-requires-4 : tie.Need-content-field-requires-4
+content-field-requires-4 c κs =
     let near = c .before .before .before .before .before .before .before in
     let start = near .before .before .before .before .before .before .before .before in
     readable _ _ _ _ (start .pre)
@@ -48,11 +48,11 @@ returns c =
     let flag-field3 = near .flag-field3 in
     let flag-field4 = c .before .before .before .before .before .before .before .flag-field4 in
     let number-field4 = c .before .before .before .before .before .before .number-field4 in
-    let part-field = c .before .before .before .before .before .part-field in
+    let content-field = c .before .before .before .before .before .content-field in
     let language-field = c .before .before .before .before .language-field in
-    let part-field2 = c .before .before .before .part-field2 in
-    let part-field3 = c .before .before .part-field3 in
-    let part-field4 = c .before .part-field4 in
+    let content-field2 = c .before .before .before .content-field2 in
+    let content-field3 = c .before .before .content-field3 in
+    let content-field4 = c .before .content-field4 in
     track-is _ _ _ _ (start .pre) _ _ (c .settings-in .ensures)
     (then (number-field .ensures)
     (then (number-field2 .ensures)
@@ -67,11 +67,11 @@ returns c =
     (then refl
     (then (flag-field4 .ensures)
     (then (number-field4 .ensures)
-    (then (part-field .ensures)
+    (then (content-field .ensures)
     (then (language-field .ensures)
-    (then (part-field2 .ensures)
-    (then (part-field3 .ensures)
-    (then (part-field4 .ensures)
+    (then (content-field2 .ensures)
+    (then (content-field3 .ensures)
+    (then (content-field4 .ensures)
     refl))))))))))))))))))
 
 pub track-in-spec : {M : Type 1} → statement M
@@ -79,4 +79,4 @@ track-in-spec =
     tie.close (tie.spec (λ c κs. search readable) (λ c κs. search readable) (λ c κs. search readable)
     (λ c κs. search needs) (λ c κs. search readable) (λ c κs. search readable) (λ c κs. search readable)
     (λ c κs. search readable) (λ c κs. search readable) (λ c κs. search readable) (λ c κs. search readable)
-    part-field-requires-2 part-field-requires-3 part-field-requires-4 settings-in-requires returns)
+    content-field-requires-2 content-field-requires-3 content-field-requires-4 settings-in-requires returns)

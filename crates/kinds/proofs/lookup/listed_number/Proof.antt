@@ -7,18 +7,18 @@ use Rattle.kinds.proofs.Listed.{list-rises, listed, unlisted}
 use Rattle.kinds.proofs.lookup.listed_number.Statement.{statement}
 use Rattle.kinds.proofs.lookup.listed_number.Tie as tie
 
-place-of-requires : tie.Need-place-of-requires
-place-of-requires c κs = list-rises _ (c .before .pre)
+lower-bound-requires : tie.Need-lower-bound-requires
+lower-bound-requires c κs = list-rises _ (c .before .pre)
 
 returns : tie.Need-returns
 returns c =
     let start = c .before .before .before in
-    sym (ap numberOf (unlisted _ (start .pre) _ _ (c .before .place-of .ensures) (λ h. absurd (omega arith))))
+    sym (ap numberOf (unlisted _ (start .pre) _ _ (c .before .lower-bound .ensures) (λ h. absurd (omega arith))))
 
 returns-2 : tie.Need-returns-2
 returns-2 c =
     let start = c .before .before .before .before .before in
-    let place = c .before .before .before .place-of .ensures in
+    let place = c .before .before .before .lower-bound .ensures in
     sym (ap numberOf (unlisted _ (start .pre) _ _ place (λ h. c .if2 .taken)))
 
 returns-3 : tie.Need-returns-3
@@ -28,5 +28,5 @@ returns-3 c =
 
 pub listed-number-spec : {M : Type 1} → statement M
 listed-number-spec =
-    tie.close (tie.spec (λ c. search needs) place-of-requires returns (λ c. search needs) (λ c. search needs) returns-2
+    tie.close (tie.spec (λ c. search needs) lower-bound-requires returns (λ c. search needs) (λ c. search needs) returns-2
     returns-3)

@@ -10,9 +10,9 @@ use Rattle.kinds.proofs.lookup.stays_master.Statement.{statement}
 use Rattle.kinds.proofs.lookup.stays_master.Tie as tie
 
 -- A set of one id, which is the set of a parent.
-single : (parent id p i : ℕ) → staysMaster p id ≡ member (i ∷ []) id → parent ≡ p → eqb id i ≡ staysMaster parent id
+single : (parent id p i : ℕ) → staysMaster id p ≡ member id (i ∷ []) → parent ≡ p → eqb id i ≡ staysMaster id parent
 unfolding member
-single parent id p i e h = sym (or-false (eqb id i)) ∙ sym e ∙ ap (λ (q : ℕ). staysMaster q id) (sym h)
+single parent id p i e h = sym (or-false (eqb id i)) ∙ sym e ∙ ap (λ (q : ℕ). staysMaster id q) (sym h)
 
 returns : tie.Need-returns
 unfolding keeps

@@ -45,8 +45,8 @@ put-requires-2 c κs = search needs
 enum-known-at : tie.Need-enum-known-at
 enum-known-at c = search needs
 
-part-place-requires : tie.Need-part-place-requires
-part-place-requires c κs = search needs
+place-text-requires : tie.Need-place-text-requires
+place-text-requires c κs = search needs
 
 row-lines-requires : tie.Need-row-lines-requires
 row-lines-requires c κs =
@@ -60,7 +60,7 @@ row-lines-requires c κs =
     let k = found-few _ _ _ _ l _ _ _ _ f in
     let t = p3 .find-part .kept .1 .1 .0 in
     let (a, x) = p4 .put-hexadecimal .ensures in
-    let (b, y) = p1 .part-place .ensures in
+    let (b, y) = p1 .place-text .ensures in
     let m = a .long in
     let n = b .long in
     (omega arith, omega arith)
@@ -124,7 +124,7 @@ returns-3 c =
     let f = rw (p3 .at .given .1) at (p4 .find-part .ensures) in
     let k = found-few _ _ _ _ l _ _ _ _ f in
     let (a, x) = p5 .put-hexadecimal .ensures in
-    let (b, y) = p2 .part-place .ensures in
+    let (b, y) = p2 .place-text .ensures in
     let (d, z) = c .before .before .row-lines .ensures in
     let m = a .long in
     let w = then _ _ _ _ _ _ _ _ b d (omega arith) in
@@ -147,7 +147,7 @@ part-lines-spec =
     slice-aggregate-put-2
     put-requires-2
     enum-known-at
-    part-place-requires
+    place-text-requires
     row-lines-requires
     same-length
     same-length-2

@@ -17,9 +17,9 @@ returns c =
     let a = failed _ _ (b .is-allowed .ensures ∙ allowed-as _ _ (k .kept .0)) (c .before .if1 .taken) in
     find-broken _ _ _ _ _ a (c .bad-argument .ensures) (k .ensures)
 
-place-of-requires : tie.Need-place-of-requires
+look-up-requires : tie.Need-look-up-requires
 unfolding elements
-place-of-requires c κs =
+look-up-requires c κs =
     let b = c .before .before .before .before in
     let w = within _ _ _ (passed _ _ (b .before .before .is-allowed .ensures) (b .before .if1 .left)) in
     record { listed = refl; small = w .bytes }
@@ -30,7 +30,7 @@ fill-requires c κs =
     let b = p .before .before .before .before .before in
     let k = b .before .before .before .before .before .before .clear in
     let a = passed _ _ (b .before .before .is-allowed .ensures) (b .before .if1 .left) in
-    let w = sym (c .before .before .at .given .1) ∙ p .place-of .ensures in
+    let w = sym (c .before .before .at .given .1) ∙ p .look-up .ensures in
     (found-allowed _ _ _ _ _ _ a w, k .ensures ∙ zeros-as (sym (k .kept .0)))
 
 returns-2 : tie.Need-returns-2
@@ -48,7 +48,7 @@ returns-3 c =
     let k = b .before .before .before .before .before .before .clear in
     let a = passed _ _ (b .before .before .is-allowed .ensures ∙ allowed-as _ _ (k .kept .0)) (b .before .if1 .left) in
     let i = sym (b .parent-of .ensures) ∙ p .before .before .before .parent .given .1 in
-    find-stopped _ _ _ a _ i _ _ (sym (c .before .refusal .given .1) ∙ p .place-of .ensures) (k .ensures)
+    find-stopped _ _ _ a _ i _ _ (sym (c .before .refusal .given .1) ∙ p .look-up .ensures) (k .ensures)
 
 returns-4 : tie.Need-returns-4
 returns-4 c =
@@ -57,7 +57,7 @@ returns-4 c =
     let k = b .before .before .before .before .before .before .clear in
     let a = passed _ _ (b .before .before .is-allowed .ensures ∙ allowed-as _ _ (k .kept .0)) (b .before .if1 .left) in
     let i = sym (b .parent-of .ensures) ∙ p .before .before .before .parent .given .1 in
-    find-absent _ _ _ a _ i _ _ (sym (c .before .heads .given .1) ∙ p .place-of .ensures) (k .ensures)
+    find-absent _ _ _ a _ i _ _ (sym (c .before .heads .given .1) ∙ p .look-up .ensures) (k .ensures)
 
 returns-5 : tie.Need-returns-5
 returns-5 c =
@@ -67,7 +67,7 @@ returns-5 c =
     let k = b .before .before .before .before .before .before .clear in
     let a = passed _ _ (b .before .before .is-allowed .ensures ∙ allowed-as _ _ (k .kept .0)) (b .before .if1 .left) in
     let i = sym (b .parent-of .ensures) ∙ p .before .before .before .parent .given .1 in
-    let w = sym (f .before .before .before .at .given .1) ∙ p .place-of .ensures in
+    let w = sym (f .before .before .before .at .given .1) ∙ p .look-up .ensures in
     let r = rw (c .before .refusal2 .given .1) at (f .fill .ensures) in
     find-refused _ _ _ a _ i _ _ _ w _ _ (as-lent _ _ _ _ _ _ _ _ (k .kept .0) r)
 
@@ -79,7 +79,7 @@ returns-6 c =
     let k = b .before .before .before .before .before .before .clear in
     let a = passed _ _ (b .before .before .is-allowed .ensures ∙ allowed-as _ _ (k .kept .0)) (b .before .if1 .left) in
     let i = sym (b .parent-of .ensures) ∙ p .before .before .before .parent .given .1 in
-    let w = sym (f .before .before .before .at .given .1) ∙ p .place-of .ensures in
+    let w = sym (f .before .before .before .at .given .1) ∙ p .look-up .ensures in
     let r = rw (c .before .rows .given .1) at (f .fill .ensures) in
     find-rows _ _ _ a _ i _ _ _ w _ _ (as-lent _ _ _ _ _ _ _ _ (k .kept .0) r)
 
@@ -87,6 +87,6 @@ pub find-part-spec : {M : Type 1} → statement M
 find-part-spec =
     tie.close (tie.spec (λ c κs. search needs) (λ c κs. search needs) (λ c κs. search needs) (λ c. search needs) returns
     (λ c κs. search needs) (λ c. search needs) (λ c κs. search needs) (λ c. search needs) (λ c. search needs)
-    place-of-requires (λ c. search needs) (λ c. search needs) (λ c. search needs) fill-requires (λ c. search needs)
+    look-up-requires (λ c. search needs) (λ c. search needs) (λ c. search needs) fill-requires (λ c. search needs)
     (λ c. search needs) (λ c. search needs) returns-2 (λ c. search needs) returns-3 (λ c. search needs) returns-4
     (λ c. search needs) returns-5 (λ c. search needs) returns-6)

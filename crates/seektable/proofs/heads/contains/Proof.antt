@@ -7,7 +7,7 @@ use mathlib.Core.Path.{_≡_, sym, _∙_}
 use native.Mathlib.Omega.{arith}
 use lib.ListN.{length, take, drop}
 use lib.Seq.{length-take-le, getD-take}
-use Rattle.seektable.specs.Heads.{member}
+use Rattle.kinds.specs.Kinds.{member}
 use Rattle.seektable.proofs.Seen.{member-here, member-later, no-member}
 
 abbrev Inv-loop : tie.InvT-loop

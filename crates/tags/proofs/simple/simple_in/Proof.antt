@@ -9,9 +9,9 @@ use Rattle.tags.proofs.simple.simple_in.Tie as tie
 returns : tie.Need-returns
 unfolding simpleOf
 returns c =
-    let part-field = c .before .before .before .part-field in
+    let content-field = c .before .before .before .content-field in
     let language-field = c .before .before .language-field in
-    then (part-field .ensures)
+    then (content-field .ensures)
     (then (language-field .ensures)
     (then (c .before .flag-field .ensures)
     (then (c .value-field .ensures) refl)))

@@ -10,11 +10,11 @@ returns : tie.Need-returns
 unfolding targetOf
 returns c =
     let number-field = c .before .before .before .before .before .number-field in
-    let part-field = c .before .before .before .before .part-field in
+    let content-field = c .before .before .before .before .content-field in
     let count-children = c .before .before .before .count-children in
     let count-children2 = c .before .before .count-children2 in
     then (number-field .ensures)
-    (then (part-field .ensures)
+    (then (content-field .ensures)
     (then (counted _ _ _ _ _ _ (count-children .ensures))
     (then (counted _ _ _ _ _ _ (count-children2 .ensures))
     (then (counted _ _ _ _ _ _ (c .before .count-children3 .ensures))

@@ -1,11 +1,11 @@
--- `part_place` meets its contract: three labelled numbers and the line's end. Assumes nothing.
+-- `place_text` meets its contract: three labelled numbers and the line's end. Assumes nothing.
 use native.Mathlib.Omega.{arith}
-use Rattle.listing.specs.Listing.{partPlace}
+use Rattle.listing.specs.Listing.{placeText}
 use Rattle.pages.specs.Text.{ascii}
 use Rattle.pages.proofs.Pages.{then, then-labelled}
 use borrow.Author.Needs.{needs}
-use Rattle.listing.proofs.listed.part_place.Statement.{statement}
-use Rattle.listing.proofs.listed.part_place.Tie as tie
+use Rattle.listing.proofs.listed.place_text.Statement.{statement}
+use Rattle.listing.proofs.listed.place_text.Tie as tie
 
 slice-aggregate-put-decimal : tie.Need-slice-aggregate-put-decimal
 slice-aggregate-put-decimal c = search needs
@@ -35,7 +35,7 @@ same-length : tie.Need-same-length
 same-length c = search needs
 
 returns : tie.Need-returns
-unfolding partPlace
+unfolding placeText
 returns c =
     let p2 = c .before .before .before .before .before .before .before in
     let p3 = p2 .before .before .before .before .before in
@@ -51,8 +51,8 @@ returns c =
     let three = then-labelled _ _ _ _ _ (ascii " rows ") _ _ _ two count (omega arith) in
     (then _ _ _ _ _ _ _ _ three end (omega arith), omega arith)
 
-pub part-place-spec : {M : Type 1} → statement M
-part-place-spec =
+pub place-text-spec : {M : Type 1} → statement M
+place-text-spec =
     tie.close
     (tie.spec
     slice-aggregate-put-decimal

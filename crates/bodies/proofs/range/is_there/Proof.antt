@@ -5,8 +5,8 @@ use Prim.Native.Nat.{_+_}
 use lib.ListN.{length}
 use borrow.Author.Tests.{lt-leb}
 use Rattle.bodies.proofs.Ends.{same-room}
-use Rattle.bodies.proofs.part.is_there.Statement.{statement}
-use Rattle.bodies.proofs.part.is_there.Tie as tie
+use Rattle.bodies.proofs.range.is_there.Statement.{statement}
+use Rattle.bodies.proofs.range.is_there.Tie as tie
 
 returns : tie.Need-returns
 returns c =

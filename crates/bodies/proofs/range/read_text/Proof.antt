@@ -8,8 +8,8 @@ use Rattle.bodies.specs.declared.body.BodyRead.the-variants.{Refused}
 use Rattle.laws.proofs.Turned.{failed, passed}
 use Rattle.bodies.proofs.ByKind.{text-ends, text-bad, text-there}
 use Prim.Native.Nat.{_+_}
-use Rattle.bodies.proofs.part.read_text.Statement.{statement}
-use Rattle.bodies.proofs.part.read_text.Tie as tie
+use Rattle.bodies.proofs.range.read_text.Statement.{statement}
+use Rattle.bodies.proofs.range.read_text.Tie as tie
 
 returns : tie.Need-returns
 returns c =

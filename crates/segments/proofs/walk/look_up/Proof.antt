@@ -1,10 +1,10 @@
--- `place_of` meets its contract: the segment, then the walk over its children. Assumes nothing.
+-- `look_up` meets its contract: the segment, then the walk over its children. Assumes nothing.
 use mathlib.Core.Path.{sym, _∙_}
 use Rattle.segments.proofs.Before.{segment-there}
 use Rattle.segments.proofs.Walking.{place-refused, place-walked}
 use borrow.Author.Needs.{needs}
-use Rattle.segments.proofs.walk.place_of.Statement.{statement}
-use Rattle.segments.proofs.walk.place_of.Tie as tie
+use Rattle.segments.proofs.walk.look_up.Statement.{statement}
+use Rattle.segments.proofs.walk.look_up.Tie as tie
 
 segment-of-requires : tie.Need-segment-of-requires
 segment-of-requires c κs = c .before .before .pre .small
@@ -27,6 +27,6 @@ returns-2 c =
     let q = sym (b .segment-of .ensures) ∙ c .before .before .header .given .1 in
     c .walk .ensures ∙ place-walked _ _ _ _ q
 
-pub place-of-spec : {M : Type 1} → statement M
-place-of-spec =
+pub look-up-spec : {M : Type 1} → statement M
+look-up-spec =
     tie.close (tie.spec segment-of-requires (λ c. search needs) (λ c. search needs) walk-requires returns returns-2)

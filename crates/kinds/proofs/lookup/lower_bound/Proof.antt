@@ -1,12 +1,12 @@
--- `place_of` meets its contract: what stands before `low` is less than x, what stands at `high` or after it is not.
+-- `lower_bound` meets its contract: what stands before `low` is less than x, what stands at `high` or after it is not.
 -- Assumes nothing.
 use borrow.Author.Needs.{needs}
 use native.Mathlib.Omega.{arith}
 use Prim.Native.Nat.{ℕ, _≤_, _<_, _-_}
 use lib.ListN.{length, getD}
 use Rattle.kinds.proofs.Order.{lower, upper}
-use Rattle.kinds.proofs.lookup.place_of.Statement.{statement}
-use Rattle.kinds.proofs.lookup.place_of.Tie as tie
+use Rattle.kinds.proofs.lookup.lower_bound.Statement.{statement}
+use Rattle.kinds.proofs.lookup.lower_bound.Tie as tie
 
 abbrev Inv-loop : tie.InvT-loop
 Inv-loop table x low₀ high₀ low high =
@@ -42,7 +42,7 @@ returns c =
       above = λ k l h. here .loop .inv .3 k (omega arith) h;
     }
 
-pub place-of-spec : {M : Type 1} → statement M
-place-of-spec =
+pub lower-bound-spec : {M : Type 1} → statement M
+lower-bound-spec =
     tie.close (tie.spec Inv-loop μ-loop loop-holds (λ c. search needs) (λ c. search needs) (λ c. search needs)
     (λ c. search needs) (λ c. search needs) (λ c. search needs) loop-again (λ c. search needs) loop-again-2 returns)

@@ -7,8 +7,8 @@ use Rattle.bodies.specs.declared.body.BodyRead.the-variants.{Refused}
 use Rattle.laws.proofs.Turned.{failed, passed}
 use Rattle.bodies.proofs.ByKind.{bytes-ends, bytes-there}
 use Prim.Native.Nat.{_+_}
-use Rattle.bodies.proofs.part.read_bytes.Statement.{statement}
-use Rattle.bodies.proofs.part.read_bytes.Tie as tie
+use Rattle.bodies.proofs.range.read_bytes.Statement.{statement}
+use Rattle.bodies.proofs.range.read_bytes.Tie as tie
 
 returns : tie.Need-returns
 returns c =
