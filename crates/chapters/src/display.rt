@@ -13,9 +13,9 @@ use fields::content_field;
 use header::Refusal;
 use kinds::Kind;
 use kinds::ids;
-use records::locate::Located;
-use records::locate::Step;
-use records::locate::locate;
+use records::steps::Located;
+use records::steps::Step;
+use records::steps::locate;
 
 pub struct ChapterDisplay {
     pub string: Content,

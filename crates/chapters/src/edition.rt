@@ -14,9 +14,9 @@ use fields::number_field;
 use header::Refusal;
 use kinds::Kind;
 use kinds::ids;
-use records::locate::Located;
-use records::locate::Step;
-use records::locate::locate;
+use records::steps::Located;
+use records::steps::Step;
+use records::steps::locate;
 
 pub struct ChapterEdition {
     pub uid: Number,

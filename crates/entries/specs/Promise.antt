@@ -4,7 +4,7 @@ use mathlib.Core.List.{List}
 use lib.ListN.{length}
 use Rattle.records.specs.Asked.{Asked, asked}
 use Rattle.records.specs.Promise.{RecordPromise}
-use Rattle.records.specs.declared.locate.Step.the-variants.{Here, Nth}
+use Rattle.records.specs.declared.steps.Step.the-variants.{Here, Nth}
 use Rattle.entries.specs.Records.{trackOf}
 use Rattle.entries.specs.Told.{trackTold}
 use Rattle.entries.specs.declared.track.TrackReply.{TrackReply}

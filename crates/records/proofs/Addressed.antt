@@ -27,9 +27,9 @@ use Rattle.records.specs.Told.{fields}
 use Rattle.records.specs.Contract.{Known}
 use Rattle.records.specs.Promise.{RecordPromise}
 use Rattle.records.specs.Theorems.{PayloadOf, Placed, AllPlaced, Addressed}
-use Rattle.records.specs.declared.locate.Step.{Step}
-use Rattle.records.specs.declared.locate.Spot.{Spot}
-use Rattle.records.specs.declared.locate.Spot.the-variants.{Absent, At}
+use Rattle.records.specs.declared.steps.Step.{Step}
+use Rattle.records.specs.declared.steps.Spot.{Spot}
+use Rattle.records.specs.declared.steps.Spot.the-variants.{Absent, At}
 use Rattle.records.proofs.Ways.{subtree-fits, entered-known}
 
 -- ---- a row below a master is one of the rows

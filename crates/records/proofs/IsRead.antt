@@ -15,7 +15,7 @@ use Rattle.records.specs.Asked.{Asked, found, refusing, asked, listed, h
 use Rattle.records.specs.Told.{fields}
 use Rattle.records.specs.Promise.{RecordPromise}
 use Rattle.records.specs.Theorems.{AnswerIsRead, MemberIsRead}
-use Rattle.records.specs.declared.locate.Step.{Step}
+use Rattle.records.specs.declared.steps.Step.{Step}
 use Rattle.records.proofs.Settled.{record-is-read}
 
 module _

@@ -30,10 +30,10 @@ use Rattle.records.specs.Steps.{reached}
 use Rattle.records.specs.Asked.{Asked, found, refusing, settled, sought, asked, tableAfter}
 use Rattle.records.specs.Contract.{LocateMet}
 use Rattle.records.specs.Theorems.{RecordIsRead}
-use Rattle.records.specs.declared.locate.Step.{Step}
-use Rattle.records.specs.declared.locate.Spot.{Spot}
-use Rattle.records.specs.declared.locate.Spot.the-variants.{Absent, At as SpotAt}
-use Rattle.records.specs.declared.locate.Located.the-variants.{At, Refused}
+use Rattle.records.specs.declared.steps.Step.{Step}
+use Rattle.records.specs.declared.steps.Spot.{Spot}
+use Rattle.records.specs.declared.steps.Spot.the-variants.{Absent, At as SpotAt}
+use Rattle.records.specs.declared.steps.Located.the-variants.{At, Refused}
 
 -- ---- the reading
 

@@ -15,8 +15,8 @@ use Rattle.records.specs.Asked.{Asked}
 use Rattle.records.specs.Told.{fields, refuses}
 use Rattle.records.specs.Contract.{Stands, LocateMet}
 use Rattle.records.specs.Promise.{answerOf, RecordPromise, ofBelow}
-use Rattle.records.specs.declared.locate.Located.{Located}
-use Rattle.records.specs.declared.locate.Located.the-variants.{At, Refused}
+use Rattle.records.specs.declared.steps.Located.{Located}
+use Rattle.records.specs.declared.steps.Located.the-variants.{At, Refused}
 use Rattle.records.proofs.Ways.{readable}
 
 module _ {s : List ℕ} {a : Asked} {numbers : ℕ} {r : Located} {t′ : List ℕ} (p : LocateMet s a numbers r t′) where

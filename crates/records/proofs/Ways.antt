@@ -21,10 +21,10 @@ use Rattle.fields.specs.declared.child.Child.the-variants.{At as ChildAt, Absen
 use Rattle.fields.proofs.Picked.{IsChild, last-is, nth-is}
 use Rattle.records.specs.Steps.{spotOf, stepped, entered, reached}
 use Rattle.records.specs.Contract.{Known, Numbered, Stands}
-use Rattle.records.specs.declared.locate.Step.{Step}
-use Rattle.records.specs.declared.locate.Step.the-variants.{Here, Only, Nth, Last}
-use Rattle.records.specs.declared.locate.Spot.{Spot}
-use Rattle.records.specs.declared.locate.Spot.the-variants.{Absent, At}
+use Rattle.records.specs.declared.steps.Step.{Step}
+use Rattle.records.specs.declared.steps.Step.the-variants.{Here, Only, Nth, Last}
+use Rattle.records.specs.declared.steps.Spot.{Spot}
+use Rattle.records.specs.declared.steps.Spot.the-variants.{Absent, At}
 
 -- ---- the rows below a master are some of the rows
 

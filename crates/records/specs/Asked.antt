@@ -12,9 +12,9 @@ use Rattle.elements.specs.declared.row.Row.{Row}
 use Rattle.fields.specs.declared.child.Child.{Child}
 use Rattle.fields.specs.declared.child.Child.the-variants.{At as ChildAt, Absent as NoChild}
 use Rattle.records.specs.Steps.{reached}
-use Rattle.records.specs.declared.locate.Step.{Step}
-use Rattle.records.specs.declared.locate.Spot.{Spot}
-use Rattle.records.specs.declared.locate.Spot.the-variants.{Absent, At}
+use Rattle.records.specs.declared.steps.Step.{Step}
+use Rattle.records.specs.declared.steps.Spot.{Spot}
+use Rattle.records.specs.declared.steps.Spot.the-variants.{Absent, At}
 
 -- The rows that were read and the master among them, told as in a row's parent; or a refusal.
 pub data Asked : Type 0 where

@@ -11,10 +11,10 @@ use Rattle.fields.specs.declared.child.Below.{Below}
 use Rattle.fields.specs.declared.child.Child.{Child}
 use Rattle.fields.specs.declared.child.Child.the-variants.{At as ChildAt, Absent as NoChild}
 use Rattle.records.specs.Asked.{Asked, found, refusing, tableAfter}
-use Rattle.records.specs.declared.locate.Spot.{Spot}
-use Rattle.records.specs.declared.locate.Spot.the-variants.{Absent, At as SpotAt}
-use Rattle.records.specs.declared.locate.Located.{Located}
-use Rattle.records.specs.declared.locate.Located.the-variants.{At, Refused}
+use Rattle.records.specs.declared.steps.Spot.{Spot}
+use Rattle.records.specs.declared.steps.Spot.the-variants.{Absent, At as SpotAt}
+use Rattle.records.specs.declared.steps.Located.{Located}
+use Rattle.records.specs.declared.steps.Located.the-variants.{At, Refused}
 
 -- A master that is there is one of the rows, or the payload itself.
 abbrev pub Known : ℕ → Spot → Type 0

@@ -8,10 +8,10 @@ use Rattle.elements.specs.declared.row.Row.{Row}
 use Rattle.fields.specs.Children.{subtree, children, lastOf, nthOf}
 use Rattle.fields.specs.declared.child.Child.{Child}
 use Rattle.fields.specs.declared.child.Child.the-variants.{At as ChildAt, Absent as NoChild}
-use Rattle.records.specs.declared.locate.Step.{Step}
-use Rattle.records.specs.declared.locate.Step.the-variants.{Here, Only, Nth, Last}
-use Rattle.records.specs.declared.locate.Spot.{Spot}
-use Rattle.records.specs.declared.locate.Spot.the-variants.{Absent, At}
+use Rattle.records.specs.declared.steps.Step.{Step}
+use Rattle.records.specs.declared.steps.Step.the-variants.{Here, Only, Nth, Last}
+use Rattle.records.specs.declared.steps.Spot.{Spot}
+use Rattle.records.specs.declared.steps.Spot.the-variants.{Absent, At}
 
 -- A child as a master: its row number plus 1.
 abbrev pub spotOf : Child → Spot

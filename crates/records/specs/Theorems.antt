@@ -12,7 +12,7 @@ use Rattle.fields.specs.declared.child.Child.{Child}
 use Rattle.records.specs.Asked.{Asked, found, asked, listed, tableAfter}
 use Rattle.records.specs.Told.{Answer, fields}
 use Rattle.records.specs.Promise.{RecordPromise}
-use Rattle.records.specs.declared.locate.Step.{Step}
+use Rattle.records.specs.declared.steps.Step.{Step}
 
 -- Any two answers and tables that the promise permits to one question are equal (document 01, Strength of the
 -- promises). The numbers that stood in the lent table do not matter, only how many there are.

@@ -23,7 +23,7 @@ use Rattle.records.specs.Asked.{Asked, found, refusing, hasMember, listed, tabl
 use Rattle.records.specs.Told.{fields, refuses}
 use Rattle.records.specs.Contract.{Stands, LocateMet}
 use Rattle.records.specs.Promise.{answerOf, RecordPromise}
-use Rattle.records.specs.declared.locate.Located.the-variants.{At, Refused}
+use Rattle.records.specs.declared.steps.Located.the-variants.{At, Refused}
 use Rattle.records.proofs.Inner.{lastInner, inner-is, inner-fields}
 use Rattle.tags.specs.Records.{targetOf, targetsIn, targetsOf, tagOf, memberId, memberOf, uidOf}
 use Rattle.tags.specs.Told.{targetValues, targetsValues}

@@ -4,7 +4,7 @@ use mathlib.Core.List.{List}
 use lib.ListN.{length}
 use Rattle.records.specs.Asked.{Asked, asked, listed}
 use Rattle.records.specs.Promise.{RecordPromise, ofBelow}
-use Rattle.records.specs.declared.locate.Step.the-variants.{Here, Nth, Last}
+use Rattle.records.specs.declared.steps.Step.the-variants.{Here, Nth, Last}
 use Rattle.tags.specs.Records.{tagOf, uidOf, memberOf, simpleOf}
 use Rattle.tags.specs.Told.{tagTold, uidTold, simpleTold}
 use Rattle.tags.specs.declared.tag.TagReply.{TagReply}

@@ -19,9 +19,9 @@ use fields::rows_below;
 use header::Refusal;
 use kinds::Kind;
 use kinds::ids;
-use records::locate::Located;
-use records::locate::Step;
-use records::locate::locate;
+use records::steps::Located;
+use records::steps::Step;
+use records::steps::locate;
 
 // What a tag applies to: the target number as it stands, and how many uids each list has.
 pub struct Target {

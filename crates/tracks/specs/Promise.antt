@@ -4,7 +4,7 @@ use mathlib.Core.List.{List}
 use lib.ListN.{length}
 use Rattle.records.specs.Asked.{Asked, asked}
 use Rattle.records.specs.Promise.{RecordPromise, ofBelow}
-use Rattle.records.specs.declared.locate.Step.the-variants.{Here, Only}
+use Rattle.records.specs.declared.steps.Step.the-variants.{Here, Only}
 use Rattle.tracks.specs.Records.{audioOf}
 use Rattle.tracks.specs.Told.{audioTold}
 use Rattle.tracks.specs.declared.audio.AudioReply.{AudioReply}

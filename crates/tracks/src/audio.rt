@@ -12,9 +12,9 @@ use fields::number_field;
 use fields::real_field;
 use header::Refusal;
 use kinds::ids;
-use records::locate::Located;
-use records::locate::Step;
-use records::locate::locate;
+use records::steps::Located;
+use records::steps::Step;
+use records::steps::locate;
 
 // By value; the sample rate in Hz is a 64-bit float.
 pub struct Audio {

@@ -3,3 +3,4 @@ pub mod Crossing
 pub mod Unique
 pub mod Numbers
 pub mod Tells
+pub mod Named

@@ -5,9 +5,15 @@ use mathlib.Core.List.{List}
 use lib.ListN.{length}
 use Rattle.header.specs.Reply.{Reply, accepted, refusal}
 use Rattle.places.specs.Payload.{payloadRange}
-use Rattle.places.specs.Promise.{valuesOf}
+use Rattle.places.specs.Promise.{valuesOf, RangePromise, WhosePromise}
 use Rattle.places.specs.Whose.{askedOf, whoseOf}
-use Rattle.search.specs.Part.{searchOf, replyOf}
+use Rattle.places.specs.declared.payload.RangeReply.{RangeReply}
+use Rattle.places.specs.declared.payload.RangeReply.the-variants.{Range, Refused as NoRange}
+use Rattle.places.specs.declared.whose.WhoseReply.{WhoseReply}
+use Rattle.places.specs.declared.whose.WhoseReply.the-variants.{Header, Payload, Refused as NoRow}
+use Rattle.search.specs.Part.{searchOf, replyOf, PartPromise}
+use Rattle.search.specs.declared.part.PartReply.{PartReply}
+use Rattle.search.specs.declared.part.PartReply.the-variants.{Found, Absent, Refused as NoPart}
 use Rattle.viewer.specs.Promise.{UzPartPromise, UzRangePromise, UzPlacePromise}
 use Rattle.viewer.specs.declared.part.UzPart.{UzPart}
 use Rattle.viewer.specs.declared.payload.UzRange.{UzRange}
@@ -58,3 +64,37 @@ PlaceTells =
     (s : List ℕ) (start size parent x : ℕ) (t : List ℕ) (r : UzPlace) (t′ : List ℕ)
     → UzPlacePromise s start size parent x t r t′
     → Tells (whoseOf start x (askedOf s start size parent x (length t))) (r .refused)
+
+-- ---- each number crosses under its own name
+
+-- The reply of the call behind each function, name by name: a second reading of the faces, which go by places in a list.
+abbrev pub partNamed : PartReply → UzPart
+partNamed (Found at size rows heads) =
+    record { refused = 0; id = 0; found = 1; at = at; size = size; rows = rows; heads = heads }
+partNamed (Absent heads) = record { refused = 0; id = 0; found = 0; at = 0; size = 0; rows = 0; heads = heads }
+partNamed (NoPart e) =
+    record { refused = e .number; id = e .id; found = 0; at = 0; size = 0; rows = 0; heads = 0 }
+
+abbrev pub rangeNamed : RangeReply → UzRange
+rangeNamed (Range r) = record { refused = 0; at = r .at; length = r .length }
+rangeNamed (NoRange e) = record { refused = e .number; at = 0; length = 0 }
+
+abbrev pub placeNamed : WhoseReply → UzPlace
+placeNamed (Header row rows) = record { refused = 0; row = row; «in_payload» = 0; rows = rows }
+placeNamed (Payload row rows) = record { refused = 0; row = row; «in_payload» = 1; rows = rows }
+placeNamed (NoRow e) = record { refused = e .number; row = 0; «in_payload» = 0; rows = 0 }
+
+abbrev pub PartNamed : Type 0
+PartNamed =
+    (s : List ℕ) (part : ℕ) (t : List ℕ) (q : PartReply) (r : UzPart) (t′ u′ : List ℕ)
+    → PartPromise s part t q t′ → UzPartPromise s part t r u′ → r ≡ partNamed q
+
+abbrev pub RangeNamed : Type 0
+RangeNamed =
+    (s t : List ℕ) (row : ℕ) (q : RangeReply) (r : UzRange)
+    → RangePromise s t row q → UzRangePromise s t row r → r ≡ rangeNamed q
+
+abbrev pub PlaceNamed : Type 0
+PlaceNamed =
+    (s : List ℕ) (start size parent x : ℕ) (t : List ℕ) (q : WhoseReply) (r : UzPlace) (t′ u′ : List ℕ)
+    → WhosePromise s start size parent x t q t′ → UzPlacePromise s start size parent x t r u′ → r ≡ placeNamed q

@@ -2,8 +2,8 @@
 use native.Mathlib.Omega.{arith}
 use Rattle.records.proofs.Ways.{spot-fits, spot-at}
 use borrow.Author.Needs.{needs}
-use Rattle.records.proofs.locate.spot_of.Statement.{statement}
-use Rattle.records.proofs.locate.spot_of.Tie as tie
+use Rattle.records.proofs.steps.spot_of.Statement.{statement}
+use Rattle.records.proofs.steps.spot_of.Tie as tie
 
 add-t4 : tie.Need-add-t4
 add-t4 c =

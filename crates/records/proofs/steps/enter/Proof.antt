@@ -4,8 +4,8 @@ use native.Mathlib.Omega.{arith}
 use Rattle.records.proofs.Ways.{as-given, known-at}
 use Rattle.records.proofs.Ways.{nth-step, last-step, nth-numbered, last-numbered, only-here, only-none}
 use borrow.Author.Needs.{needs}
-use Rattle.records.proofs.locate.enter.Statement.{statement}
-use Rattle.records.proofs.locate.enter.Tie as tie
+use Rattle.records.proofs.steps.enter.Statement.{statement}
+use Rattle.records.proofs.steps.enter.Tie as tie
 
 returns : tie.Need-returns
 returns c =

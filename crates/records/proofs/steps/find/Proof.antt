@@ -1,8 +1,8 @@
 -- `find` meets its contract: a step for each level. Assumes nothing.
 use Rattle.records.proofs.Ways.{first-known, second-known, way}
 use borrow.Author.Needs.{needs}
-use Rattle.records.proofs.locate.find.Statement.{statement}
-use Rattle.records.proofs.locate.find.Tie as tie
+use Rattle.records.proofs.steps.find.Statement.{statement}
+use Rattle.records.proofs.steps.find.Tie as tie
 
 enter-requires-2 : tie.Need-enter-requires-2
 enter-requires-2 c κs =

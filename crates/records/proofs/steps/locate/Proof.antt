@@ -4,8 +4,8 @@ use Rattle.fields.proofs.Enough.{all-jump}
 use Rattle.records.proofs.Settled.{read-refused, rows-held, no-spot, at-spot}
 use Rattle.records.proofs.Ways.{reached-known}
 use borrow.Author.Needs.{needs}
-use Rattle.records.proofs.locate.locate.Statement.{statement}
-use Rattle.records.proofs.locate.locate.Tie as tie
+use Rattle.records.proofs.steps.locate.Statement.{statement}
+use Rattle.records.proofs.steps.locate.Tie as tie
 
 find-requires : tie.Need-find-requires
 find-requires c κs =
