@@ -1,6 +1,6 @@
 // `body ID PARENT AT SIZE BYTES`: the body of an id under a parent id, at a place of a recording.
-use bodies::Body;
-use bodies::BodyReply;
+use bodies_rules::Body;
+use bodies_rules::BodyReply;
 use lines::numbers;
 use lines::out;
 use questions::asked::Asked;

@@ -3,7 +3,7 @@ use lines::numbers;
 use lines::out;
 use questions::asked::Asked;
 use questions::table;
-use search::PartReply;
+use search_rules::PartReply;
 
 pub fn part(
     asked: Asked,

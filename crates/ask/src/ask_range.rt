@@ -1,5 +1,5 @@
 // `range N,N,.. ROW BYTES`: where the payload of a row of the table given lies.
-use places::RangeReply;
+use places_rules::RangeReply;
 use questions::asked::Asked;
 use questions::told;
 

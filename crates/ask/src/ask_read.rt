@@ -1,5 +1,5 @@
 // `read START SIZE PARENT NUMBERS BYTES`: a payload's elements, read into a table.
-use elements::ReadReply;
+use elements_rules::ReadReply;
 use questions::asked::Asked;
 use questions::table;
 

@@ -1,7 +1,7 @@
 // `whose START SIZE PARENT ADDRESS NUMBERS BYTES`: the row whose header or leaf payload holds an address.
 use lines::numbers;
 use lines::out;
-use places::WhoseReply;
+use places_rules::WhoseReply;
 use questions::asked::Asked;
 use questions::table;
 

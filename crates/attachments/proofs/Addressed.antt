@@ -2,10 +2,10 @@
 use Prim.Native.Nat.{ℕ, _≤_}
 use mathlib.Core.List.{List}
 use lib.ListN.{length}
-use Rattle.elements.specs.declared.row.Row.{Row}
-use Rattle.fields.specs.Children.{subtree}
-use Rattle.records.specs.Theorems.{AllPlaced}
-use Rattle.records.proofs.Addressed.{parts, asked-addressed}
+use Rattle.elements_rules.specs.declared.row.Row.{Row}
+use Rattle.fields_rules.specs.Children.{subtree}
+use Rattle.locate_rules.specs.Theorems.{AllPlaced}
+use Rattle.locate_rules.proofs.Addressed.{parts, asked-addressed}
 use Rattle.attachments.specs.Records.{attachmentOf}
 use Rattle.attachments.specs.Theorems.{AttachmentsAddressed}
 

@@ -2,11 +2,11 @@
 use Prim.Native.Nat.{ℕ}
 use mathlib.Core.Path.{_≡_, ap, _∙_}
 use native.Mathlib.Omega.{arith}
-use Rattle.fields.specs.declared.field.Content.{Content}
-use Rattle.fields.proofs.Once.{content-once}
-use Rattle.records.specs.Promise.{ofBelow}
-use Rattle.records.proofs.Lists.{first, rest}
-use Rattle.records.proofs.Unique.{same-refused, one-answer}
+use Rattle.fields_rules.specs.declared.field.Content.{Content}
+use Rattle.fields_rules.proofs.Once.{content-once}
+use Rattle.locate_rules.specs.Promise.{ofBelow}
+use Rattle.locate_rules.proofs.Lists.{first, rest}
+use Rattle.locate_rules.proofs.Unique.{same-refused, one-answer}
 use Rattle.attachments.specs.Records.{attachmentOf}
 use Rattle.attachments.specs.Told.{attachmentValues}
 use Rattle.attachments.specs.Told.{attachmentTold}

@@ -3,10 +3,10 @@
 use Prim.Native.Nat.{ℕ}
 use mathlib.Core.List.{List, [], _∷_}
 use lib.ListN.{length}
-use Rattle.fields.specs.Values.{unset, content}
-use Rattle.records.specs.Told.{Answer, fields}
-use Rattle.records.specs.Promise.{answerOf, ofBelow}
-use Rattle.records.specs.Cases.{Case, case, numbers}
+use Rattle.fields_rules.specs.Values.{unset, content}
+use Rattle.locate_rules.specs.Told.{Answer, fields}
+use Rattle.locate_rules.specs.Promise.{answerOf, ofBelow}
+use Rattle.locate_rules.specs.Cases.{Case, case, numbers}
 use Rattle.attachments.specs.Records.{attachmentOf}
 use Rattle.attachments.specs.Promise.{attachmentAsked}
 

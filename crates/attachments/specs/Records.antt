@@ -3,9 +3,9 @@
 use Prim.Native.Nat.{ℕ}
 use mathlib.Core.List.{List, [], _∷_}
 use Rattle.kinds.specs.declared.kind.Kind.the-variants.{String, Utf8, Binary}
-use Rattle.elements.specs.declared.row.Row.{Row}
-use Rattle.fields.specs.Values.{Value}
-use Rattle.fields.specs.Fields.{contentOf}
+use Rattle.elements_rules.specs.declared.row.Row.{Row}
+use Rattle.fields_rules.specs.Values.{Value}
+use Rattle.fields_rules.specs.Fields.{contentOf}
 
 -- Of a master in a recording, with the rows below it.
 module _ (s : List ℕ) (parent : ℕ) (below : List Row) where

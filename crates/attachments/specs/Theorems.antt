@@ -3,8 +3,8 @@ use Prim.Native.Nat.{ℕ}
 use mathlib.Core.Path.{_≡_}
 use mathlib.Core.List.{List}
 use lib.ListN.{length}
-use Rattle.records.specs.Promise.{ofBelow}
-use Rattle.records.specs.Theorems.{Addressed}
+use Rattle.locate_rules.specs.Promise.{ofBelow}
+use Rattle.locate_rules.specs.Theorems.{Addressed}
 use Rattle.attachments.specs.Records.{attachmentOf}
 use Rattle.attachments.specs.Promise.{attachmentAsked}
 use Rattle.attachments.specs.Promise.{AttachmentPromise}

@@ -1,8 +1,8 @@
 -- Document 01's values for the fields of an attached file.
 use mathlib.Core.List.{List, [], _∷_}
-use Rattle.fields.specs.Values.{Value}
-use Rattle.fields.specs.Told.{contentTold}
-use Rattle.records.specs.Told.{Answer, fields, refuses}
+use Rattle.fields_rules.specs.Values.{Value}
+use Rattle.fields_rules.specs.Told.{contentTold}
+use Rattle.locate_rules.specs.Told.{Answer, fields, refuses}
 use Rattle.attachments.specs.declared.attachment.Attachment.{Attachment}
 use Rattle.attachments.specs.declared.attachment.AttachmentReply.{AttachmentReply}
 use Rattle.attachments.specs.declared.attachment.AttachmentReply.the-variants.{Attachment as IsAttachment}

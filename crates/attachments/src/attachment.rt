@@ -1,19 +1,19 @@
 // An attached file: its fields, and the question for the k-th.
 ghost use mathlib.Core.Path.{_≡_};
-ghost use Rattle.fields.specs.Children.{rowsIn};
-ghost use Rattle.fields.specs.Contract.{Readable};
+ghost use Rattle.fields_rules.specs.Children.{rowsIn};
+ghost use Rattle.fields_rules.specs.Contract.{Readable};
 ghost use Rattle.attachments.specs.Records.{attachmentOf};
 ghost use Rattle.attachments.specs.Told.{attachmentValues};
 ghost use Rattle.attachments.specs.Promise.{AttachmentPromise};
-use fields::Below;
-use fields::Content;
 use fields::content_field;
+use fields_rules::Below;
+use fields_rules::Content;
 use header::Refusal;
 use kinds::Kind;
 use kinds::ids;
-use records::steps::Located;
-use records::steps::Step;
-use records::steps::locate;
+use locate::locate;
+use locate_rules::Located;
+use locate_rules::Step;
 
 pub struct Attachment {
     pub description: Content,

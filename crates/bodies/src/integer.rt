@@ -2,10 +2,10 @@
 ghost use mathlib.Core.Path.{_≡_};
 ghost use Prim.Native.Nat.{_*_, _^_, _≤_, _<_};
 ghost use Rattle.kinds.specs.declared.kind.Kind.the-variants.{Int, Uint, Date};
-ghost use Rattle.bodies.specs.Numbers.{signedOf};
-ghost use Rattle.bodies.specs.Reads.{bodyRead};
-use crate::body::Body;
-use crate::body::BodyRead;
+ghost use Rattle.bodies_rules.specs.Numbers.{signedOf};
+ghost use Rattle.bodies_rules.specs.Reads.{bodyRead};
+use bodies_rules::Body;
+use bodies_rules::BodyRead;
 use header::Cursor;
 use header::NumberRead;
 use header::Refusal;

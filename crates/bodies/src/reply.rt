@@ -1,19 +1,14 @@
 // The public call: the body of an id under a parent id, at a place of a recording.
-ghost use Rattle.bodies.specs.Promise.{BodyPromise};
-use crate::body::Body;
-use crate::body::BodyRead;
+ghost use Rattle.bodies_rules.specs.Promise.{BodyPromise};
 use crate::typed::read_body;
+use bodies_rules::Body;
+use bodies_rules::BodyRead;
+use bodies_rules::BodyReply;
 use header::Cursor;
 use header::Header;
 use header::MOST_BYTES;
 use header::Refusal;
 use kinds::kind_of;
-
-// The body, or a refusal.
-pub enum BodyReply {
-    Body(Body),
-    Refused(Refusal),
-}
 
 // The body of `size` bytes at a place. 14: the recording is too long, or the place is past its end.
 pub fn body_at(recording: &[u8], id: u32, parent: u32, at: u64, size: u64) -> BodyReply

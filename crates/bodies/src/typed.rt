@@ -1,14 +1,14 @@
 // The body of an element by its kind.
 ghost use mathlib.Core.Path.{_≡_};
-ghost use Rattle.bodies.specs.Reads.{bodyRead};
-use crate::body::Body;
-use crate::body::BodyRead;
+ghost use Rattle.bodies_rules.specs.Reads.{bodyRead};
 use crate::float::read_float;
 use crate::integer::read_date;
 use crate::integer::read_int;
 use crate::integer::read_uint;
 use crate::range::read_bytes;
 use crate::range::read_text;
+use bodies_rules::Body;
+use bodies_rules::BodyRead;
 use header::Cursor;
 use header::Header;
 use kinds::Kind;

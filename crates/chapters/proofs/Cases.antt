@@ -7,16 +7,16 @@ use Rattle.header.specs.Reads.{headerRead, headerAt}
 use Rattle.kinds.specs.Elements.{elements}
 use Rattle.kinds.specs.Kinds.{kindIn, keeps, demoted, kindUnder, member}
 use Rattle.utf8.specs.Utf8.{utf8Char, behind, anyOf, goesOn, utf8}
-use Rattle.bodies.specs.Bodies.{bodyOf}
-use Rattle.elements.specs.Forest.{span, count, join}
-use Rattle.elements.specs.Reading.{refuseIf, full, siblings, element, masterBody}
-use Rattle.elements.specs.Rows.{rows, nth}
-use Rattle.elements.specs.Promise.{isTable, allowed, filled, readOf}
-use Rattle.fields.specs.Children.{deeper, subtree, fits, childrenFrom, lastFrom, nthOf}
-use Rattle.fields.specs.Fields.{numberOf, flagOf, contentOf, languageOf, countOf}
-use Rattle.records.specs.Steps.{reached}
-use Rattle.records.specs.Asked.{asked}
-use Rattle.records.specs.Cases.{Hold}
+use Rattle.bodies_rules.specs.Bodies.{bodyOf}
+use Rattle.elements_rules.specs.Forest.{span, count, join}
+use Rattle.elements_rules.specs.Reading.{refuseIf, full, siblings, element, masterBody}
+use Rattle.elements_rules.specs.Rows.{rows, nth}
+use Rattle.elements_rules.specs.Promise.{isTable, allowed, filled, readOf}
+use Rattle.fields_rules.specs.Children.{deeper, subtree, fits, childrenFrom, lastFrom, nthOf}
+use Rattle.fields_rules.specs.Fields.{numberOf, flagOf, contentOf, languageOf, countOf}
+use Rattle.locate_rules.specs.Steps.{reached}
+use Rattle.locate_rules.specs.Asked.{asked}
+use Rattle.locate_rules.specs.Cases.{Hold}
 use Rattle.chapters.specs.Records.{editionOf, chapterOf, displayOf}
 use Rattle.chapters.specs.Cases.{cases}
 

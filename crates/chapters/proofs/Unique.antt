@@ -2,14 +2,14 @@
 use Prim.Native.Nat.{ℕ}
 use mathlib.Core.Path.{_≡_, ap, _∙_}
 use native.Mathlib.Omega.{arith}
-use Rattle.fields.specs.declared.field.Number.{Number}
-use Rattle.fields.specs.declared.field.Flag.{Flag}
-use Rattle.fields.specs.declared.field.Content.{Content}
-use Rattle.fields.specs.declared.field.Language.{Language}
-use Rattle.fields.proofs.Once.{number-once, flag-once, content-once, language-once}
-use Rattle.records.specs.Promise.{ofBelow}
-use Rattle.records.proofs.Lists.{first, rest, count-once}
-use Rattle.records.proofs.Unique.{same-refused, one-answer}
+use Rattle.fields_rules.specs.declared.field.Number.{Number}
+use Rattle.fields_rules.specs.declared.field.Flag.{Flag}
+use Rattle.fields_rules.specs.declared.field.Content.{Content}
+use Rattle.fields_rules.specs.declared.field.Language.{Language}
+use Rattle.fields_rules.proofs.Once.{number-once, flag-once, content-once, language-once}
+use Rattle.locate_rules.specs.Promise.{ofBelow}
+use Rattle.locate_rules.proofs.Lists.{first, rest, count-once}
+use Rattle.locate_rules.proofs.Unique.{same-refused, one-answer}
 use Rattle.chapters.specs.Records.{editionOf, chapterOf, displayOf}
 use Rattle.chapters.specs.Told.{editionValues, chapterValues, displayValues}
 use Rattle.chapters.specs.Told.{editionTold, chapterTold, displayTold}

@@ -4,10 +4,10 @@ use Prim.Native.Nat.{ℕ}
 use mathlib.Core.List.{List, [], _∷_}
 use mathlib.Core.Bool.{true}
 use lib.ListN.{length}
-use Rattle.fields.specs.Values.{unset, number, flag, content, iso, ietf, count}
-use Rattle.records.specs.Told.{Answer, fields, refusal}
-use Rattle.records.specs.Promise.{answerOf, ofBelow}
-use Rattle.records.specs.Cases.{Case, case, numbers}
+use Rattle.fields_rules.specs.Values.{unset, number, flag, content, iso, ietf, count}
+use Rattle.locate_rules.specs.Told.{Answer, fields, refusal}
+use Rattle.locate_rules.specs.Promise.{answerOf, ofBelow}
+use Rattle.locate_rules.specs.Cases.{Case, case, numbers}
 use Rattle.chapters.specs.Records.{editionOf, chapterOf, displayOf}
 use Rattle.chapters.specs.Promise.{editionAsked, chapterAsked, displayAsked}
 

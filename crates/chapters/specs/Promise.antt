@@ -2,9 +2,9 @@
 use Prim.Native.Nat.{ℕ}
 use mathlib.Core.List.{List}
 use lib.ListN.{length}
-use Rattle.records.specs.Asked.{Asked, asked}
-use Rattle.records.specs.Promise.{RecordPromise, ofBelow}
-use Rattle.records.specs.declared.steps.Step.the-variants.{Here, Nth}
+use Rattle.locate_rules.specs.Asked.{Asked, asked}
+use Rattle.locate_rules.specs.Promise.{RecordPromise, ofBelow}
+use Rattle.locate_rules.specs.declared.steps.Step.the-variants.{Here, Nth}
 use Rattle.chapters.specs.Records.{editionOf, chapterOf, displayOf}
 use Rattle.chapters.specs.Told.{editionTold, chapterTold, displayTold}
 use Rattle.chapters.specs.declared.edition.EditionReply.{EditionReply}

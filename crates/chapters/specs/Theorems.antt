@@ -3,8 +3,8 @@ use Prim.Native.Nat.{ℕ}
 use mathlib.Core.Path.{_≡_}
 use mathlib.Core.List.{List}
 use lib.ListN.{length}
-use Rattle.records.specs.Promise.{ofBelow}
-use Rattle.records.specs.Theorems.{Addressed}
+use Rattle.locate_rules.specs.Promise.{ofBelow}
+use Rattle.locate_rules.specs.Theorems.{Addressed}
 use Rattle.chapters.specs.Records.{editionOf, chapterOf, displayOf}
 use Rattle.chapters.specs.Promise.{editionAsked, chapterAsked, displayAsked}
 use Rattle.chapters.specs.Promise.{EditionPromise, ChapterPromise, DisplayPromise}

@@ -1,8 +1,8 @@
 -- Document 01's values for the fields of each record of Chapters.
 use mathlib.Core.List.{List, [], _∷_}
-use Rattle.fields.specs.Values.{Value, count}
-use Rattle.fields.specs.Told.{numberTold, flagTold, contentTold, languageTold}
-use Rattle.records.specs.Told.{Answer, fields, refuses}
+use Rattle.fields_rules.specs.Values.{Value, count}
+use Rattle.fields_rules.specs.Told.{numberTold, flagTold, contentTold, languageTold}
+use Rattle.locate_rules.specs.Told.{Answer, fields, refuses}
 use Rattle.chapters.specs.declared.edition.ChapterEdition.{ChapterEdition}
 use Rattle.chapters.specs.declared.edition.EditionReply.{EditionReply}
 use Rattle.chapters.specs.declared.edition.EditionReply.the-variants.{Edition as IsEdition, Refused as NoEdition}

@@ -1,21 +1,21 @@
 // What a chapter is shown as: its fields, and the question for the j-th of a chapter.
 ghost use mathlib.Core.Path.{_≡_};
-ghost use Rattle.fields.specs.Children.{rowsIn};
-ghost use Rattle.fields.specs.Contract.{Readable};
+ghost use Rattle.fields_rules.specs.Children.{rowsIn};
+ghost use Rattle.fields_rules.specs.Contract.{Readable};
 ghost use Rattle.chapters.specs.Records.{displayOf};
 ghost use Rattle.chapters.specs.Told.{displayValues};
 ghost use Rattle.chapters.specs.Promise.{DisplayPromise};
-use fields::Below;
-use fields::Language;
-use fields::Content;
-use fields::language_field;
 use fields::content_field;
+use fields::language_field;
+use fields_rules::Below;
+use fields_rules::Content;
+use fields_rules::Language;
 use header::Refusal;
 use kinds::Kind;
 use kinds::ids;
-use records::steps::Located;
-use records::steps::Step;
-use records::steps::locate;
+use locate::locate;
+use locate_rules::Located;
+use locate_rules::Step;
 
 pub struct ChapterDisplay {
     pub string: Content,

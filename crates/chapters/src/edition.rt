@@ -1,22 +1,22 @@
 // An edition of chapters: its fields, and the question for the k-th.
 ghost use mathlib.Core.Path.{_≡_};
-ghost use Rattle.fields.specs.Children.{rowsIn};
-ghost use Rattle.fields.specs.Contract.{Readable};
+ghost use Rattle.fields_rules.specs.Children.{rowsIn};
+ghost use Rattle.fields_rules.specs.Contract.{Readable};
 ghost use Rattle.chapters.specs.Records.{editionOf};
 ghost use Rattle.chapters.specs.Told.{editionValues};
 ghost use Rattle.chapters.specs.Promise.{EditionPromise};
-use fields::Below;
-use fields::Flag;
-use fields::Number;
 use fields::count_children;
 use fields::flag_field;
 use fields::number_field;
+use fields_rules::Below;
+use fields_rules::Flag;
+use fields_rules::Number;
 use header::Refusal;
 use kinds::Kind;
 use kinds::ids;
-use records::steps::Located;
-use records::steps::Step;
-use records::steps::locate;
+use locate::locate;
+use locate_rules::Located;
+use locate_rules::Step;
 
 pub struct ChapterEdition {
     pub uid: Number,

@@ -4,19 +4,9 @@
 // elements without rows by `master_body`.
 mod element;
 mod reply;
-mod row;
 
-pub use element::Above;
-pub use element::ElementRead;
 pub use element::master_body;
-pub use reply::ReadReply;
 pub use reply::clear;
 pub use reply::fill;
 pub use reply::is_allowed;
 pub use reply::read;
-pub use row::MOST_NUMBERS;
-pub use row::MOST_ROWS;
-pub use row::Mode;
-pub use row::Row;
-pub use row::WIDTH;
-pub use row::row_at;

@@ -2,23 +2,18 @@
 ghost use mathlib.Core.Path.{_≡_};
 ghost use mathlib.Core.Bool.{true};
 ghost use lib.ListN.{length};
-ghost use Rattle.elements.specs.Promise.{ReadPromise, allowed, zeros};
-use crate::element::Above;
-use crate::element::ElementRead;
+ghost use Rattle.elements_rules.specs.Promise.{ReadPromise, allowed, zeros};
 use crate::element::master_body;
-use crate::row::MOST_NUMBERS;
-use crate::row::Mode;
-use crate::row::WIDTH;
+use elements_rules::Above;
+use elements_rules::ElementRead;
+use elements_rules::Mode;
+use elements_rules::ReadReply;
 use header::Cursor;
 use header::MOST_BYTES;
 use header::Refusal;
 use kinds::TABLE;
-
-// How many rows there are, or a refusal.
-pub enum ReadReply {
-    Rows(u64),
-    Refused(Refusal),
-}
+use rowstore::MOST_NUMBERS;
+use rowstore::WIDTH;
 
 // Fills the table with zeros.
 pub fn clear(table: &mut [u64])

@@ -2,25 +2,14 @@
 ghost use mathlib.Core.Path.{_≡_};
 ghost use Prim.Native.Nat.{_/_, _≤_};
 ghost use lib.ListN.{length};
-ghost use Rattle.elements.specs.Rows.{width};
-ghost use Rattle.fields.specs.Children.{rowsIn, fits, children, lastOf, nthOf};
-ghost use Rattle.fields.specs.Contract.{Within, BelowIs, AllJump};
-use elements::Row;
-use elements::row_at;
+ghost use Rattle.elements_rules.specs.Rows.{width};
+ghost use Rattle.fields_rules.specs.Children.{rowsIn, fits, children, lastOf, nthOf};
+ghost use Rattle.fields_rules.specs.Contract.{Within, BelowIs, AllJump};
+use elements_rules::Row;
+use fields_rules::Below;
+use fields_rules::Child;
 use kinds::Kind;
-
-// The rows below a master: rows `parent` up to before `end`, where `parent` is the master's row number plus 1, or 0 for
-// the payload that was read.
-pub struct Below {
-    pub parent: usize,
-    pub end: usize,
-}
-
-// A direct child: its row's number, and the row; or that there is none.
-pub enum Child {
-    Absent,
-    At { number: usize, row: Row },
-}
+use rowstore::row_at;
 
 // The rows that a master's row jumps over; all rows for the payload that was read.
 pub fn rows_below(table: &[u64], rows: usize, parent: usize) -> Below

@@ -2,55 +2,26 @@
 ghost use mathlib.Core.Path.{_≡_};
 ghost use Prim.Native.Nat.{_+_, _^_, _<_};
 ghost use Rattle.kinds.specs.declared.kind.Kind.the-variants.{Uint, Float};
-ghost use Rattle.fields.specs.Children.{rowsIn};
-ghost use Rattle.fields.specs.Values.{uintIn, floatIn, rangeIn};
-ghost use Rattle.fields.specs.Fields.{numberOf, flagOf, contentOf, languageOf, valueOf, realOf};
-ghost use Rattle.fields.specs.Told.{numberTold, flagTold, contentTold, languageTold, valueTold, realTold};
-ghost use Rattle.fields.specs.Contract.{Readable, Holds};
-use crate::child::Below;
-use crate::child::Child;
+ghost use Rattle.fields_rules.specs.Children.{rowsIn};
+ghost use Rattle.fields_rules.specs.Values.{uintIn, floatIn, rangeIn};
+ghost use Rattle.fields_rules.specs.Fields.{numberOf, flagOf, contentOf, languageOf, valueOf, realOf};
+ghost use Rattle.fields_rules.specs.Told.{numberTold, flagTold, contentTold, languageTold, valueTold, realTold};
+ghost use Rattle.fields_rules.specs.Contract.{Readable, Holds};
 use crate::child::last_child;
-use bodies::Range;
 use bodies::float_of_4;
 use bodies::float_of_8;
-use elements::Row;
+use bodies_rules::Range;
+use elements_rules::Row;
+use fields_rules::Below;
+use fields_rules::Child;
+use fields_rules::Content;
+use fields_rules::Flag;
+use fields_rules::Language;
+use fields_rules::Number;
+use fields_rules::Real;
+use fields_rules::TagValue;
 use header::big_endian;
 use kinds::Kind;
-
-pub enum Number {
-    Unset,
-    Is(u64),
-}
-
-pub enum Flag {
-    Unset,
-    No,
-    Yes,
-}
-
-// A text or bytes: a part of the recording.
-pub enum Content {
-    Unset,
-    At(Range),
-}
-
-pub enum Language {
-    Unset,
-    Iso(Range),
-    Ietf(Range),
-}
-
-// The value of a simple tag.
-pub enum TagValue {
-    Unset,
-    Text(Range),
-    Binary(Range),
-}
-
-pub enum Real {
-    Unset,
-    Is(f64),
-}
 
 // The range of a row's payload.
 fn range_of(row: Row) -> Range

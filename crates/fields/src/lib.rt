@@ -5,22 +5,14 @@
 mod child;
 mod field;
 
-pub use child::Below;
-pub use child::Child;
 pub use child::count_children;
 pub use child::last_child;
 pub use child::nth_child;
 pub use child::rows_below;
-pub use field::Flag;
-pub use field::Language;
-pub use field::Number;
-pub use field::Content;
-pub use field::Real;
-pub use field::TagValue;
+pub use field::content_field;
 pub use field::flag_field;
 pub use field::language_field;
 pub use field::number_field;
-pub use field::content_field;
 pub use field::real_field;
 pub use field::uint_in;
 pub use field::value_field;

@@ -10,7 +10,7 @@ use lib.Seq.{drop-cons}
 use lib.Dec.{T, eqb, eqb→eq}
 use lib.Count.{leadingZeros}
 use borrow.Author.Tests.{ne-eqb}
-use Rattle.laws.proofs.Computed.{below, at}
+use Rattle.booleans.proofs.Computed.{below, at}
 use Rattle.header.specs.Vint.{Width, unmarked, zeros, oneMore, widthOf, octetBits, bits}
 use Rattle.header.specs.Reads.{widthAt, marked, octetsOf}
 

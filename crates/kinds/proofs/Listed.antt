@@ -10,7 +10,7 @@ use lib.ListN.{length, getD}
 use lib.Arith.{lt-of-le-ne}
 use lib.Dec.{T, ltb, lit<}
 use borrow.Author.Tests.{eq-eqb, ne-eqb}
-use Rattle.laws.proofs.Computed.{both-right}
+use Rattle.booleans.proofs.Computed.{both-right}
 use Rattle.kinds.specs.Elements.{Row, row, elements}
 use Rattle.kinds.specs.Kinds.{numberOf, kindIn}
 use Rattle.kinds.specs.Entries.{entries, Rising, LowerBound}

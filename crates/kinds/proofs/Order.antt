@@ -9,7 +9,7 @@ use native.Mathlib.Omega.{arith}
 use lib.ListN.{length, getD}
 use lib.Dec.{T, ltb, ltb→lt}
 use borrow.Author.Tests.{ltb-true, ltb-false}
-use Rattle.laws.proofs.Computed.{both-left, both-right}
+use Rattle.booleans.proofs.Computed.{both-left, both-right}
 use Rattle.kinds.specs.Entries.{Rising}
 
 pub lt-or-le : (a b : ℕ) → (a < b) ⊎ (b ≤ a)

@@ -5,10 +5,10 @@ use mathlib.Core.List.{List}
 use native.Mathlib.Omega.{arith}
 use lib.ListN.{length, take, drop}
 use borrow.Author.Tests.{le-leb, lt-leb}
-use Rattle.bodies.specs.declared.body.Range.{Range}
-use Rattle.places.specs.Payload.{bytesOf}
-use Rattle.fields.specs.declared.field.Content.{Content}
-use Rattle.fields.specs.declared.field.Content.the-variants.{Unset, At}
+use Rattle.bodies_rules.specs.declared.body.Range.{Range}
+use Rattle.places_rules.specs.Payload.{bytesOf}
+use Rattle.fields_rules.specs.declared.field.Content.{Content}
+use Rattle.fields_rules.specs.declared.field.Content.the-variants.{Unset, At}
 use Rattle.labels.specs.Shown.{labelOf}
 use Rattle.labels.specs.Promise.{LabelPromise}
 use Rattle.labels.specs.Theorems.{LabelIsShown}

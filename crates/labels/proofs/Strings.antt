@@ -4,28 +4,28 @@ use mathlib.Core.Path.{_≡_, refl, sym, ap, _∙_, subst}
 use mathlib.Core.List.{List}
 use native.Mathlib.Omega.{arith}
 use lib.ListN.{length}
-use Rattle.bodies.specs.declared.body.Range.{Range}
+use Rattle.bodies_rules.specs.declared.body.Range.{Range}
 use Rattle.kinds.specs.declared.kind.Kind.the-variants.{Utf8}
-use Rattle.elements.specs.Rows.{width, rowAt, rowsOf, nth}
-use Rattle.elements.specs.Promise.{zeros, ReadPromise}
-use Rattle.elements.specs.declared.row.Row.{Row}
-use Rattle.elements.specs.declared.reply.ReadReply.the-variants.{Rows}
-use Rattle.elements.proofs.Numbered.{row-of}
-use Rattle.elements.proofs.Readback.{rows-back}
-use Rattle.places.specs.Payload.{range, payloadRange}
-use Rattle.places.proofs.Accepted.{rows-have-ranges}
-use Rattle.fields.specs.Children.{subtree, children, lastOf}
-use Rattle.fields.specs.Values.{content, contentIn}
-use Rattle.fields.specs.Fields.{contentOf}
-use Rattle.fields.specs.Told.{contentTold}
-use Rattle.fields.specs.declared.child.Child.{Child}
-use Rattle.fields.specs.declared.child.Child.the-variants.{At as ChildAt, Absent as NoChild}
-use Rattle.fields.specs.declared.field.Content.the-variants.{At}
-use Rattle.fields.proofs.Picked.{last-is, fits-kind}
-use Rattle.records.specs.Asked.{Asked, found, refusing, tableAfter}
-use Rattle.records.specs.Promise.{answerOf, ofBelow}
-use Rattle.records.proofs.Addressed.{Known-in, child-row, asked-in}
-use Rattle.records.proofs.Settled.{record-is-read}
+use Rattle.elements_rules.specs.Rows.{width, rowAt, rowsOf, nth}
+use Rattle.elements_rules.specs.Promise.{zeros, ReadPromise}
+use Rattle.elements_rules.specs.declared.row.Row.{Row}
+use Rattle.elements_rules.specs.declared.reply.ReadReply.the-variants.{Rows}
+use Rattle.elements_rules.proofs.Numbered.{row-of}
+use Rattle.elements_rules.proofs.Readback.{rows-back}
+use Rattle.places_rules.specs.Payload.{range, payloadRange}
+use Rattle.places_rules.proofs.Accepted.{rows-have-ranges}
+use Rattle.fields_rules.specs.Children.{subtree, children, lastOf}
+use Rattle.fields_rules.specs.Values.{content, contentIn}
+use Rattle.fields_rules.specs.Fields.{contentOf}
+use Rattle.fields_rules.specs.Told.{contentTold}
+use Rattle.fields_rules.specs.declared.child.Child.{Child}
+use Rattle.fields_rules.specs.declared.child.Child.the-variants.{At as ChildAt, Absent as NoChild}
+use Rattle.fields_rules.specs.declared.field.Content.the-variants.{At}
+use Rattle.fields_rules.proofs.Picked.{last-is, fits-kind}
+use Rattle.locate_rules.specs.Asked.{Asked, found, refusing, tableAfter}
+use Rattle.locate_rules.specs.Promise.{answerOf, ofBelow}
+use Rattle.locate_rules.proofs.Addressed.{Known-in, child-row, asked-in}
+use Rattle.locate_rules.proofs.Settled.{record-is-read}
 use Rattle.chapters.specs.Records.{displayOf}
 use Rattle.chapters.specs.Told.{displayTold}
 use Rattle.chapters.specs.Promise.{displayAsked}

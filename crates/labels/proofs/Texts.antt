@@ -9,13 +9,13 @@ use lib.Dec.{eqb}
 use borrow.Author.Tests.{eq-eqb, ne-eqb}
 use Rattle.header.specs.Refusals.{badArgument}
 use Rattle.header.specs.declared.refusal.Refusal.{Refusal}
-use Rattle.bodies.specs.declared.body.Range.{Range}
-use Rattle.elements.specs.Rows.{width, rowAt}
-use Rattle.elements.specs.declared.row.Row.{Row}
-use Rattle.places.specs.Payload.{PayloadRange, range, refused, payloadRange, bytesOf}
-use Rattle.places.specs.Promise.{valuesOf, rangeTold, RangePromise}
-use Rattle.places.specs.declared.payload.RangeReply.the-variants.{Range as RangeIs, Refused}
-use Rattle.places.proofs.Ranges.{Inside, told-range, told-none, place-inside, place-refused, place-row}
+use Rattle.bodies_rules.specs.declared.body.Range.{Range}
+use Rattle.elements_rules.specs.Rows.{width, rowAt}
+use Rattle.elements_rules.specs.declared.row.Row.{Row}
+use Rattle.places_rules.specs.Payload.{PayloadRange, range, refused, payloadRange, bytesOf}
+use Rattle.places_rules.specs.Promise.{valuesOf, rangeTold, RangePromise}
+use Rattle.places_rules.specs.declared.payload.RangeReply.the-variants.{Range as RangeIs, Refused}
+use Rattle.places_rules.proofs.Ranges.{Inside, told-range, told-none, place-inside, place-refused, place-row}
 use Rattle.labels.specs.Shown.{isText, textRange}
 use Rattle.labels.specs.Promise.{TextPromise, ShownPromise}
 

@@ -1,6 +1,6 @@
 -- Any two replies that a promise permits are equal. Assumes nothing.
 use mathlib.Core.Path.{sym, ap, _∙_}
-use Rattle.places.proofs.Unique.{rangeOf, range-back}
+use Rattle.places_rules.proofs.Unique.{rangeOf, range-back}
 use Rattle.labels.specs.Theorems.{OneText, OneShown, OneLabel}
 
 pub text-unique : OneText

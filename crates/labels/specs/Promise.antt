@@ -2,10 +2,10 @@
 use Prim.Native.Nat.{ℕ}
 use mathlib.Core.Path.{_≡_}
 use mathlib.Core.List.{List}
-use Rattle.places.specs.Payload.{bytesOf}
-use Rattle.places.specs.Promise.{valuesOf, rangeTold}
-use Rattle.places.specs.declared.payload.RangeReply.{RangeReply}
-use Rattle.fields.specs.declared.field.Content.{Content}
+use Rattle.places_rules.specs.Payload.{bytesOf}
+use Rattle.places_rules.specs.Promise.{valuesOf, rangeTold}
+use Rattle.places_rules.specs.declared.payload.RangeReply.{RangeReply}
+use Rattle.fields_rules.specs.declared.field.Content.{Content}
 use Rattle.labels.specs.Shown.{textRange, labelOf}
 
 pub record TextPromise (s t : List ℕ) (row : ℕ) (r : RangeReply) : Type 0 where

@@ -7,10 +7,10 @@ use lib.Dec.{leb, eqb}
 use Rattle.header.specs.Refusals.{badArgument}
 use Rattle.kinds.specs.Kinds.{numberOf}
 use Rattle.kinds.specs.declared.kind.Kind.the-variants.{String, Utf8}
-use Rattle.elements.specs.Rows.{rowAt}
-use Rattle.places.specs.Payload.{PayloadRange, refused, payloadRange}
-use Rattle.fields.specs.declared.field.Content.{Content}
-use Rattle.fields.specs.declared.field.Content.the-variants.{Unset, At}
+use Rattle.elements_rules.specs.Rows.{rowAt}
+use Rattle.places_rules.specs.Payload.{PayloadRange, refused, payloadRange}
+use Rattle.fields_rules.specs.declared.field.Content.{Content}
+use Rattle.fields_rules.specs.declared.field.Content.the-variants.{Unset, At}
 
 -- Whether a kind's number is that of one of the two kinds of text.
 unfoldable pub isText : ℕ → Bool

@@ -2,11 +2,11 @@
 use Prim.Native.Nat.{ℕ, _<_}
 use mathlib.Core.Path.{_≡_}
 use mathlib.Core.List.{List}
-use Rattle.bodies.specs.declared.body.Range.{Range}
-use Rattle.places.specs.Payload.{range, bytesOf}
-use Rattle.places.specs.declared.payload.RangeReply.{RangeReply}
-use Rattle.fields.specs.declared.field.Content.{Content}
-use Rattle.fields.specs.declared.field.Content.the-variants.{At}
+use Rattle.bodies_rules.specs.declared.body.Range.{Range}
+use Rattle.places_rules.specs.Payload.{range, bytesOf}
+use Rattle.places_rules.specs.declared.payload.RangeReply.{RangeReply}
+use Rattle.fields_rules.specs.declared.field.Content.{Content}
+use Rattle.fields_rules.specs.declared.field.Content.the-variants.{At}
 use Rattle.chapters.specs.Promise.{DisplayPromise}
 use Rattle.chapters.specs.declared.display.ChapterDisplay.{ChapterDisplay}
 use Rattle.chapters.specs.declared.display.DisplayReply.the-variants.{Display}

@@ -1,6 +1,6 @@
 // The stage label: the shown text of a chapter's first display with a set string, or the caller's own label.
 ghost use Rattle.labels.specs.Promise.{LabelPromise};
-use fields::Content;
+use fields_rules::Content;
 
 // The part of the recording that the string's range names; the caller's own label where the range is unset or not in
 // the recording. Nothing is copied, and nothing refused.

@@ -2,12 +2,12 @@
 ghost use mathlib.Core.Path.{_≡_};
 ghost use Rattle.labels.specs.Shown.{isText};
 ghost use Rattle.labels.specs.Promise.{TextPromise, ShownPromise};
-use bodies::Range;
-use elements::row_at;
+use bodies_rules::Range;
 use header::Refusal;
 use kinds::Kind;
-use places::RangeReply;
 use places::payload_range;
+use places_rules::RangeReply;
+use rowstore::row_at;
 
 // The numbers of the two kinds of text.
 const STRING: u64 = 4;

@@ -4,17 +4,17 @@ ghost use Prim.Native.Nat.{_+_, _*_, _≤_};
 ghost use lib.ListN.{length};
 ghost use Rattle.pages.specs.Page.{Wrote};
 ghost use Rattle.rowtext.specs.Room.{lineRoom};
-ghost use Rattle.listing.specs.Listing.{placeText, partLines, allParts, tableNumbers};
-ghost use Rattle.listing.specs.Room.{partRoom};
-ghost use Rattle.listing.specs.Promise.{ListingPromise};
-use elements::WIDTH;
+ghost use Rattle.listing_rules.specs.Listing.{placeText, partLines, allParts, tableNumbers};
+ghost use Rattle.listing_rules.specs.Room.{partRoom};
+ghost use Rattle.listing_rules.specs.Promise.{ListingPromise};
 use kinds::ids;
 use pages::put;
 use pages::put_decimal;
 use pages::put_hexadecimal;
+use rowstore::WIDTH;
 use rowtext::row_lines;
-use search::PartReply;
 use search::find_part;
+use search_rules::PartReply;
 
 // The most bytes of a recording that is listed.
 const MOST_LISTED: usize = 65536;

@@ -5,8 +5,6 @@
 mod payload;
 mod whose;
 
-pub use payload::RangeReply;
 pub use payload::payload_range;
 pub use payload::row_payload;
-pub use whose::WhoseReply;
 pub use whose::whose_byte;

@@ -1,16 +1,11 @@
 // The payload of a row: its range as numbers, and the very part of the recording. The table is only read.
-ghost use Rattle.places.specs.Promise.{RangePromise, PayloadPromise};
-use bodies::Range;
-use elements::WIDTH;
+ghost use Rattle.places_rules.specs.Promise.{RangePromise, PayloadPromise};
+use bodies_rules::Range;
 use elements::is_allowed;
-use elements::row_at;
 use header::Refusal;
-
-// Where a row's payload is, or a refusal.
-pub enum RangeReply {
-    Range(Range),
-    Refused(Refusal),
-}
+use places_rules::RangeReply;
+use rowstore::WIDTH;
+use rowstore::row_at;
 
 // The range of a row's payload. 14: a length is broken, the row is not in the table, or its range is not in the
 // recording.

@@ -2,32 +2,20 @@
 ghost use mathlib.Core.Path.{_≡_};
 ghost use Prim.Native.Nat.{_/_, _≤_};
 ghost use lib.ListN.{length};
-ghost use Rattle.elements.specs.Rows.{width, rowsOf};
-ghost use Rattle.elements.specs.Holds.{within};
-ghost use Rattle.places.specs.Whose.{holderIn, whoseIn};
-ghost use Rattle.places.specs.Promise.{whoseTold, WhosePromise};
-use elements::ReadReply;
-use elements::Row;
+ghost use Rattle.elements_rules.specs.Rows.{width, rowsOf};
+ghost use Rattle.elements_rules.specs.Holds.{within};
+ghost use Rattle.places_rules.specs.Whose.{holderIn, whoseIn};
+ghost use Rattle.places_rules.specs.Promise.{whoseTold, WhosePromise};
 use elements::clear;
 use elements::fill;
 use elements::is_allowed;
-use elements::row_at;
+use elements_rules::ReadReply;
+use elements_rules::Row;
 use header::Refusal;
 use kinds::MASTER;
-
-// The row that holds the address by its header or by its payload, and how many rows there are; or a refusal.
-pub enum WhoseReply {
-    Header { row: u64, rows: u64 },
-    Payload { row: u64, rows: u64 },
-    Refused(Refusal),
-}
-
-// What of a row holds an address.
-pub enum Holder {
-    Header,
-    Payload,
-    Neither,
-}
+use places_rules::Holder;
+use places_rules::WhoseReply;
+use rowstore::row_at;
 
 // Whether the address is one of `size` bytes from `start` on; start plus size may pass 2^64.
 fn is_within(start: u64, size: u64, address: u64) -> bool

@@ -1,15 +1,15 @@
 // The table of a question: its numbers as the line gives them, and as the answer tells them.
 ghost use Prim.Native.Nat.{_+_, _*_, _≤_};
 ghost use lib.ListN.{length};
-ghost use Rattle.elements.specs.Rows.{width};
+ghost use Rattle.elements_rules.specs.Rows.{width};
 ghost use Rattle.questions.specs.Bounds.{InTable};
 use crate::told::refused;
-use elements::WIDTH;
 use header::Refusal;
 use lines::numbers;
 use lines::out;
 use lines::words;
 use lines::words::Count;
+use rowstore::WIDTH;
 
 // A question's table has at most so many numbers.
 pub const MOST_ASKED: usize = 36_000;

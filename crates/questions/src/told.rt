@@ -1,10 +1,10 @@
 // Parts of an answer that several questions share.
-use bodies::Range;
-use fields::Flag;
-use fields::Language;
-use fields::Number;
-use fields::Content;
-use fields::Real;
+use bodies_rules::Range;
+use fields_rules::Content;
+use fields_rules::Flag;
+use fields_rules::Language;
+use fields_rules::Number;
+use fields_rules::Real;
 use header::Refusal;
 use lines::numbers;
 use lines::out;
@@ -75,7 +75,13 @@ pub fn real(names: &[u8], place: usize, value: Real, out: &mut [u8; 65536], held
 }
 
 // RANGE behind its name.
-pub fn part(names: &[u8], place: usize, value: Content, out: &mut [u8; 65536], held: usize) -> usize {
+pub fn part(
+    names: &[u8],
+    place: usize,
+    value: Content,
+    out: &mut [u8; 65536],
+    held: usize,
+) -> usize {
     let n = name(names, place, out, held);
     match value {
         Content::Unset => out::put(out, n, b"unset"),

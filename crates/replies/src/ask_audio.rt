@@ -1,9 +1,9 @@
 // `audio START SIZE NUMBERS K BYTES`: the settings of an audio track.
+use media_rules::Audio;
+use media_rules::AudioReply;
 use questions::asked::Asked;
 use questions::table;
 use questions::told;
-use tracks::Audio;
-use tracks::AudioReply;
 
 pub fn audio(
     asked: Asked,
@@ -12,7 +12,7 @@ pub fn audio(
     out: &mut [u8; 65536],
     held: usize,
 ) -> usize {
-    let reply = tracks::audio_at(recording, asked.at, asked.size, asked.k, table);
+    let reply = media::audio_at(recording, asked.at, asked.size, asked.k, table);
     match reply {
         AudioReply::Refused(refusal) => table::refused_told(refusal, table, out, held),
         AudioReply::Audio { audio, rows } => {

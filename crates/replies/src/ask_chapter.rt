@@ -1,7 +1,7 @@
 // `chapter START SIZE NUMBERS K I BYTES`: a chapter of an edition.
 use chapters::Chapter;
 use chapters::ChapterReply;
-use fields::Number;
+use fields_rules::Number;
 use questions::asked::Asked;
 use questions::table;
 use questions::told;

@@ -1,7 +1,7 @@
 // `edition START SIZE NUMBERS K BYTES`: an edition of chapters.
 use chapters::ChapterEdition;
 use chapters::EditionReply;
-use fields::Number;
+use fields_rules::Number;
 use questions::asked::Asked;
 use questions::table;
 use questions::told;

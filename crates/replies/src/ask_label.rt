@@ -1,6 +1,6 @@
 // `label RANGE LABEL BYTES`: the label of a boot stage.
-use bodies::Range;
-use fields::Content;
+use bodies_rules::Range;
+use fields_rules::Content;
 use labels::stage_label;
 use lines::numbers;
 use lines::words;

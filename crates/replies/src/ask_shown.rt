@@ -1,7 +1,7 @@
 // `shown START SIZE PARENT NUMBERS ROW BYTES`: the shown text of a row, after the read of its table.
-use elements::ReadReply;
+use elements_rules::ReadReply;
 use lines::numbers;
-use places::RangeReply;
+use places_rules::RangeReply;
 use questions::asked::Asked;
 use questions::table;
 use questions::told;

@@ -1,11 +1,11 @@
 // `simple START SIZE NUMBERS K I BYTES`: a simple tag of a tag.
-use fields::TagValue;
+use fields_rules::TagValue;
 use lines::out;
 use questions::asked::Asked;
 use questions::table;
 use questions::told;
-use tags::SimpleReply;
-use tags::SimpleTag;
+use tags_rules::SimpleReply;
+use tags_rules::SimpleTag;
 
 pub fn simple(
     asked: Asked,

@@ -1,15 +1,15 @@
 // `tag START SIZE NUMBERS K BYTES`: a tag.
-use fields::Flag;
-use fields::Number;
+use fields_rules::Flag;
+use fields_rules::Number;
 use lines::numbers;
 use lines::out;
 use questions::asked::Asked;
 use questions::table;
 use questions::told;
-use tags::Tag;
-use tags::TagReply;
-use tags::Target;
-use tags::Targets;
+use tags_rules::Tag;
+use tags_rules::TagReply;
+use tags_rules::Target;
+use tags_rules::Targets;
 
 pub fn tag(
     asked: Asked,

@@ -1,17 +1,17 @@
 // `track START SIZE NUMBERS K BYTES`: a track, and its settings.
 use crate::ask_audio;
 use crate::ask_tracktype;
-use entries::Settings;
-use entries::Track;
-use entries::TrackReply;
-use entries::Typed;
-use fields::Number;
+use fields_rules::Number;
 use lines::out;
+use media_rules::Stereo;
+use media_rules::Video;
 use questions::asked::Asked;
 use questions::table;
 use questions::told;
-use tracks::Stereo;
-use tracks::Video;
+use tracks_rules::Settings;
+use tracks_rules::Track;
+use tracks_rules::TrackReply;
+use tracks_rules::Typed;
 
 pub fn track(
     asked: Asked,
@@ -20,7 +20,7 @@ pub fn track(
     out: &mut [u8; 65536],
     held: usize,
 ) -> usize {
-    let reply = entries::track_at(recording, asked.at, asked.size, asked.k, table);
+    let reply = tracks::track_at(recording, asked.at, asked.size, asked.k, table);
     match reply {
         TrackReply::Refused(refusal) => table::refused_told(refusal, table, out, held),
         TrackReply::Track { track, rows } => {

@@ -1,8 +1,8 @@
 // `tracktype N`: the type of a track by its number.
+use codes::Tracktype;
 use lines::out;
 use lines::words;
 use questions::asked::Asked;
-use codes::Tracktype;
 
 pub fn tracktype(asked: Asked, out: &mut [u8; 65536], held: usize) -> usize {
     name_told(Tracktype::new(asked.k), out, held)

@@ -4,8 +4,8 @@ use lines::words;
 use questions::asked::Asked;
 use questions::table;
 use questions::told::bad;
-use tags::UidList;
-use tags::UidReply;
+use tags_rules::UidList;
+use tags_rules::UidReply;
 
 // `uid N`. `word` is LIST.
 pub fn uid(

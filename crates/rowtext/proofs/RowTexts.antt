@@ -6,8 +6,8 @@ use native.Mathlib.Omega.{arith}
 use native.Mathlib.Numerals.{add-one}
 use lib.ListN.{length, drop}
 use lib.Seq.{drop-drop}
-use Rattle.elements.specs.Rows.{width, firstRow, rowAt, rowsOf}
-use Rattle.elements.specs.declared.row.Row.{Row}
+use Rattle.elements_rules.specs.Rows.{width, firstRow, rowAt, rowsOf}
+use Rattle.elements_rules.specs.declared.row.Row.{Row}
 use Rattle.pages.specs.Page.{Wrote}
 use Rattle.pages.proofs.Pages.{then, wrote-none}
 use Rattle.rowtext.specs.Lines.{rowLine, rowLines}

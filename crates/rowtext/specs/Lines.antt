@@ -3,7 +3,7 @@ use Prim.Native.Nat.{ℕ}
 use mathlib.Core.Bool.{cond}
 use mathlib.Core.List.{List, [], _∷_, _++_}
 use lib.Dec.{eqb}
-use Rattle.elements.specs.declared.row.Row.{Row}
+use Rattle.elements_rules.specs.declared.row.Row.{Row}
 use Rattle.pages.specs.Text.{ascii, decimal, hexadecimal}
 
 -- The words for the kinds 1 to 8. A row has no other kind.

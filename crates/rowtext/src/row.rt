@@ -2,16 +2,16 @@
 ghost use mathlib.Core.List.{_++_};
 ghost use Prim.Native.Nat.{_+_, _*_, _/_, _≤_};
 ghost use lib.ListN.{length};
-ghost use Rattle.elements.specs.Rows.{width, rowsOf};
+ghost use Rattle.elements_rules.specs.Rows.{width, rowsOf};
 ghost use Rattle.pages.specs.Page.{Wrote};
 ghost use Rattle.pages.specs.Text.{ascii};
 ghost use Rattle.rowtext.specs.Lines.{kindWord, rowPlace, rowLine, rowLines};
 ghost use Rattle.rowtext.specs.Room.{lineRoom};
-use elements::Row;
-use elements::row_at;
+use elements_rules::Row;
 use pages::put;
 use pages::put_decimal;
 use pages::put_hexadecimal;
+use rowstore::row_at;
 
 // A space, and the word for a kind's number.
 fn put_kind(page: &mut [u8], held: usize, kind: u64) -> usize

@@ -3,5 +3,4 @@
 // `find_part` is the public call.
 mod part;
 
-pub use part::PartReply;
 pub use part::find_part;

@@ -1,36 +1,17 @@
 // The public call: a part of a recording, found and read into rows of a lent table.
 ghost use mathlib.Core.Path.{_≡_};
-ghost use Rattle.search.specs.Part.{parentOf, PartPromise};
-use elements::ReadReply;
+ghost use Rattle.search_rules.specs.Part.{parentOf, PartPromise};
 use elements::clear;
 use elements::fill;
 use elements::is_allowed;
+use elements_rules::ReadReply;
 use header::Refusal;
 use kinds::TABLE;
 use kinds::ids;
-use seektable::PartPlace;
+use search_rules::Parent;
+use search_rules::PartReply;
+use seekchain_rules::PartPlace;
 use segments::look_up;
-
-// The payload's address and size, how many rows it has, and how many seek heads were read; or that the part is absent;
-// or a refusal.
-pub enum PartReply {
-    Found {
-        at: u64,
-        size: u64,
-        rows: u64,
-        heads: u64,
-    },
-    Absent {
-        heads: u64,
-    },
-    Refused(Refusal),
-}
-
-// The id that a part's children are read under.
-pub enum Parent {
-    Id(u32),
-    NoPart,
-}
 
 // The four parts that can be searched for.
 fn parent_of(part: u32) -> Parent

@@ -3,7 +3,7 @@ ghost use mathlib.Core.Path.{_≡_};
 ghost use Prim.Native.Nat.{_≤_};
 ghost use lib.ListN.{length};
 ghost use Rattle.header.specs.Promise.{mostBytes};
-ghost use Rattle.segments.specs.Walk.{segmentOf};
+ghost use Rattle.segments_rules.specs.Walk.{segmentOf};
 use header::Cursor;
 use header::HeaderRead;
 use kinds::ids;

@@ -1,24 +1,19 @@
 // The walk over the segment's children.
 ghost use mathlib.Core.Path.{_≡_};
-ghost use Rattle.seeks.specs.Contract.{Readable};
-ghost use Rattle.seektable.specs.Contract.{placeTold};
-ghost use Rattle.segments.specs.Walk.{visit as visitOf, children, lookupOf};
-ghost use Rattle.segments.specs.Contract.{visitTold, Listed, Sized};
+ghost use Rattle.seekhead_rules.specs.Contract.{Readable};
+ghost use Rattle.seekchain_rules.specs.Contract.{placeTold};
+ghost use Rattle.segments_rules.specs.Walk.{visit as visitOf, children, lookupOf};
+ghost use Rattle.segments_rules.specs.Contract.{visitTold, Listed, Sized};
 use crate::segment::segment_of;
 use header::Cursor;
 use header::Header;
 use header::HeaderRead;
 use header::Refusal;
 use kinds::ids;
-use seektable::Head;
-use seektable::PartPlace;
-use seektable::by_heads;
-
-// What a child of the segment does to the search: it ends it, or is passed over.
-pub enum Visit {
-    Ends(PartPlace),
-    Over,
-}
+use seekchain::by_heads;
+use seekchain_rules::Head;
+use seekchain_rules::PartPlace;
+use segments_rules::Visit;
 
 // What is done with a child whose header was read: a seek head leads on by its entries, the wanted part is found.
 fn visit_child(

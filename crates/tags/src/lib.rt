@@ -5,14 +5,6 @@ mod simple;
 mod tag;
 mod uid;
 
-pub use simple::SimpleReply;
-pub use simple::SimpleTag;
 pub use simple::simple_tag_at;
-pub use tag::Tag;
-pub use tag::TagReply;
-pub use tag::Target;
-pub use tag::Targets;
 pub use tag::tag_at;
-pub use uid::UidList;
-pub use uid::UidReply;
 pub use uid::uid_at;

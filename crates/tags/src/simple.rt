@@ -1,38 +1,22 @@
 // A simple tag: its fields, and the question for the i-th of a tag.
 ghost use mathlib.Core.Path.{_≡_};
-ghost use Rattle.fields.specs.Children.{rowsIn};
-ghost use Rattle.fields.specs.Contract.{Readable};
-ghost use Rattle.tags.specs.Records.{simpleOf};
-ghost use Rattle.tags.specs.Told.{simpleValues};
-ghost use Rattle.tags.specs.Promise.{SimplePromise};
-use fields::Below;
-use fields::Flag;
-use fields::Language;
-use fields::Content;
-use fields::TagValue;
+ghost use Rattle.fields_rules.specs.Children.{rowsIn};
+ghost use Rattle.fields_rules.specs.Contract.{Readable};
+ghost use Rattle.tags_rules.specs.Records.{simpleOf};
+ghost use Rattle.tags_rules.specs.Told.{simpleValues};
+ghost use Rattle.tags_rules.specs.Promise.{SimplePromise};
+use fields::content_field;
 use fields::flag_field;
 use fields::language_field;
-use fields::content_field;
 use fields::value_field;
-use header::Refusal;
+use fields_rules::Below;
 use kinds::Kind;
 use kinds::ids;
-use records::steps::Located;
-use records::steps::Step;
-use records::steps::locate;
-
-pub struct SimpleTag {
-    pub name: Content,
-    pub language: Language,
-    pub default: Flag,
-    pub value: TagValue,
-}
-
-// The record with how many rows the table holds, or a refusal.
-pub enum SimpleReply {
-    Simple { tag: SimpleTag, rows: u64 },
-    Refused(Refusal),
-}
+use locate::locate;
+use locate_rules::Located;
+use locate_rules::Step;
+use tags_rules::SimpleReply;
+use tags_rules::SimpleTag;
 
 fn simple_in(recording: &[u8], table: &[u64], master: Below) -> SimpleTag
     requires { ⌜ Readable (now recording) (now table) master ⌝ }

@@ -1,54 +1,28 @@
 // A tag: what it applies to and how many simple tags it has, and the question for the k-th.
 ghost use mathlib.Core.Path.{_≡_};
-ghost use Rattle.elements.specs.Rows.{rowsOf};
-ghost use Rattle.fields.specs.Children.{rowsIn};
-ghost use Rattle.fields.specs.Contract.{Readable};
-ghost use Rattle.records.specs.Contract.{Stands};
-ghost use Rattle.tags.specs.Records.{targetOf, targetsOf, tagOf};
-ghost use Rattle.tags.specs.Told.{targetValues, targetsValues, tagValues};
-ghost use Rattle.tags.specs.Promise.{TagPromise};
-use fields::Below;
-use fields::Child;
-use fields::Number;
-use fields::Content;
+ghost use Rattle.elements_rules.specs.Rows.{rowsOf};
+ghost use Rattle.fields_rules.specs.Children.{rowsIn};
+ghost use Rattle.fields_rules.specs.Contract.{Readable};
+ghost use Rattle.locate_rules.specs.Contract.{Stands};
+ghost use Rattle.tags_rules.specs.Records.{targetOf, targetsOf, tagOf};
+ghost use Rattle.tags_rules.specs.Told.{targetValues, targetsValues, tagValues};
+ghost use Rattle.tags_rules.specs.Promise.{TagPromise};
+use fields::content_field;
 use fields::count_children;
 use fields::last_child;
 use fields::number_field;
-use fields::content_field;
 use fields::rows_below;
-use header::Refusal;
+use fields_rules::Below;
+use fields_rules::Child;
 use kinds::Kind;
 use kinds::ids;
-use records::steps::Located;
-use records::steps::Step;
-use records::steps::locate;
-
-// What a tag applies to: the target number as it stands, and how many uids each list has.
-pub struct Target {
-    pub target_type_value: Number,
-    pub target_type: Content,
-    pub tracks: u64,
-    pub editions: u64,
-    pub chapters: u64,
-    pub attachments: u64,
-}
-
-pub enum Targets {
-    Unset,
-    Set(Target),
-}
-
-pub struct Tag {
-    pub targets: Targets,
-    // How many simple tags it has.
-    pub simple: u64,
-}
-
-// The record with how many rows the table holds, or a refusal.
-pub enum TagReply {
-    Tag { tag: Tag, rows: u64 },
-    Refused(Refusal),
-}
+use locate::locate;
+use locate_rules::Located;
+use locate_rules::Step;
+use tags_rules::Tag;
+use tags_rules::TagReply;
+use tags_rules::Target;
+use tags_rules::Targets;
 
 fn target_in(recording: &[u8], table: &[u64], master: Below) -> Target
     requires { ⌜ Readable (now recording) (now table) master ⌝ }

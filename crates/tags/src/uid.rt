@@ -1,30 +1,19 @@
 // A member of one of the uid lists that say what a tag applies to.
 ghost use mathlib.Core.Path.{_≡_};
-ghost use Rattle.tags.specs.Records.{memberId};
-ghost use Rattle.tags.specs.Promise.{UidPromise};
+ghost use Rattle.tags_rules.specs.Records.{memberId};
+ghost use Rattle.tags_rules.specs.Promise.{UidPromise};
 use elements::clear;
-use fields::Child;
 use fields::nth_child;
 use fields::uint_in;
+use fields_rules::Child;
 use header::Refusal;
 use kinds::Kind;
 use kinds::ids;
-use records::steps::Located;
-use records::steps::Step;
-use records::steps::locate;
-
-pub enum UidList {
-    Track,
-    Edition,
-    Chapter,
-    Attachment,
-}
-
-// The uid with how many rows the table holds, or a refusal.
-pub enum UidReply {
-    Uid { uid: u64, rows: u64 },
-    Refused(Refusal),
-}
+use locate::locate;
+use locate_rules::Located;
+use locate_rules::Step;
+use tags_rules::UidList;
+use tags_rules::UidReply;
 
 // The id of a list's members.
 fn member_id(list: UidList) -> u32

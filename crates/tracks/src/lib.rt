@@ -1,15 +1,8 @@
-// The settings of a track (document 01, Records; document 02, C-11), audio and video.
+// The entries of Tracks (document 02, C-11): which track is which, and its settings.
 //
-// The question takes the place of an E1 payload, reads it into a lent table and builds the record asked for.
-// `audio_in` and `video_in` are for the crate above, which builds them from rows that were read.
-mod audio;
-mod stereo;
-mod video;
+// The question takes the place of a Tracks payload, reads it into a lent table and builds the record asked for.
+mod settings;
+mod track;
+mod typed;
 
-pub use audio::Audio;
-pub use audio::AudioReply;
-pub use audio::audio_at;
-pub use audio::audio_in;
-pub use stereo::Stereo;
-pub use video::Video;
-pub use video::video_in;
+pub use track::track_at;

@@ -6,7 +6,7 @@ use mathlib.Core.Bool.{Bool, true, false, _&&_}
 use Prim.Native.Nat.{ℕ, suc, _+_, _-_, _≤_}
 use native.Mathlib.Omega.{arith}
 use lib.Dec.{T, eqb, eqb→eq}
-use Rattle.laws.proofs.Computed.{both-left, both-right, below, at}
+use Rattle.booleans.proofs.Computed.{both-left, both-right, below, at}
 use Rattle.utf8.specs.Utf8.{Range, range, Alternative, utf8Char, behind}
 
 -- ---- a test that two lists of alternatives are equal

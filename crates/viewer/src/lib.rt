@@ -5,9 +5,6 @@ mod part;
 mod payload;
 mod whose;
 
-pub use part::UzPart;
 pub use part::uz_find_part;
-pub use payload::UzRange;
 pub use payload::uz_row_payload;
-pub use whose::UzPlace;
 pub use whose::uz_whose_byte;

@@ -1,19 +1,8 @@
 // `uz_whose_byte`: the row that holds an address of a payload, which is read into the lent table.
-ghost use Rattle.viewer.specs.Promise.{UzPlacePromise};
-use places::WhoseReply;
+ghost use Rattle.viewer_rules.specs.Promise.{UzPlacePromise};
 use places::whose_byte;
-
-// `uz_place` of include/uzrafmed.h.
-#[repr(C)]
-pub struct UzPlace {
-    // 0, or the number of the refusal; then the others are 0.
-    pub refused: u64,
-    // The row's number, and 1 if its leaf payload holds the address, 0 if its header does.
-    pub row: u64,
-    pub in_payload: u64,
-    // How many rows the payload has.
-    pub rows: u64,
-}
+use places_rules::WhoseReply;
+use viewer_rules::UzPlace;
 
 #[no_mangle]
 pub extern "C" fn uz_whose_byte(

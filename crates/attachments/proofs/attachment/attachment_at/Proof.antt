@@ -1,6 +1,6 @@
 -- `attachment_at` meets its contract: the master is found, and its fields are told. Assumes nothing.
 use Rattle.attachments.specs.Records.{attachmentOf}
-use Rattle.records.proofs.Told.{readable-at, told-refused, told-below}
+use Rattle.locate_rules.proofs.Told.{readable-at, told-refused, told-below}
 use borrow.Author.Needs.{needs}
 use Rattle.attachments.proofs.attachment.attachment_at.Statement.{statement}
 use Rattle.attachments.proofs.attachment.attachment_at.Tie as tie

@@ -1,7 +1,7 @@
 -- `attachment_in` meets its contract: field by field. Assumes nothing.
 use mathlib.Core.Path.{refl}
 use Rattle.attachments.specs.Records.{attachmentOf}
-use Rattle.records.proofs.Lists.{then}
+use Rattle.locate_rules.proofs.Lists.{then}
 use borrow.Author.Needs.{needs}
 use Rattle.attachments.proofs.attachment.attachment_in.Statement.{statement}
 use Rattle.attachments.proofs.attachment.attachment_in.Tie as tie

@@ -3,7 +3,7 @@ use borrow.Author.Needs.{needs}
 use mathlib.Core.Path.{_∙_}
 use lib.Ieee.{binary32}
 use Rattle.std.proofs.num.f32_to_f64_with_nan.Reads as f32-to-f64-with-nan-reads
-use Rattle.bodies.proofs.Nans.{nan-pattern, no-nan, zero-by-zero}
+use Rattle.bodies_rules.proofs.Nans.{nan-pattern, no-nan, zero-by-zero}
 use Rattle.bodies.proofs.float.float_of_4.Statement.{statement}
 use Rattle.bodies.proofs.float.float_of_4.Tie as tie
 

@@ -2,7 +2,7 @@
 use borrow.Author.Needs.{needs}
 use mathlib.Core.Path.{_∙_}
 use lib.Ieee.{binary64}
-use Rattle.bodies.proofs.Nans.{nan-pattern, no-nan, zero-by-zero}
+use Rattle.bodies_rules.proofs.Nans.{nan-pattern, no-nan, zero-by-zero}
 use Rattle.bodies.proofs.float.float_of_8.Statement.{statement}
 use Rattle.bodies.proofs.float.float_of_8.Tie as tie
 

@@ -5,11 +5,11 @@ use mathlib.Core.List.{List}
 use Prim.Native.Nat.{ℕ}
 use lib.Ieee.{Float}
 use Rattle.kinds.specs.declared.kind.Kind.the-variants as K
-use Rattle.bodies.specs.Reads.{bodyRead}
-use Rattle.bodies.specs.declared.body.BodyRead.the-variants.{Read, Refused}
-use Rattle.bodies.specs.declared.body.Body.the-variants as B
-use Rattle.bodies.proofs.Found.{found, ended}
-use Rattle.bodies.proofs.ByKind.{float-other, float-ends-4, float-ends-8, float-there-4, float-there-8}
+use Rattle.bodies_rules.specs.Reads.{bodyRead}
+use Rattle.bodies_rules.specs.declared.body.BodyRead.the-variants.{Read, Refused}
+use Rattle.bodies_rules.specs.declared.body.Body.the-variants as B
+use Rattle.bodies_rules.proofs.Found.{found, ended}
+use Rattle.bodies_rules.proofs.ByKind.{float-other, float-ends-4, float-ends-8, float-there-4, float-there-8}
 use Rattle.bodies.proofs.float.read_float.Statement.{statement}
 use Rattle.bodies.proofs.float.read_float.Tie as tie
 

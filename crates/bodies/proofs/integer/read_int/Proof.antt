@@ -5,10 +5,10 @@ use native.Mathlib.Omega.{arith}
 use lib.IntN.{ℤ}
 use mir.Syntax.{w64}
 use mir.Facts.{toZ-ofZ}
-use Rattle.bodies.specs.declared.body.BodyRead.the-variants.{Read, Refused}
-use Rattle.bodies.specs.declared.body.Body.the-variants.{Integer}
-use Rattle.bodies.proofs.Found.{found, ended}
-use Rattle.bodies.proofs.ByKind.{int-long, int-ends, int-there}
+use Rattle.bodies_rules.specs.declared.body.BodyRead.the-variants.{Read, Refused}
+use Rattle.bodies_rules.specs.declared.body.Body.the-variants.{Integer}
+use Rattle.bodies_rules.proofs.Found.{found, ended}
+use Rattle.bodies_rules.proofs.ByKind.{int-long, int-ends, int-there}
 use Rattle.bodies.proofs.integer.read_int.Statement.{statement}
 use Rattle.bodies.proofs.integer.read_int.Tie as tie
 

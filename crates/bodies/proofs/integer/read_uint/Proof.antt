@@ -2,9 +2,9 @@
 use borrow.Author.Needs.{needs}
 use mathlib.Core.Path.{ap, sym, _∙_}
 use native.Mathlib.Omega.{arith}
-use Rattle.bodies.specs.declared.body.BodyRead.the-variants.{Refused}
-use Rattle.bodies.proofs.Found.{found, ended}
-use Rattle.bodies.proofs.ByKind.{uint-long, uint-ends, uint-there}
+use Rattle.bodies_rules.specs.declared.body.BodyRead.the-variants.{Refused}
+use Rattle.bodies_rules.proofs.Found.{found, ended}
+use Rattle.bodies_rules.proofs.ByKind.{uint-long, uint-ends, uint-there}
 use Rattle.bodies.proofs.integer.read_uint.Statement.{statement}
 use Rattle.bodies.proofs.integer.read_uint.Tie as tie
 

@@ -7,7 +7,7 @@ use lib.IntN.{ℤ, negsuc, _-ℤ_}
 use mir.Syntax.{w64}
 use mir.Val.{SFits, toZ}
 use mir.Facts.{toZ-pos, toZ-ofZ}
-use Rattle.bodies.proofs.Signs.{Half, half, minus-one-less, signed-none, signed-low, signed-high}
+use Rattle.bodies_rules.proofs.Signs.{Half, half, minus-one-less, signed-none, signed-low, signed-high}
 use Rattle.bodies.proofs.integer.signed.Statement.{statement}
 use Rattle.bodies.proofs.integer.signed.Tie as tie
 

@@ -4,7 +4,7 @@ use native.Mathlib.Omega.{arith}
 use Prim.Native.Nat.{_+_}
 use lib.ListN.{length}
 use borrow.Author.Tests.{lt-leb}
-use Rattle.bodies.proofs.Ends.{same-room}
+use Rattle.bodies_rules.proofs.Ends.{same-room}
 use Rattle.bodies.proofs.range.is_there.Statement.{statement}
 use Rattle.bodies.proofs.range.is_there.Tie as tie
 

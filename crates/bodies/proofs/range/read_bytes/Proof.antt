@@ -3,9 +3,9 @@ use borrow.Author.Needs.{needs}
 use mathlib.Core.Path.{ap, _∙_}
 use native.Mathlib.Omega.{arith}
 use borrow.Author.Tests.{leb-true}
-use Rattle.bodies.specs.declared.body.BodyRead.the-variants.{Refused}
-use Rattle.laws.proofs.Turned.{failed, passed}
-use Rattle.bodies.proofs.ByKind.{bytes-ends, bytes-there}
+use Rattle.bodies_rules.specs.declared.body.BodyRead.the-variants.{Refused}
+use Rattle.booleans.proofs.Turned.{failed, passed}
+use Rattle.bodies_rules.proofs.ByKind.{bytes-ends, bytes-there}
 use Prim.Native.Nat.{_+_}
 use Rattle.bodies.proofs.range.read_bytes.Statement.{statement}
 use Rattle.bodies.proofs.range.read_bytes.Tie as tie

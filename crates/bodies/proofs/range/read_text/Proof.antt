@@ -4,9 +4,9 @@ use mathlib.Core.Path.{ap, sym, _∙_}
 use native.Mathlib.Omega.{arith}
 use native.Mathlib.Nat.{add-sub-cancel-left}
 use borrow.Author.Tests.{leb-true}
-use Rattle.bodies.specs.declared.body.BodyRead.the-variants.{Refused}
-use Rattle.laws.proofs.Turned.{failed, passed}
-use Rattle.bodies.proofs.ByKind.{text-ends, text-bad, text-there}
+use Rattle.bodies_rules.specs.declared.body.BodyRead.the-variants.{Refused}
+use Rattle.booleans.proofs.Turned.{failed, passed}
+use Rattle.bodies_rules.proofs.ByKind.{text-ends, text-bad, text-there}
 use Prim.Native.Nat.{_+_}
 use Rattle.bodies.proofs.range.read_text.Statement.{statement}
 use Rattle.bodies.proofs.range.read_text.Tie as tie

@@ -2,9 +2,9 @@
 use borrow.Author.Needs.{needs}
 use mathlib.Core.Path.{_≡_, ap, sym, _∙_}
 use native.Mathlib.Omega.{arith}
-use Rattle.bodies.specs.Bodies.{refuses}
-use Rattle.bodies.specs.Promise.{bodyReply}
-use Rattle.bodies.proofs.Replies.{readReply, reply-too-long, reply-past-end, reply-read}
+use Rattle.bodies_rules.specs.Bodies.{refuses}
+use Rattle.bodies_rules.specs.Promise.{bodyReply}
+use Rattle.bodies_rules.proofs.Replies.{readReply, reply-too-long, reply-past-end, reply-read}
 use Rattle.bodies.proofs.reply.body_at.Statement.{statement}
 use Rattle.bodies.proofs.reply.body_at.Tie as tie
 

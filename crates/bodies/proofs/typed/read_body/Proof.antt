@@ -5,10 +5,10 @@ use mathlib.Core.List.{List}
 use Prim.Native.Nat.{ℕ}
 use Rattle.kinds.specs.declared.kind.Kind.{Kind}
 use Rattle.kinds.specs.declared.kind.Kind.the-variants as K
-use Rattle.bodies.specs.Bodies.{bodyOf}
-use Rattle.bodies.specs.Reads.{bodyRead}
-use Rattle.bodies.specs.declared.body.Body.the-variants as B
-use Rattle.bodies.specs.declared.body.BodyRead.the-variants.{Read}
+use Rattle.bodies_rules.specs.Bodies.{bodyOf}
+use Rattle.bodies_rules.specs.Reads.{bodyRead}
+use Rattle.bodies_rules.specs.declared.body.Body.the-variants as B
+use Rattle.bodies_rules.specs.declared.body.BodyRead.the-variants.{Read}
 use Rattle.bodies.proofs.typed.read_body.Statement.{statement}
 use Rattle.bodies.proofs.typed.read_body.Tie as tie
 

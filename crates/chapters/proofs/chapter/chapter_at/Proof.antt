@@ -1,6 +1,6 @@
 -- `chapter_at` meets its contract: the master is found, and its fields are told. Assumes nothing.
 use Rattle.chapters.specs.Records.{chapterOf}
-use Rattle.records.proofs.Told.{readable-at, told-refused, told-below}
+use Rattle.locate_rules.proofs.Told.{readable-at, told-refused, told-below}
 use borrow.Author.Needs.{needs}
 use Rattle.chapters.proofs.chapter.chapter_at.Statement.{statement}
 use Rattle.chapters.proofs.chapter.chapter_at.Tie as tie

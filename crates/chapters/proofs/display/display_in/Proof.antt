@@ -1,7 +1,7 @@
 -- `display_in` meets its contract: field by field. Assumes nothing.
 use mathlib.Core.Path.{refl}
 use Rattle.chapters.specs.Records.{displayOf}
-use Rattle.records.proofs.Lists.{then}
+use Rattle.locate_rules.proofs.Lists.{then}
 use borrow.Author.Needs.{needs}
 use Rattle.chapters.proofs.display.display_in.Statement.{statement}
 use Rattle.chapters.proofs.display.display_in.Tie as tie

@@ -1,7 +1,7 @@
 -- `edition_in` meets its contract: field by field. Assumes nothing.
 use mathlib.Core.Path.{refl}
 use Rattle.chapters.specs.Records.{editionOf}
-use Rattle.records.proofs.Lists.{then, counted}
+use Rattle.locate_rules.proofs.Lists.{then, counted}
 use borrow.Author.Needs.{needs}
 use Rattle.chapters.proofs.edition.edition_in.Statement.{statement}
 use Rattle.chapters.proofs.edition.edition_in.Tie as tie

@@ -5,8 +5,8 @@ use mathlib.Core.List.{_++_}
 use native.Mathlib.Omega.{arith}
 use lib.ListN.{length, drop, length-set}
 use borrow.Author.Fill.{fill-none, fill-more}
-use Rattle.elements.specs.Promise.{zeros}
-use Rattle.elements.proofs.Tables.{cleared}
+use Rattle.elements_rules.specs.Promise.{zeros}
+use Rattle.elements_rules.proofs.Tables.{cleared}
 use Rattle.elements.proofs.reply.clear.Statement.{statement}
 use Rattle.elements.proofs.reply.clear.Tie as tie
 

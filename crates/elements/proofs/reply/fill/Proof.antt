@@ -2,8 +2,8 @@
 use mathlib.Core.Path.{refl, _∙_}
 use native.Mathlib.Omega.{arith}
 use Rattle.kinds.specs.Elements.{elements}
-use Rattle.elements.proofs.Limits.{within}
-use Rattle.elements.proofs.Whole.{zeros-as, fill-refused, fill-done}
+use Rattle.elements_rules.proofs.Limits.{within}
+use Rattle.elements_rules.proofs.Whole.{zeros-as, fill-refused, fill-done}
 use borrow.Author.Needs.{needs}
 use Rattle.elements.proofs.reply.fill.Statement.{statement}
 use Rattle.elements.proofs.reply.fill.Tie as tie

@@ -1,5 +1,5 @@
 -- `is_allowed` meets its contract: the limits, one after another. Assumes nothing.
-use Rattle.elements.proofs.Limits.{too-long, broken-rows, too-many, by-start}
+use Rattle.elements_rules.proofs.Limits.{too-long, broken-rows, too-many, by-start}
 use Rattle.elements.proofs.reply.is_allowed.Statement.{statement}
 use Rattle.elements.proofs.reply.is_allowed.Tie as tie
 

@@ -1,7 +1,7 @@
 -- `read` meets its contract: 14, then the reading into the cleared table. Assumes nothing.
 use mathlib.Core.Path.{sym, _∙_}
-use Rattle.laws.proofs.Turned.{failed, passed}
-use Rattle.elements.proofs.Whole.{zeros-as, allowed-as, not-allowed, as-lent}
+use Rattle.booleans.proofs.Turned.{failed, passed}
+use Rattle.elements_rules.proofs.Whole.{zeros-as, allowed-as, not-allowed, as-lent}
 use borrow.Author.Needs.{needs}
 use Rattle.elements.proofs.reply.read.Statement.{statement}
 use Rattle.elements.proofs.reply.read.Tie as tie

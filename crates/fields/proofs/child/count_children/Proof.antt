@@ -5,7 +5,7 @@ use mathlib.Core.Logic.{inl, inr}
 use native.Mathlib.Omega.{arith}
 use lib.ListN.{length}
 use borrow.Author.Needs.{needs}
-use Rattle.fields.proofs.Rest.{rest, Looked, goes, nearer, count-turn, count-end}
+use Rattle.fields_rules.proofs.Rest.{rest, Looked, goes, nearer, count-turn, count-end}
 use Rattle.fields.proofs.child.count_children.Statement.{statement}
 use Rattle.fields.proofs.child.count_children.Tie as tie
 

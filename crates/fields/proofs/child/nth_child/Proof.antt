@@ -4,8 +4,8 @@ use mathlib.Core.Path.{_≡_, refl, sym, _∙_}
 use mathlib.Core.Logic.{inl, inr}
 use native.Mathlib.Omega.{arith}
 use borrow.Author.Needs.{needs}
-use Rattle.fields.specs.Children.{nthOf}
-use Rattle.fields.proofs.Rest.{rest, Looked, goes, nearer, nth-here, nth-turn, nth-end}
+use Rattle.fields_rules.specs.Children.{nthOf}
+use Rattle.fields_rules.proofs.Rest.{rest, Looked, goes, nearer, nth-here, nth-turn, nth-end}
 use Rattle.fields.proofs.child.nth_child.Statement.{statement}
 use Rattle.fields.proofs.child.nth_child.Tie as tie
 

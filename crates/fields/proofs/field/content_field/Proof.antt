@@ -1,7 +1,7 @@
 -- `content_field` meets its contract. Assumes nothing.
 use mathlib.Core.Path.{sym, _∙_}
-use Rattle.fields.proofs.Picked.{last-holds, place-fits}
-use Rattle.fields.proofs.Taken.{content-unset, content-at}
+use Rattle.fields_rules.proofs.Picked.{last-holds, place-fits}
+use Rattle.fields_rules.proofs.Taken.{content-unset, content-at}
 use borrow.Author.Needs.{needs}
 use Rattle.fields.proofs.field.content_field.Statement.{statement}
 use Rattle.fields.proofs.field.content_field.Tie as tie

@@ -1,7 +1,7 @@
 -- `flag_field` meets its contract. Assumes nothing.
 use mathlib.Core.Path.{sym, _∙_}
-use Rattle.fields.proofs.Picked.{last-holds}
-use Rattle.fields.proofs.Taken.{flag-unset, flag-no, flag-yes}
+use Rattle.fields_rules.proofs.Picked.{last-holds}
+use Rattle.fields_rules.proofs.Taken.{flag-unset, flag-no, flag-yes}
 use borrow.Author.Needs.{needs}
 use Rattle.fields.proofs.field.flag_field.Statement.{statement}
 use Rattle.fields.proofs.field.flag_field.Tie as tie

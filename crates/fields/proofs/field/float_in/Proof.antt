@@ -1,8 +1,8 @@
 -- `float_in` meets its contract: a sound float has 4 or 8 bytes. Assumes nothing.
 use mathlib.Core.Logic.{⊎-elim}
 use native.Mathlib.Omega.{arith}
-use Rattle.fields.proofs.Sizes.{float-size}
-use Rattle.fields.proofs.Taken.{narrow, of-4, of-8}
+use Rattle.fields_rules.proofs.Sizes.{float-size}
+use Rattle.fields_rules.proofs.Taken.{narrow, of-4, of-8}
 use borrow.Author.Needs.{needs}
 use Rattle.fields.proofs.field.float_in.Statement.{statement}
 use Rattle.fields.proofs.field.float_in.Tie as tie

@@ -1,7 +1,7 @@
 -- `language_field` meets its contract. Assumes nothing.
 use mathlib.Core.Path.{sym, _∙_}
-use Rattle.fields.proofs.Picked.{last-holds, place-fits}
-use Rattle.fields.proofs.Taken.{language-ietf, language-iso, language-unset}
+use Rattle.fields_rules.proofs.Picked.{last-holds, place-fits}
+use Rattle.fields_rules.proofs.Taken.{language-ietf, language-iso, language-unset}
 use borrow.Author.Needs.{needs}
 use Rattle.fields.proofs.field.language_field.Statement.{statement}
 use Rattle.fields.proofs.field.language_field.Tie as tie

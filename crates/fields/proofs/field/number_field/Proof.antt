@@ -1,7 +1,7 @@
 -- `number_field` meets its contract. Assumes nothing.
 use mathlib.Core.Path.{sym, _∙_}
-use Rattle.fields.proofs.Picked.{last-holds}
-use Rattle.fields.proofs.Taken.{number-unset, number-is}
+use Rattle.fields_rules.proofs.Picked.{last-holds}
+use Rattle.fields_rules.proofs.Taken.{number-unset, number-is}
 use borrow.Author.Needs.{needs}
 use Rattle.fields.proofs.field.number_field.Statement.{statement}
 use Rattle.fields.proofs.field.number_field.Tie as tie

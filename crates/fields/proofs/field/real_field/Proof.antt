@@ -1,7 +1,7 @@
 -- `real_field` meets its contract. Assumes nothing.
 use mathlib.Core.Path.{sym, _∙_}
-use Rattle.fields.proofs.Picked.{last-holds}
-use Rattle.fields.proofs.Taken.{real-unset, real-is}
+use Rattle.fields_rules.proofs.Picked.{last-holds}
+use Rattle.fields_rules.proofs.Taken.{real-unset, real-is}
 use borrow.Author.Needs.{needs}
 use Rattle.fields.proofs.field.real_field.Statement.{statement}
 use Rattle.fields.proofs.field.real_field.Tie as tie

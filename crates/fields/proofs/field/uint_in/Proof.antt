@@ -1,6 +1,6 @@
 -- `uint_in` meets its contract: a sound number has at most 8 bytes. Assumes nothing.
 use native.Mathlib.Omega.{arith}
-use Rattle.fields.proofs.Sizes.{uint-size}
+use Rattle.fields_rules.proofs.Sizes.{uint-size}
 use borrow.Author.Needs.{needs}
 use Rattle.fields.proofs.field.uint_in.Statement.{statement}
 use Rattle.fields.proofs.field.uint_in.Tie as tie

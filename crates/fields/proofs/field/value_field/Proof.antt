@@ -1,7 +1,7 @@
 -- `value_field` meets its contract. Assumes nothing.
 use mathlib.Core.Path.{sym, _∙_}
-use Rattle.fields.proofs.Picked.{last-holds, place-fits}
-use Rattle.fields.proofs.Taken.{value-unset, value-binary, value-text, later-binary, later-text}
+use Rattle.fields_rules.proofs.Picked.{last-holds, place-fits}
+use Rattle.fields_rules.proofs.Taken.{value-unset, value-binary, value-text, later-binary, later-text}
 use borrow.Author.Needs.{needs}
 use Rattle.fields.proofs.field.value_field.Statement.{statement}
 use Rattle.fields.proofs.field.value_field.Tie as tie

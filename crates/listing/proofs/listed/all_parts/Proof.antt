@@ -1,6 +1,6 @@
 -- `all_parts` meets its contract: the four parts, one after another. Assumes nothing.
 use native.Mathlib.Omega.{arith}
-use Rattle.listing.specs.Listing.{allParts}
+use Rattle.listing_rules.specs.Listing.{allParts}
 use Rattle.pages.proofs.Pages.{then}
 use borrow.Author.Needs.{needs}
 use Rattle.listing.proofs.listed.all_parts.Statement.{statement}

@@ -1,6 +1,6 @@
 -- `listing` meets its contract: 14, or the first line and the parts. Assumes nothing.
 use Rattle.pages.proofs.Pages.{then}
-use Rattle.listing.proofs.PartTexts.{listing-is, too-long, not-too-long}
+use Rattle.listing_rules.proofs.PartTexts.{listing-is, too-long, not-too-long}
 use borrow.Author.Needs.{needs}
 use Rattle.listing.proofs.listed.listing.Statement.{statement}
 use Rattle.listing.proofs.listed.listing.Tie as tie

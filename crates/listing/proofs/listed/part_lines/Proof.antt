@@ -1,7 +1,7 @@
 -- `part_lines` meets its contract: the part's id, and then its text by the reply of the search. Assumes nothing.
 use native.Mathlib.Omega.{arith}
 use Rattle.pages.proofs.Pages.{then}
-use Rattle.listing.proofs.PartTexts.{absent-text, refused-text, found-few, found-text, part-text}
+use Rattle.listing_rules.proofs.PartTexts.{absent-text, refused-text, found-few, found-text, part-text}
 use borrow.Author.Needs.{needs}
 use Rattle.listing.proofs.listed.part_lines.Statement.{statement}
 use Rattle.listing.proofs.listed.part_lines.Tie as tie

@@ -1,6 +1,6 @@
 -- `place_text` meets its contract: three labelled numbers and the line's end. Assumes nothing.
 use native.Mathlib.Omega.{arith}
-use Rattle.listing.specs.Listing.{placeText}
+use Rattle.listing_rules.specs.Listing.{placeText}
 use Rattle.pages.specs.Text.{ascii}
 use Rattle.pages.proofs.Pages.{then, then-labelled}
 use borrow.Author.Needs.{needs}

@@ -1,7 +1,7 @@
 -- `payload_range` meets its contract: the limits, one after another, and then the range. Assumes nothing.
 use native.Mathlib.Omega.{arith}
-use Rattle.laws.proofs.Turned.{failed, passed}
-use Rattle.places.proofs.Ranges.{not-allowed, no-row, past-end, range-is}
+use Rattle.booleans.proofs.Turned.{failed, passed}
+use Rattle.places_rules.proofs.Ranges.{not-allowed, no-row, past-end, range-is}
 use borrow.Author.Needs.{needs}
 use Rattle.places.proofs.payload.payload_range.Statement.{statement}
 use Rattle.places.proofs.payload.payload_range.Tie as tie

@@ -1,6 +1,6 @@
 -- `row_payload` meets its contract: the part that the range tells, or nothing. Assumes nothing.
 use native.Mathlib.Omega.{arith}
-use Rattle.places.proofs.Ranges.{range-inside, part-is, part-none}
+use Rattle.places_rules.proofs.Ranges.{range-inside, part-is, part-none}
 use borrow.Author.Needs.{needs}
 use Rattle.places.proofs.payload.row_payload.Statement.{statement}
 use Rattle.places.proofs.payload.row_payload.Tie as tie

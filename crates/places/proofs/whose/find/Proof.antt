@@ -3,8 +3,8 @@ use Prim.Native.Nat.{_-_}
 use mathlib.Core.Path.{sym, _∙_}
 use native.Mathlib.Omega.{arith}
 use borrow.Author.Needs.{needs}
-use Rattle.places.specs.declared.whose.Holder.the-variants.{Header, Payload}
-use Rattle.places.proofs.Spots.{Walk, walk-from, walk-step, walk-on, walk-ends}
+use Rattle.places_rules.specs.declared.whose.Holder.the-variants.{Header, Payload}
+use Rattle.places_rules.proofs.Spots.{Walk, walk-from, walk-step, walk-on, walk-ends}
 use Rattle.places.proofs.whose.find.Statement.{statement}
 use Rattle.places.proofs.whose.find.Tie as tie
 

@@ -1,5 +1,5 @@
 -- `held_by` meets its contract: before the row, its header, a master's payload, a leaf's, behind it. Assumes nothing.
-use Rattle.places.proofs.Spots.{holder-before, holder-header, holder-master, holder-payload, holder-behind}
+use Rattle.places_rules.proofs.Spots.{holder-before, holder-header, holder-master, holder-payload, holder-behind}
 use Rattle.places.proofs.whose.held_by.Statement.{statement}
 use Rattle.places.proofs.whose.held_by.Tie as tie
 

@@ -1,5 +1,5 @@
 -- `is_within` meets its contract: the difference is tested, since the sum may pass 2^64. Assumes nothing.
-use Rattle.places.proofs.Spots.{before-span, by-difference}
+use Rattle.places_rules.proofs.Spots.{before-span, by-difference}
 use Rattle.places.proofs.whose.is_within.Statement.{statement}
 use Rattle.places.proofs.whose.is_within.Tie as tie
 

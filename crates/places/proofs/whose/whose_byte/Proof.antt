@@ -1,8 +1,8 @@
 -- `whose_byte` meets its contract: 14, 15, the reading into the cleared table, the walk over its rows. Assumes nothing.
 use mathlib.Core.Path.{sym, _∙_}
-use Rattle.laws.proofs.Turned.{failed, passed}
-use Rattle.elements.proofs.Whole.{zeros-as, allowed-as, as-lent}
-use Rattle.places.proofs.Asked.{asked-broken, asked-outside, asked-refused, asked-rows, asked-found}
+use Rattle.booleans.proofs.Turned.{failed, passed}
+use Rattle.elements_rules.proofs.Whole.{zeros-as, allowed-as, as-lent}
+use Rattle.places_rules.proofs.Asked.{asked-broken, asked-outside, asked-refused, asked-rows, asked-found}
 use borrow.Author.Needs.{needs}
 use Rattle.places.proofs.whose.whose_byte.Statement.{statement}
 use Rattle.places.proofs.whose.whose_byte.Tie as tie

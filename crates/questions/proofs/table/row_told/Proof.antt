@@ -1,7 +1,7 @@
 -- `row_told` is safe and ends: its numbers lie in the table. Assumes nothing.
 use borrow.Author.Needs.{needs}
 use Prim.Native.Nat.{_-_, _≤_}
-use Rattle.elements.specs.Rows.{width}
+use Rattle.elements_rules.specs.Rows.{width}
 use Rattle.questions.proofs.table.row_told.Statement.{statement}
 use Rattle.questions.proofs.table.row_told.Tie as tie
 

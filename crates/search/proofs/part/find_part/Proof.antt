@@ -1,11 +1,11 @@
 -- `find_part` meets its contract: 14, the walk to the part, the reading into the cleared table. Assumes nothing.
 use mathlib.Core.Path.{refl, sym, _∙_}
-use Rattle.laws.proofs.Turned.{failed, passed}
+use Rattle.booleans.proofs.Turned.{failed, passed}
 use Rattle.kinds.specs.Elements.{elements}
-use Rattle.elements.proofs.Limits.{within}
-use Rattle.elements.proofs.Whole.{zeros-as, allowed-as, as-lent}
-use Rattle.search.proofs.Finding.{found-allowed, find-broken, find-none, find-stopped, find-absent}
-use Rattle.search.proofs.Finding.{find-refused, find-rows}
+use Rattle.elements_rules.proofs.Limits.{within}
+use Rattle.elements_rules.proofs.Whole.{zeros-as, allowed-as, as-lent}
+use Rattle.search_rules.proofs.Finding.{found-allowed, find-broken, find-none, find-stopped, find-absent}
+use Rattle.search_rules.proofs.Finding.{find-refused, find-rows}
 use borrow.Author.Needs.{needs}
 use Rattle.search.proofs.part.find_part.Statement.{statement}
 use Rattle.search.proofs.part.find_part.Tie as tie

@@ -1,7 +1,7 @@
 -- `parent_of` meets its contract: each part is an arm of its own. Assumes nothing.
 use mathlib.Core.Path.{refl, ap, sym}
 use borrow.Author.Tests.{ne-eqb}
-use Rattle.search.specs.Part.{parentOf}
+use Rattle.search_rules.specs.Part.{parentOf}
 use Rattle.search.proofs.part.parent_of.Statement.{statement}
 use Rattle.search.proofs.part.parent_of.Tie as tie
 

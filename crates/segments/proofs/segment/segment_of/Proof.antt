@@ -3,7 +3,7 @@ use Prim.Native.Nat.{_-_}
 use mathlib.Core.Path.{sym, _∙_}
 use native.Mathlib.Omega.{arith}
 use lib.ListN.{length}
-use Rattle.segments.proofs.Before.{next-fits, Opening, open-holds, open-refused, open-is, open-less, open-again}
+use Rattle.segments_rules.proofs.Before.{next-fits, Opening, open-holds, open-refused, open-is, open-less, open-again}
 use borrow.Author.Needs.{needs}
 use Rattle.segments.proofs.segment.segment_of.Statement.{statement}
 use Rattle.segments.proofs.segment.segment_of.Tie as tie

@@ -1,7 +1,7 @@
 -- `look_up` meets its contract: the segment, then the walk over its children. Assumes nothing.
 use mathlib.Core.Path.{sym, _∙_}
-use Rattle.segments.proofs.Before.{segment-there}
-use Rattle.segments.proofs.Walking.{place-refused, place-walked}
+use Rattle.segments_rules.proofs.Before.{segment-there}
+use Rattle.segments_rules.proofs.Walking.{place-refused, place-walked}
 use borrow.Author.Needs.{needs}
 use Rattle.segments.proofs.walk.look_up.Statement.{statement}
 use Rattle.segments.proofs.walk.look_up.Tie as tie

@@ -1,5 +1,5 @@
 -- `visit_child` meets its contract: the two tests of a child's id. Assumes nothing.
-use Rattle.segments.proofs.Walking.{visit-head, visit-found, visit-over}
+use Rattle.segments_rules.proofs.Walking.{visit-head, visit-found, visit-over}
 use borrow.Author.Needs.{needs}
 use Rattle.segments.proofs.walk.visit_child.Statement.{statement}
 use Rattle.segments.proofs.walk.visit_child.Tie as tie

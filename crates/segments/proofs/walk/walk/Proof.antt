@@ -3,10 +3,10 @@ use Prim.Native.Nat.{_-_}
 use mathlib.Core.Path.{sym, ap, _∙_}
 use native.Mathlib.Omega.{arith}
 use Rattle.header.proofs.Inside.{header-there}
-use Rattle.seektable.specs.declared.lookup.PartPlace.the-variants.{Refused}
-use Rattle.segments.proofs.Before.{next-fits}
-use Rattle.segments.proofs.Walking.{Passing, pass-holds, pass-ends, pass-refused, pass-ended}
-use Rattle.segments.proofs.Walking.{pass-overrun, pass-less, pass-again}
+use Rattle.seekchain_rules.specs.declared.lookup.PartPlace.the-variants.{Refused}
+use Rattle.segments_rules.proofs.Before.{next-fits}
+use Rattle.segments_rules.proofs.Walking.{Passing, pass-holds, pass-ends, pass-refused, pass-ended}
+use Rattle.segments_rules.proofs.Walking.{pass-overrun, pass-less, pass-again}
 use borrow.Author.Needs.{needs}
 use Rattle.segments.proofs.walk.walk.Statement.{statement}
 use Rattle.segments.proofs.walk.walk.Tie as tie

@@ -1,7 +1,7 @@
 -- `simple_in` meets its contract: field by field. Assumes nothing.
 use mathlib.Core.Path.{refl}
-use Rattle.tags.specs.Records.{simpleOf}
-use Rattle.records.proofs.Lists.{then}
+use Rattle.tags_rules.specs.Records.{simpleOf}
+use Rattle.locate_rules.proofs.Lists.{then}
 use borrow.Author.Needs.{needs}
 use Rattle.tags.proofs.simple.simple_in.Statement.{statement}
 use Rattle.tags.proofs.simple.simple_in.Tie as tie

@@ -1,6 +1,6 @@
 -- `simple_tag_at` meets its contract: the master is found, and its fields are told. Assumes nothing.
-use Rattle.tags.specs.Records.{simpleOf}
-use Rattle.records.proofs.Told.{readable-at, told-refused, told-below}
+use Rattle.tags_rules.specs.Records.{simpleOf}
+use Rattle.locate_rules.proofs.Told.{readable-at, told-refused, told-below}
 use borrow.Author.Needs.{needs}
 use Rattle.tags.proofs.simple.simple_tag_at.Statement.{statement}
 use Rattle.tags.proofs.simple.simple_tag_at.Tie as tie

@@ -1,5 +1,5 @@
 -- `tag_at` meets its contract: the master is found, and its fields are told. Assumes nothing.
-use Rattle.records.proofs.Told.{stands-at, told-refused, told-found}
+use Rattle.locate_rules.proofs.Told.{stands-at, told-refused, told-found}
 use borrow.Author.Needs.{needs}
 use Rattle.tags.proofs.tag.tag_at.Statement.{statement}
 use Rattle.tags.proofs.tag.tag_at.Tie as tie

@@ -1,5 +1,5 @@
 -- `tag_in` meets its contract. Assumes nothing.
-use Rattle.tags.proofs.Tags.{tag-is}
+use Rattle.tags_rules.proofs.Tags.{tag-is}
 use borrow.Author.Needs.{needs}
 use Rattle.tags.proofs.tag.tag_in.Statement.{statement}
 use Rattle.tags.proofs.tag.tag_in.Tie as tie

@@ -1,7 +1,7 @@
 -- `target_in` meets its contract: field by field. Assumes nothing.
 use mathlib.Core.Path.{refl}
-use Rattle.tags.specs.Records.{targetOf}
-use Rattle.records.proofs.Lists.{then, counted}
+use Rattle.tags_rules.specs.Records.{targetOf}
+use Rattle.locate_rules.proofs.Lists.{then, counted}
 use borrow.Author.Needs.{needs}
 use Rattle.tags.proofs.tag.target_in.Statement.{statement}
 use Rattle.tags.proofs.tag.target_in.Tie as tie

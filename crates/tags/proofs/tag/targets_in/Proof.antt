@@ -1,9 +1,9 @@
 -- `targets_in` meets its contract: the last Targets, with the rows below it. Assumes nothing.
 use mathlib.Core.Path.{sym, _∙_}
 use native.Mathlib.Omega.{arith}
-use Rattle.records.proofs.Ways.{readable}
-use Rattle.records.proofs.Inner.{inner-known, inner-stands}
-use Rattle.tags.proofs.Tags.{no-targets, are-targets}
+use Rattle.locate_rules.proofs.Ways.{readable}
+use Rattle.locate_rules.proofs.Inner.{inner-known, inner-stands}
+use Rattle.tags_rules.proofs.Tags.{no-targets, are-targets}
 use borrow.Author.Needs.{needs}
 use Rattle.tags.proofs.tag.targets_in.Statement.{statement}
 use Rattle.tags.proofs.tag.targets_in.Tie as tie

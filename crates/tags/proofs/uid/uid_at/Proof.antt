@@ -1,8 +1,8 @@
 -- `uid_at` meets its contract: the last Targets of the tag, and then the member. Assumes nothing.
 use mathlib.Core.Path.{sym, _∙_}
-use Rattle.fields.proofs.Picked.{nth-holds}
-use Rattle.records.proofs.Ways.{readable}
-use Rattle.tags.proofs.Tags.{uid-refused, uid-none, uid-found}
+use Rattle.fields_rules.proofs.Picked.{nth-holds}
+use Rattle.locate_rules.proofs.Ways.{readable}
+use Rattle.tags_rules.proofs.Tags.{uid-refused, uid-none, uid-found}
 use borrow.Author.Needs.{needs}
 use Rattle.tags.proofs.uid.uid_at.Statement.{statement}
 use Rattle.tags.proofs.uid.uid_at.Tie as tie

@@ -1,5 +1,5 @@
 -- `uz_find_part` meets its contract: the reply of `find_part`, case by case. Assumes nothing.
-use Rattle.viewer.proofs.Crossing.{part-crosses}
+use Rattle.viewer_rules.proofs.Crossing.{part-crosses}
 use borrow.Author.Needs.{needs}
 use Rattle.viewer.proofs.part.uz_find_part.Statement.{statement}
 use Rattle.viewer.proofs.part.uz_find_part.Tie as tie

@@ -1,5 +1,5 @@
 -- `uz_row_payload` meets its contract: the reply of `payload_range`, case by case. Assumes nothing.
-use Rattle.viewer.proofs.Crossing.{range-crosses}
+use Rattle.viewer_rules.proofs.Crossing.{range-crosses}
 use borrow.Author.Needs.{needs}
 use Rattle.viewer.proofs.payload.uz_row_payload.Statement.{statement}
 use Rattle.viewer.proofs.payload.uz_row_payload.Tie as tie

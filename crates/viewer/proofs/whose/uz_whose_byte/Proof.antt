@@ -1,5 +1,5 @@
 -- `uz_whose_byte` meets its contract: the reply of `whose_byte`, case by case. Assumes nothing.
-use Rattle.viewer.proofs.Crossing.{place-crosses}
+use Rattle.viewer_rules.proofs.Crossing.{place-crosses}
 use borrow.Author.Needs.{needs}
 use Rattle.viewer.proofs.whose.uz_whose_byte.Statement.{statement}
 use Rattle.viewer.proofs.whose.uz_whose_byte.Tie as tie

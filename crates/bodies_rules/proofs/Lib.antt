@@ -1,0 +1,8 @@
+-- The laws that the proofs of `bodies_rules` use, and its theorems.
+pub mod Signs
+pub mod Nans
+pub mod Ends
+pub mod Found
+pub mod ByKind
+pub mod Replies
+pub mod Unique

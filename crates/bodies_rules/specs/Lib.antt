@@ -1,0 +1,6 @@
+-- The definitions that the contracts of `bodies_rules` cite, and the statements of its theorems.
+pub mod Numbers
+pub mod Bodies
+pub mod Reads
+pub mod Promise
+pub mod Theorems

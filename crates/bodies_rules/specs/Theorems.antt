@@ -1,0 +1,13 @@
+-- What is proved of the definitions beside the contracts: the statements of the theorems.
+use Prim.Native.Nat.{ℕ}
+use mathlib.Core.Path.{_≡_}
+use mathlib.Core.List.{List}
+use Rattle.bodies_rules.specs.Promise.{BodyPromise}
+use Rattle.bodies_rules.specs.declared.reply.BodyReply.{BodyReply}
+
+-- Any two replies that the promise permits to one question are equal (document 01, Strength of the promises). All NaNs
+-- are one value here, so a NaN's bits are not promised.
+abbrev pub OneReply : Type 0
+OneReply =
+    (s : List ℕ) (id parent at size : ℕ) (r r′ : BodyReply)
+    → BodyPromise s id parent at size r → BodyPromise s id parent at size r′ → r ≡ r′

@@ -1,0 +1,9 @@
+// The reply of `body_at`.
+use crate::body::Body;
+use header::Refusal;
+
+// The body, or a refusal.
+pub enum BodyReply {
+    Body(Body),
+    Refused(Refusal),
+}

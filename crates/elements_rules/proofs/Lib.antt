@@ -1,0 +1,23 @@
+-- The laws that the proofs of `elements_rules` share, and its theorems.
+pub mod Limits
+pub mod Outcomes
+pub mod Parts
+pub mod Bodies
+pub mod Forests
+pub mod Tables
+pub mod Standing
+pub mod Reading
+pub mod Steps
+pub mod Whole
+pub mod Fits
+pub mod Numbered
+pub mod Readback
+pub mod Partition
+pub mod Unique
+pub mod Sound
+pub mod Family
+pub mod Lossless
+pub mod Cases
+pub mod Useless
+pub mod Jumps
+pub mod Depths

@@ -1,0 +1,64 @@
+-- What the public call `read` promises of its reply and of the table.
+use Prim.Native.Nat.{ℕ, _*_, _-_, _/_, _%_}
+use mathlib.Core.Path.{_≡_}
+use mathlib.Core.List.{List, [], _∷_, _++_}
+use mathlib.Core.Bool.{Bool, true, _&&_, not}
+use lib.ListN.{length, replicate}
+use lib.Dec.{leb, eqb}
+use Rattle.header.specs.Promise.{mostBytes}
+use Rattle.header.specs.Refusals.{badArgument}
+use Rattle.header.specs.Reply.{Reply, accepted, refusalOf}
+use Rattle.elements_rules.specs.Forest.{count}
+use Rattle.elements_rules.specs.Reading.{Outcome, done, refused, refuseIf, masterBody}
+use Rattle.elements_rules.specs.Rows.{rows, width, flatten}
+use Rattle.elements_rules.specs.declared.row.Mode.{Mode}
+use Rattle.elements_rules.specs.declared.reply.ReadReply.{ReadReply}
+use Rattle.elements_rules.specs.declared.reply.ReadReply.the-variants.{Rows, Refused}
+
+-- The most rows that a table has (document 01, Numbers that bound a call).
+abbrev pub mostRows : ℕ
+mostRows = 4096
+
+-- A read with rows.
+abbrev pub keeping : Mode
+keeping = record { keep = true }
+
+-- A table of so many numbers: whole rows, and not too many.
+unfoldable pub isTable : ℕ → Bool
+isTable numbers = eqb (numbers % width) 0 && leb numbers (mostRows * width)
+
+-- What document 01 allows, with the row of document 02, C-15: a recording and a table within their limits, a start not
+-- past the end.
+unfoldable pub allowed : List ℕ → ℕ → ℕ → Bool
+allowed s start numbers = leb (length s) mostBytes && (isTable numbers && leb start (length s))
+
+-- The reading into a table of so many numbers: the payload's elements have depth 0.
+unfoldable pub filled : List ℕ → ℕ → ℕ → ℕ → ℕ → Outcome
+filled s start size parent numbers = masterBody s keeping (numbers / width) 0 parent start size 0
+
+-- The public read: 14, then the reading.
+unfoldable pub readOf : List ℕ → ℕ → ℕ → ℕ → ℕ → Outcome
+readOf s start size parent numbers =
+    refuseIf (not (allowed s start numbers)) badArgument (filled s start size parent numbers)
+
+-- The reply: how many rows there are.
+abbrev pub replyOf : Outcome → Reply
+replyOf (done f) = accepted (count f ∷ [])
+replyOf (refused e) = refusalOf e
+
+abbrev pub zeros : ℕ → List ℕ
+zeros n = replicate n 0
+
+-- The table: the rows and zeros beyond the last; after a refusal zeros alone.
+unfoldable pub tableOf : ℕ → ℕ → Outcome → List ℕ
+tableOf start numbers (done f) = flatten (rows 0 0 start 0 f) ++ zeros (numbers - count f * width)
+tableOf start numbers (refused e) = zeros numbers
+
+-- Document 01's number and values for each case of `ReadReply`.
+abbrev pub readTold : ReadReply → Reply
+readTold (Rows n) = accepted (n ∷ [])
+readTold (Refused e) = refusalOf e
+
+pub record ReadPromise (s : List ℕ) (start size parent : ℕ) (t : List ℕ) (r : ReadReply) (t′ : List ℕ) : Type 0 where
+  pub reply : readTold r ≡ replyOf (readOf s start size parent (length t))
+  pub table : t′ ≡ tableOf start (length t) (readOf s start size parent (length t))

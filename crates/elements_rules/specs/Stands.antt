@@ -1,0 +1,40 @@
+-- What it is for elements to stand in a recording: the relation that the theorems on an accepted read go by.
+use Prim.Native.Nat.{ℕ, _+_, _≤_}
+use mathlib.Core.Path.{_≡_}
+use mathlib.Core.List.{List}
+use lib.ListN.{length, drop}
+use Rattle.header.specs.Header.{heading, headerOf}
+use Rattle.kinds.specs.Kinds.{numberOf, kindUnder}
+use Rattle.bodies_rules.specs.Bodies.{Told, integer, unsigned, float, date, text, bytes, master, refusal, bodyOf}
+use Rattle.elements_rules.specs.Forest.{Element, Forest, none, node, whole, span}
+
+-- A body is a value: no master, and no refusal.
+abbrev pub IsValue : Told → Type 0
+IsValue (integer z) = Unit
+IsValue (unsigned v) = Unit
+IsValue (float x) = Unit
+IsValue (date z) = Unit
+IsValue (text a l) = Unit
+IsValue (bytes a l) = Unit
+IsValue master = ⊥
+IsValue (refusal number id) = ⊥
+
+abbrev pub IsMaster : Element → Type 0
+IsMaster e = numberOf (e .kind) ≡ 1
+
+-- An element stands at an address under a parent id: its header is there, and its kind is the id's. A master's
+-- children take up its payload; the body of any other is a value, and it has no children.
+pub record StandsAt (s : List ℕ) (parent at : ℕ) (e : Element) (kids : Forest) : Type 0 where
+  pub head : headerOf (drop at s) ≡ heading (e .header)
+  pub kind : e .kind ≡ kindUnder (e .header .id) parent
+  pub taken : IsMaster e → span kids ≡ e .header .size
+  pub value : (IsMaster e → ⊥) → IsValue (bodyOf s (at + e .header .length) (e .header .size) (e .kind))
+  pub childless : (IsMaster e → ⊥) → kids ≡ none
+
+-- The elements stand one after another from an address on, and each one's children behind its header.
+unfoldable pub Stands : List ℕ → ℕ → ℕ → Forest → Type 0
+Stands s parent at none = at ≤ length s
+Stands s parent at (node e kids rest) =
+    StandsAt s parent at e kids
+    × Stands s (e .header .id) (at + e .header .length) kids
+    × Stands s parent (at + whole e) rest

@@ -1,9 +1,0 @@
--- The laws that the proofs of `fields` share, and its theorems.
-pub mod Rest
-pub mod Levels
-pub mod Picked
-pub mod Sizes
-pub mod Taken
-pub mod LastOnes
-pub mod Enough
-pub mod Once

@@ -1,0 +1,9 @@
+-- The laws that the proofs of `fields_rules` share, and its theorems.
+pub mod Rest
+pub mod Levels
+pub mod Picked
+pub mod Sizes
+pub mod Taken
+pub mod LastOnes
+pub mod Enough
+pub mod Once

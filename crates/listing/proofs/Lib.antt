@@ -1,4 +1,0 @@
--- The laws that the proofs of `listing` share, and its theorems.
-pub mod PartTexts
-pub mod Unique
-pub mod Cases

@@ -1,0 +1,34 @@
+-- The worked listings hold. Assumes nothing.
+use mathlib.Core.Path.{refl}
+use Rattle.header.specs.Vint.{octetBits, bits, oneMore, widthOf, bigEndianFrom, bigEndian, ofWidth, vintOf}
+use Rattle.header.specs.Header.{sized, named, headerOf}
+use Rattle.header.specs.Reads.{headerRead, headerAt}
+use Rattle.kinds.specs.Elements.{elements}
+use Rattle.kinds.specs.Kinds.{kindIn, keeps, demoted, kindUnder}
+use Rattle.kinds.specs.Kinds.{member}
+use Rattle.utf8.specs.Utf8.{utf8Char, behind, anyOf, goesOn, utf8}
+use Rattle.bodies_rules.specs.Bodies.{bodyOf}
+use Rattle.elements_rules.specs.Forest.{span, count, join}
+use Rattle.elements_rules.specs.Reading.{refuseIf, full, siblings, element, masterBody}
+use Rattle.elements_rules.specs.Rows.{rows}
+use Rattle.elements_rules.specs.Promise.{isTable, allowed, filled}
+use Rattle.seekhead_rules.specs.Seeks.{headOf, lastFour, withMembers, entryOf, entries}
+use Rattle.seekhead_rules.specs.Table.{later, latestFrom}
+use Rattle.seekchain_rules.specs.Heads.{sought, chain}
+use Rattle.seekchain_rules.specs.Lookup.{byHeads}
+use Rattle.segments_rules.specs.Walk.{toSegment, segmentOf, visit, walk, children, lookupOf}
+use Rattle.search_rules.specs.Part.{parentOf, searchOf}
+use Rattle.pages.specs.Text.{glyph, numeral}
+use Rattle.rowtext.specs.Lines.{kindWord, rowPlace, rowLine, rowLines}
+use Rattle.listing_rules.specs.Listing.{placeText, searchText, partLines, allParts, listingOf}
+use Rattle.listing_rules.specs.Cases.{cases, Hold}
+
+pub cases-hold : Hold cases
+unfolding octetBits bits oneMore widthOf bigEndianFrom bigEndian ofWidth vintOf sized named headerOf headerRead
+    headerAt
+    elements kindIn keeps demoted kindUnder utf8Char behind anyOf goesOn utf8 bodyOf
+    span count join refuseIf full siblings element masterBody rows isTable allowed filled
+    headOf lastFour withMembers entryOf entries later latestFrom member sought chain byHeads
+    toSegment segmentOf visit walk children lookupOf parentOf searchOf
+    glyph numeral kindWord rowPlace rowLine rowLines placeText searchText partLines allParts listingOf
+cases-hold = (refl, (refl, (refl, tt)))

@@ -1,0 +1,100 @@
+-- The text of a part by the reply of the search. Assumes nothing.
+use Prim.Native.Nat.{ℕ, _≤_, _<_}
+use mathlib.Core.Path.{_≡_, refl, sym, ap, _∙_}
+use mathlib.Core.List.{List, [], _∷_, _++_}
+use native.Mathlib.Omega.{arith}
+use native.Mathlib.Nat.{zero-add}
+use borrow.Author.Tests.{lt-ltb, le-ltb}
+use lib.ListN.{length}
+use Rattle.header.specs.Reply.{accepted, refusalOf}
+use Rattle.header.specs.declared.refusal.Refusal.{Refusal}
+use Rattle.elements_rules.specs.Rows.{rows, rowsOf}
+use Rattle.elements_rules.specs.declared.row.Row.{Row}
+use Rattle.search_rules.specs.Part.{Search, found, absent, refused, searchOf, replyOf, PartPromise}
+use Rattle.search_rules.specs.declared.part.PartReply.the-variants.{Found, Absent, Refused}
+use Rattle.search_rules.proofs.Found.{found-holds}
+use Rattle.pages.specs.Text.{ascii, decimal, hexadecimal}
+use Rattle.pages.specs.Page.{written, Wrote}
+use Rattle.rowtext.specs.Lines.{rowLines}
+use Rattle.listing_rules.specs.Listing.{mostListed, tableNumbers, placeText, searchText, partLines}
+use Rattle.listing_rules.specs.Listing.{allParts, listingOf}
+use Rattle.listing_rules.specs.Promise.{ListingPromise}
+use Rattle.pages.proofs.Pages.{then}
+
+-- ---- what a reply tells
+
+told-absent : (heads : ℕ) (y : Search) → accepted (0 ∷ 0 ∷ 0 ∷ 0 ∷ heads ∷ []) ≡ replyOf y → searchText y ≡
+    ascii " absent\n"
+unfolding searchText
+told-absent heads (found at size hs f) e = let z : _≡_ {A = ℕ} 0 1 = cc in absurd (omega arith)
+told-absent heads (absent hs) e = refl
+told-absent heads (refused r) e = let z : _≡_ {A = ℕ} 0 1 = cc in absurd (omega arith)
+
+told-refused :
+    (r : Refusal) (y : Search) → refusalOf r ≡ replyOf y
+    → searchText y ≡ ascii " refused " ++ decimal (r .number) ++ ascii "\n"
+unfolding searchText
+told-refused r (found at size hs f) e = let z : _≡_ {A = ℕ} 0 1 = cc in absurd (omega arith)
+told-refused r (absent hs) e = let z : _≡_ {A = ℕ} 0 1 = cc in absurd (omega arith)
+told-refused r (refused r′) e =
+    let n : r′ .number ≡ r .number = cc in
+    ap (λ (x : ℕ). ascii " refused " ++ decimal x ++ ascii "\n") n
+
+module _ (s : List ℕ) (part : ℕ) (t t′ : List ℕ) (l : length t ≡ tableNumbers) where
+  pub absent-text :
+      (heads : ℕ) → PartPromise s part t (Absent heads) t′
+      → searchText (searchOf s part tableNumbers) ≡ ascii " absent\n"
+  absent-text heads p = told-absent heads (searchOf s part tableNumbers) (rw l at (p .reply))
+
+  pub refused-text :
+      (r : Refusal) → PartPromise s part t (Refused r) t′
+      → searchText (searchOf s part tableNumbers) ≡ ascii " refused " ++ decimal (r .number) ++ ascii "\n"
+  refused-text r p = told-refused r (searchOf s part tableNumbers) (rw l at (p .reply))
+
+  module _ (at size n heads : ℕ) (p : PartPromise s part t (Found at size n heads) t′) where
+    pub found-few : n ≤ 1024
+    found-few = let h = found-holds s part t at size n heads t′ p .fits in omega arith
+
+    pub found-text : searchText (searchOf s part tableNumbers) ≡ placeText at size n ++ rowLines (rowsOf t′ n)
+    unfolding searchText
+    found-text =
+        let h = found-holds s part t at size n heads t′ p in
+        let f = h .forest in
+        ap (λ (x : ℕ). searchText (searchOf s part x)) (sym l) ∙ ap searchText (h .searched)
+        ∙ ap (λ (x : ℕ). placeText at size x ++ rowLines (rows 0 0 at 0 f)) (sym (h .counted))
+        ∙ ap (λ (x : List Row). placeText at size n ++ rowLines x) (sym (h .rows-are))
+
+-- The part's id, and what the search comes to.
+pub part-text :
+    (s : List ℕ) (part : ℕ) (text page : List ℕ) (held r : ℕ) (page′ : List ℕ) (r′ : ℕ) (page″ : List ℕ)
+    → searchText (searchOf s part tableNumbers) ≡ text → r′ ≤ length page
+    → Wrote page held (ascii "part " ++ hexadecimal part) r page′ → Wrote page′ r text r′ page″
+    → Wrote page held (partLines s part) r′ page″
+unfolding partLines
+part-text s part text page held r page′ r′ page″ e room v w =
+    rw e (then page held (ascii "part " ++ hexadecimal part) r page′ text r′ page″ v w room)
+
+-- ---- the whole listing
+
+pub listing-is :
+    (s text page : List ℕ) (r : ℕ) (page′ : List ℕ) → listingOf s ≡ text → r ≤ length page → Wrote page 0 text
+    r page′
+    → ListingPromise s page r page′
+listing-is s text page r page′ e l w =
+    let f = sym e in
+    record {
+      reply = w .ends ∙ zero-add (length text) ∙ ap length f;
+      text = w .says ∙ ap (written page 0) f;
+      fits = rw (w .long) l;
+      long = w .long;
+    }
+
+pub too-long : (s : List ℕ) → mostListed < length s → listingOf s ≡ ascii "refused 14\n"
+unfolding listingOf
+too-long s l = rw (lt-ltb mostListed (length s) l)
+
+pub not-too-long :
+    (s : List ℕ) → length s ≤ mostListed
+    → listingOf s ≡ ascii "recording " ++ decimal (length s) ++ ascii "\n" ++ allParts s
+unfolding listingOf
+not-too-long s l = rw (le-ltb mostListed (length s) l)

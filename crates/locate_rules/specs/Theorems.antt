@@ -1,0 +1,82 @@
+-- What is proved of the definitions beside the contracts: the statements of the theorems.
+use Prim.Native.Nat.{ℕ, _+_, _<_}
+use mathlib.Core.Path.{_≡_}
+use mathlib.Core.List.{List, [], _∷_}
+use lib.ListN.{length}
+use Rattle.elements_rules.specs.Rows.{rowsOf, nth}
+use Rattle.elements_rules.specs.Promise.{ReadPromise}
+use Rattle.elements_rules.specs.declared.row.Row.{Row}
+use Rattle.elements_rules.specs.declared.reply.ReadReply.the-variants.{Rows}
+use Rattle.fields_rules.specs.Values.{Value, unset, number, flag, content, iso, ietf, text, binary, real, count}
+use Rattle.fields_rules.specs.declared.child.Child.{Child}
+use Rattle.locate_rules.specs.Asked.{Asked, found, asked, listed, tableAfter}
+use Rattle.locate_rules.specs.Told.{Answer, fields}
+use Rattle.locate_rules.specs.Promise.{RecordPromise}
+use Rattle.locate_rules.specs.declared.steps.Step.{Step}
+
+-- Any two answers and tables that the promise permits to one question are equal (document 01, Strength of the
+-- promises). The numbers that stood in the lent table do not matter, only how many there are.
+abbrev pub OneAnswer : Type 0
+OneAnswer =
+    (values : List Row → ℕ → List Value) (ask : ℕ → Asked) (n m : ℕ) (x y : Answer) (t′ u′ : List ℕ) → n ≡ m
+    → RecordPromise values (ask n) n x t′ → RecordPromise values (ask m) m y u′ → (x ≡ y) × (t′ ≡ u′)
+
+-- ---- each thing that is named has its address
+
+-- A place is the payload of one of the rows.
+pub record PayloadOf (rs : List Row) (at n : ℕ) : Type 0 where
+  pub row : ℕ
+  pub there : row < length rs
+  pub begins : nth rs row .address + nth rs row .header ≡ at
+  pub long : nth rs row .payload ≡ n
+
+-- The place that a value names is the payload of a row; a number names none.
+abbrev pub Placed : List Row → Value → Type 0
+Placed rs unset = Unit
+Placed rs (number v) = Unit
+Placed rs (flag b) = Unit
+Placed rs (content at n) = PayloadOf rs at n
+Placed rs (iso at n) = PayloadOf rs at n
+Placed rs (ietf at n) = PayloadOf rs at n
+Placed rs (text at n) = PayloadOf rs at n
+Placed rs (binary at n) = PayloadOf rs at n
+Placed rs (real x) = Unit
+Placed rs (count v) = Unit
+
+unfoldable pub AllPlaced : List Row → List Value → Type 0
+AllPlaced rs [] = Unit
+AllPlaced rs (v ∷ vs) = Placed rs v × AllPlaced rs vs
+
+-- Every address in a record that is told is the payload's place of one of the rows that the table holds at exit.
+abbrev pub Addressed : (List Row → ℕ → List Value) → (ℕ → Asked) → Type 0
+Addressed values ask =
+    (numbers : ℕ) (vs : List Value) (n : ℕ) (t′ : List ℕ) → RecordPromise values (ask numbers) numbers (fields vs n) t′
+    → AllPlaced (rowsOf t′ n) vs
+
+-- ---- the table is the read's
+
+-- A question that is not refused leaves the table that the public read leaves, and counts its rows: all that is proved
+-- of an accepted read holds of it.
+abbrev pub RecordIsRead : Type 0
+RecordIsRead =
+    (s : List ℕ) (start size parent : ℕ) (t : List ℕ) (first second third : Step) (rs : List Row) (master : ℕ)
+    → asked s start size parent (length t) first second third ≡ found rs master
+    → ReadPromise s start size parent t (Rows (length rs)) (tableAfter (length t) (found rs master))
+
+-- The same of the promise itself: a record that is told leaves the table that the public read leaves, and counts its
+-- rows.
+abbrev pub AnswerIsRead : Type 0
+AnswerIsRead =
+    (values : List Row → ℕ → List Value) (s : List ℕ) (start size parent : ℕ) (t : List ℕ) (first second third : Step)
+    (vs : List Value) (n : ℕ) (t′ : List ℕ)
+    → RecordPromise values (asked s start size parent (length t) first second third) (length t) (fields vs n) t′
+    → ReadPromise s start size parent t (Rows n) t′
+
+-- And of the question for a list member.
+abbrev pub MemberIsRead : Type 0
+MemberIsRead =
+    (values : List Row → ℕ → List Value) (member : List Row → ℕ → Child) (s : List ℕ) (start size parent : ℕ)
+    (t : List ℕ) (first second third : Step) (vs : List Value) (n : ℕ) (t′ : List ℕ)
+    → RecordPromise values (listed (asked s start size parent (length t) first second third) member) (length t)
+    (fields vs n) t′
+    → ReadPromise s start size parent t (Rows n) t′

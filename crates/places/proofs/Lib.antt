@@ -1,7 +1,0 @@
--- The laws that the proofs of `places` share, and its theorems.
-pub mod Ranges
-pub mod Spots
-pub mod Asked
-pub mod Unique
-pub mod Owners
-pub mod Accepted

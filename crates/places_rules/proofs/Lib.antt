@@ -1,0 +1,7 @@
+-- The laws that the proofs of `places_rules` share, and its theorems.
+pub mod Ranges
+pub mod Spots
+pub mod Asked
+pub mod Unique
+pub mod Owners
+pub mod Accepted

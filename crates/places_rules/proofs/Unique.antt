@@ -1,0 +1,53 @@
+-- Any two replies that a promise permits are equal (`OneRange`, `OnePayload`, `OneOwner`). Assumes nothing.
+use Prim.Native.Nat.{ℕ}
+use mathlib.Core.Path.{_≡_, refl, sym, ap, _∙_}
+use mathlib.Core.Bool.{cond}
+use lib.ListN.{getD}
+use lib.Dec.{eqb}
+use Rattle.header.specs.Reply.{Reply, accepted, refusal}
+use Rattle.elements_rules.specs.Reading.{Outcome}
+use Rattle.elements_rules.specs.Promise.{tableOf}
+use Rattle.places_rules.specs.Whose.{askedOf, whoseOf}
+use Rattle.places_rules.specs.Promise.{rangeTold, whoseTold}
+use Rattle.places_rules.specs.Theorems.{OneRange, OnePayload, OneOwner}
+use Rattle.places_rules.specs.declared.payload.RangeReply.{RangeReply}
+use Rattle.places_rules.specs.declared.payload.RangeReply.the-variants.{Range, Refused as RangeRefused}
+use Rattle.places_rules.specs.declared.whose.WhoseReply.{WhoseReply}
+use Rattle.places_rules.specs.declared.whose.WhoseReply.the-variants.{Header, Payload, Refused}
+
+-- ---- what was told tells the reply
+
+abbrev pub rangeOf : Reply → RangeReply
+rangeOf (accepted values) = Range (record { at = getD values 0 0; length = getD values 1 0 })
+rangeOf (refusal number id) = RangeRefused (record { number = number; id = id })
+
+pub range-back : (r : RangeReply) → rangeOf (rangeTold r) ≡ r
+range-back (Range r) = refl
+range-back (RangeRefused e) = refl
+
+abbrev pub replied : Reply → WhoseReply
+replied (accepted values) =
+    cond (eqb (getD values 1 0) 0)
+    (Header (getD values 0 0) (getD values 2 0))
+    (Payload (getD values 0 0) (getD values 2 0))
+replied (refusal number id) = Refused (record { number = number; id = id })
+
+pub replied-back : (r : WhoseReply) → replied (whoseTold r) ≡ r
+replied-back (Header row rows) = refl
+replied-back (Payload row rows) = refl
+replied-back (Refused e) = refl
+
+-- ---- the theorems
+
+pub range-unique : OneRange
+range-unique s t row r r′ p q = sym (range-back r) ∙ ap rangeOf (p .reply ∙ sym (q .reply)) ∙ range-back r′
+
+pub payload-unique : OnePayload
+payload-unique s t row part part′ p q = p .reply ∙ sym (q .reply)
+
+pub owner-unique : OneOwner
+owner-unique s start size parent x t u r r′ t′ u′ l p q =
+    let asked : ℕ → Outcome = λ n. askedOf s start size parent x n in
+    let a = p .reply ∙ ap (λ (n : ℕ). whoseOf start x (asked n)) l ∙ sym (q .reply) in
+    let b = p .table ∙ ap (λ (n : ℕ). tableOf start n (asked n)) l ∙ sym (q .table) in
+    (sym (replied-back r) ∙ ap replied a ∙ replied-back r′, b)

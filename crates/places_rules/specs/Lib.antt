@@ -1,0 +1,5 @@
+-- The definitions that the contracts of `places_rules` cite, and the statements of its theorems.
+pub mod Payload
+pub mod Whose
+pub mod Promise
+pub mod Theorems

@@ -1,8 +1,0 @@
--- The definitions that the contracts of `records` cite, and the statements of its theorems.
-pub mod Steps
-pub mod Asked
-pub mod Told
-pub mod Contract
-pub mod Promise
-pub mod Theorems
-pub mod Cases

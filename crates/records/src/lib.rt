@@ -1,3 +1,0 @@
-// What every question for a record shares (document 01, Records): the payload of a part is read into a lent table, and
-// one step is taken for each level, to the master that holds the record.
-pub mod steps;

@@ -1,7 +1,0 @@
--- The laws that the proofs of `search` share, and its theorems.
-pub mod Trusty
-pub mod Finding
-pub mod Unique
-pub mod Found
-pub mod Useless
-pub mod Cases

@@ -1,0 +1,7 @@
+-- The laws that the proofs of `search_rules` share, and its theorems.
+pub mod Trusty
+pub mod Finding
+pub mod Unique
+pub mod Found
+pub mod Useless
+pub mod Cases

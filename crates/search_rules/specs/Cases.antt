@@ -1,0 +1,94 @@
+-- The worked segments of document 01 (Cases) and a small input for each of several rules of the search, as one table:
+-- the bytes, the part that is searched for with a table of three rows, and the reply.
+use Prim.Native.Nat.{ℕ, _*_}
+use mathlib.Core.Path.{_≡_}
+use mathlib.Core.List.{List, [], _∷_, _++_}
+use Rattle.elements_rules.specs.Rows.{width}
+use Rattle.header.specs.Reply.{Reply, accepted, refusal}
+use Rattle.search_rules.specs.Part.{searchOf, replyOf}
+
+pub data Case : Type 0 where
+  search : List ℕ → ℕ → Reply → Case
+
+-- Three rows.
+abbrev pub numbers : ℕ
+numbers = 3 * width
+
+abbrev tracks : ℕ
+tracks = 0x1654AE6B
+
+abbrev attachments : ℕ
+attachments = 0x1941A469
+
+abbrev chapters : ℕ
+chapters = 0x1043A770
+
+abbrev tags : ℕ
+tags = 0x1254C367
+
+-- A part that is absent after so many heads.
+abbrev absentAfter : ℕ → Reply
+absentAfter heads = accepted (0 ∷ 0 ∷ 0 ∷ 0 ∷ heads ∷ [])
+
+-- A segment with a seek head that has one entry: the id's four bytes, and position 0.
+abbrev withEntry : List ℕ → List ℕ
+withEntry id =
+    0x18 ∷ 0x53 ∷ 0x80 ∷ 0x67 ∷ 0x93 ∷ 0x11 ∷ 0x4D ∷ 0x9B ∷ 0x74 ∷ 0x8E ∷ 0x4D ∷ 0xBB ∷ 0x8B ∷ 0x53 ∷ 0xAB ∷ 0x84
+    ∷ (id ++ (0x53 ∷ 0xAC ∷ 0x81 ∷ 0x00 ∷ []))
+
+abbrev namingItself : List ℕ
+namingItself = withEntry (0x11 ∷ 0x4D ∷ 0x9B ∷ 0x74 ∷ [])
+
+abbrev stale : List ℕ
+stale = withEntry (0x12 ∷ 0x54 ∷ 0xC3 ∷ 0x67 ∷ [])
+
+-- The 39 bytes of the listing: Tags behind a head that names them.
+abbrev listing : List ℕ
+listing =
+    0x18 ∷ 0x53 ∷ 0x80 ∷ 0x67 ∷ 0xA2 ∷ 0x11 ∷ 0x4D ∷ 0x9B ∷ 0x74 ∷ 0x8E ∷ 0x4D ∷ 0xBB ∷ 0x8B ∷ 0x53 ∷ 0xAB ∷ 0x84
+    ∷ 0x12 ∷ 0x54 ∷ 0xC3 ∷ 0x67 ∷ 0x53 ∷ 0xAC ∷ 0x81 ∷ 0x13 ∷ 0x12 ∷ 0x54 ∷ 0xC3 ∷ 0x67 ∷ 0x8A ∷ 0x73 ∷ 0x73 ∷ 0x87
+    ∷ 0x67 ∷ 0xC8 ∷ 0x84 ∷ 0x45 ∷ 0xA3 ∷ 0x81 ∷ 0x41 ∷ []
+
+-- A head with one entry for a head at position 2^64-1.
+abbrev tooFarAway : List ℕ
+tooFarAway =
+    0x18 ∷ 0x53 ∷ 0x80 ∷ 0x67 ∷ 0x9A ∷ 0x11 ∷ 0x4D ∷ 0x9B ∷ 0x74 ∷ 0x95 ∷ 0x4D ∷ 0xBB ∷ 0x92 ∷ 0x53 ∷ 0xAB ∷ 0x84
+    ∷ 0x11 ∷ 0x4D ∷ 0x9B ∷ 0x74 ∷ 0x53 ∷ 0xAC ∷ 0x88 ∷ 0xFF ∷ 0xFF ∷ 0xFF ∷ 0xFF ∷ 0xFF ∷ 0xFF ∷ 0xFF ∷ 0xFF ∷ []
+
+abbrev pub cases : List Case
+cases =
+    -- A seek head that names itself: 10 for every part.
+    search namingItself tracks (refusal 10 0)
+    ∷ search namingItself attachments (refusal 10 0)
+    ∷ search namingItself chapters (refusal 10 0)
+    ∷ search namingItself tags (refusal 10 0)
+    -- The entry for Tags leads to the head: 9 for Tags, the others are absent.
+    ∷ search stale tags (refusal 9 0)
+    ∷ search stale tracks (absentAfter 1)
+    ∷ search stale attachments (absentAfter 1)
+    ∷ search stale chapters (absentAfter 1)
+    -- Tags is found with three rows, the others are absent.
+    ∷ search listing tags (accepted (1 ∷ 29 ∷ 10 ∷ 3 ∷ 1 ∷ []))
+    ∷ search listing tracks (absentAfter 1)
+    ∷ search listing attachments (absentAfter 1)
+    ∷ search listing chapters (absentAfter 1)
+    -- 8 for a linked head carries the head's own id.
+    ∷ search tooFarAway tags (refusal 8 0x114D9B74)
+    -- An inner place past the end is 1.
+    ∷ search (0xEC ∷ 0x81 ∷ []) tags (refusal 1 0)
+    ∷ search (0x18 ∷ 0x53 ∷ 0x80 ∷ 0x67 ∷ 0x84 ∷ 0xEC ∷ 0x81 ∷ []) tags (refusal 1 0)
+    -- Skipped bytes need not exist.
+    ∷ search (0x18 ∷ 0x53 ∷ 0x80 ∷ 0x67 ∷ 0x84 ∷ 0xEC ∷ 0x82 ∷ []) tags (absentAfter 0)
+    -- A child that is passed over and overruns the segment is 3.
+    ∷ search (0x18 ∷ 0x53 ∷ 0x80 ∷ 0x67 ∷ 0xFF ∷ 0xEC ∷ 0xFF ∷ []) tags (refusal 3 0)
+    -- None of the four parts.
+    ∷ search listing 0x1549A966 (refusal 14 0)
+    ∷ []
+
+abbrev pub Holds : Case → Type 0
+Holds (search s part reply) = replyOf (searchOf s part numbers) ≡ reply
+
+-- The one statement: each search has the case's reply.
+abbrev pub Hold : List Case → Type 0
+Hold [] = Unit
+Hold (c ∷ cs) = Holds c × Hold cs

@@ -1,0 +1,86 @@
+-- What the public call `find_part` promises of its reply and of the table.
+use Prim.Native.Nat.{ℕ}
+use mathlib.Core.Path.{_≡_}
+use mathlib.Core.List.{List, [], _∷_}
+use mathlib.Core.Bool.{cond, not}
+use lib.ListN.{length}
+use lib.Dec.{eqb}
+use Rattle.header.specs.Refusals.{badArgument}
+use Rattle.header.specs.Reply.{Reply, accepted, refusalOf}
+use Rattle.header.specs.declared.refusal.Refusal.{Refusal}
+use Rattle.elements_rules.specs.Forest.{Forest, count}
+use Rattle.elements_rules.specs.Reading.{done}
+use Rattle.elements_rules.specs.Promise.{allowed, filled, zeros}
+use Rattle.elements_rules.specs.Promise.{tableOf as readTable}
+use Rattle.seekchain_rules.specs.Answers.{onOutcome}
+use Rattle.seekchain_rules.specs.Lookup.{Lookup}
+use Rattle.seekchain_rules.specs.Lookup.{found as foundAt, absent as absentAt, stopped as stoppedAt}
+use Rattle.segments_rules.specs.Walk.{lookupOf}
+use Rattle.search_rules.specs.declared.part.Parent.{Parent}
+use Rattle.search_rules.specs.declared.part.Parent.the-variants.{Id, NoPart}
+use Rattle.search_rules.specs.declared.part.PartReply.{PartReply}
+use Rattle.search_rules.specs.declared.part.PartReply.the-variants.{Found, Absent, Refused}
+
+-- The parts, each with the id that its children are read under (document 01, Kinds): Tracks, Attachments, Chapters and
+-- Tags.
+unfoldable pub parentOf : ℕ → Parent
+parentOf part =
+    cond (eqb part 0x1654AE6B) (Id 0xAE)
+    (cond (eqb part 0x1941A469) (Id 0x61A7)
+    (cond (eqb part 0x1043A770) (Id 0x45B9)
+    (cond (eqb part 0x1254C367) (Id 0x7373) NoPart)))
+
+-- What a search comes to: a part with its payload's address and size, the addresses of the heads that were read, and
+-- its elements; or an absent part, with the heads; or a refusal.
+pub data Search : Type 0 where
+  found : ℕ → ℕ → List ℕ → Forest → Search
+  absent : List ℕ → Search
+  refused : Refusal → Search
+
+abbrev pub onParent : Parent → Search → (ℕ → Search) → Search
+onParent (Id parent) none some = some parent
+onParent NoPart none some = none
+
+abbrev pub onLookup : Lookup → (ℕ → ℕ → List ℕ → Search) → Search
+onLookup (foundAt at size heads) next = next at size heads
+onLookup (absentAt heads) next = absent heads
+onLookup (stoppedAt e) next = refused e
+
+-- The search for a part with a table of so many numbers (document 01, Seek tables and the search): 14 for the lengths
+-- (no start is given) and for the part; then the walk; then the part's payload, read as the public read would fill the
+-- table.
+unfoldable pub searchOf : List ℕ → ℕ → ℕ → Search
+searchOf s part numbers =
+    cond (not (allowed s 0 numbers)) (refused badArgument)
+    (onParent (parentOf part) (refused badArgument) (λ parent.
+    onLookup (lookupOf s part) (λ at size heads.
+    onOutcome (filled s at size parent numbers) refused (λ f. found at size heads f))))
+
+-- The addresses of the heads of an accepted search.
+unfoldable pub headsOf : Search → List ℕ
+headsOf (found at size heads f) = heads
+headsOf (absent heads) = heads
+headsOf (refused e) = []
+
+-- The reply: whether the part is there, its payload's address and size, how many rows it has, and how many heads were
+-- read.
+abbrev pub replyOf : Search → Reply
+replyOf (found at size heads f) = accepted (1 ∷ at ∷ size ∷ count f ∷ length heads ∷ [])
+replyOf (absent heads) = accepted (0 ∷ 0 ∷ 0 ∷ 0 ∷ length heads ∷ [])
+replyOf (refused e) = refusalOf e
+
+-- The table: as the public read leaves it; zeros for an absent part and after a refusal.
+unfoldable pub tableOf : ℕ → Search → List ℕ
+tableOf numbers (found at size heads f) = readTable at numbers (done f)
+tableOf numbers (absent heads) = zeros numbers
+tableOf numbers (refused e) = zeros numbers
+
+-- Document 01's number and values for each case of `PartReply`; a 1 or 0 in front tells whether the part is there.
+abbrev pub partTold : PartReply → Reply
+partTold (Found at size rows heads) = accepted (1 ∷ at ∷ size ∷ rows ∷ heads ∷ [])
+partTold (Absent heads) = accepted (0 ∷ 0 ∷ 0 ∷ 0 ∷ heads ∷ [])
+partTold (Refused e) = refusalOf e
+
+pub record PartPromise (s : List ℕ) (part : ℕ) (t : List ℕ) (r : PartReply) (t′ : List ℕ) : Type 0 where
+  pub reply : partTold r ≡ replyOf (searchOf s part (length t))
+  pub table : t′ ≡ tableOf (length t) (searchOf s part (length t))

@@ -1,0 +1,94 @@
+-- What is proved of the definitions beside the contracts: the statements of the theorems.
+use Prim.Native.Nat.{ℕ}
+use mathlib.Core.Path.{_≡_}
+use mathlib.Core.List.{List, [], _∷_}
+use lib.ListN.{length}
+use Rattle.header.specs.declared.cursor.Cursor.{Cursor}
+use Rattle.header.specs.declared.cursor.Header.{Header}
+use Rattle.header.specs.declared.cursor.HeaderRead.the-variants.{Read}
+use Rattle.header.specs.declared.refusal.Refusal.{Refusal}
+use Rattle.elements_rules.specs.Promise.{zeros, ReadPromise}
+use Rattle.elements_rules.specs.declared.reply.ReadReply.the-variants.{Rows}
+use Rattle.seekhead_rules.specs.Seeks.{seekHeadId}
+use Rattle.seekchain_rules.specs.Theorems.{IsAt, GoodHeads, Named}
+use Rattle.seekchain_rules.specs.declared.heads.Head.{Head}
+use Rattle.segments_rules.specs.Walk.{segmentOf}
+use Rattle.search_rules.specs.Part.{parentOf, searchOf, headsOf, PartPromise}
+use Rattle.search_rules.specs.declared.part.Parent.the-variants.{Id}
+use Rattle.search_rules.specs.declared.part.PartReply.{PartReply}
+use Rattle.search_rules.specs.declared.part.PartReply.the-variants.{Found, Absent, Refused}
+
+-- Any two replies and tables that the promise permits to one question are equal (document 01, Strength of the
+-- promises). The numbers that stood in the lent table do not matter, only how many there are.
+abbrev pub OnePart : Type 0
+OnePart =
+    (s : List ℕ) (part : ℕ) (t u : List ℕ) (r r′ : PartReply) (t′ u′ : List ℕ) → length t ≡ length u
+    → PartPromise s part t r t′ → PartPromise s part u r′ u′ → (r ≡ r′) × (t′ ≡ u′)
+
+-- The heads of an accepted search: a seek head was read at each address, no address comes twice, and there are at most
+-- 64.
+abbrev pub HeadsAllowed : Type 0
+HeadsAllowed = (s : List ℕ) (part numbers : ℕ) → GoodHeads s (headsOf (searchOf s part numbers))
+
+-- The count in the reply is the length of the list of heads that the definition reads.
+abbrev pub HeadsCounted : Type 0
+HeadsCounted =
+    (s : List ℕ) (part : ℕ) (t t′ : List ℕ)
+    → ((at size rows heads : ℕ) → PartPromise s part t (Found at size rows heads) t′
+    → heads ≡ length (headsOf (searchOf s part (length t))))
+    × ((heads : ℕ) → PartPromise s part t (Absent heads) t′ → heads ≡ length (headsOf (searchOf s part (length t))))
+
+-- What a found part is: an element of the wanted id, with no head read; or the element at the position that the last
+-- entry of its id names, in the chain of heads from a seek head on. So a stale entry is never followed to another
+-- element. Where the walk met the element or the head is what `searchOf` says.
+pub data Way (s : List ℕ) (part start at size : ℕ) (heads : List ℕ) : Type 0 where
+  met : (address : ℕ) → IsAt s part address (record { at = at }) size → heads ≡ [] → Way s part start at size heads
+  named :
+      (first : Head) → IsAt s seekHeadId (first .address) (first .payload) (first .size)
+      → Named s part start first at size heads → Way s part start at size heads
+
+-- A part in the segment that was found, with the heads that were read.
+pub record FoundBy (s : List ℕ) (part at size : ℕ) (heads : List ℕ) : Type 0 where
+  pub segment : Header
+  pub start : Cursor
+  pub is-segment : segmentOf s ≡ Read segment start
+  pub way : Way s part (start .at) at size heads
+
+abbrev pub FoundIsPart : Type 0
+FoundIsPart =
+    (s : List ℕ) (part : ℕ) (t : List ℕ) (at size rows heads : ℕ) (t′ : List ℕ)
+    → PartPromise s part t (Found at size rows heads) t′
+    → FoundBy s part at size (headsOf (searchOf s part (length t)))
+
+-- It is read as the public read would read it, so that every theorem on an accepted read holds of it: the table loses
+-- nothing.
+abbrev pub FoundIsRead : Type 0
+FoundIsRead =
+    (s : List ℕ) (part parent : ℕ) (t : List ℕ) (at size rows heads : ℕ) (t′ : List ℕ)
+    → PartPromise s part t (Found at size rows heads) t′ → parentOf part ≡ Id parent
+    → ReadPromise s at size parent t (Rows rows) t′
+
+-- The table is written whatever happens: zeros for an absent part, and after a refusal.
+abbrev pub NotUntouched : Type 0
+NotUntouched =
+    (s : List ℕ) (part : ℕ) (t t′ : List ℕ)
+    → ((heads : ℕ) → PartPromise s part t (Absent heads) t′ → t′ ≡ zeros (length t))
+    × ((e : Refusal) → PartPromise s part t (Refused e) t′ → t′ ≡ zeros (length t))
+
+-- ---- the useless reader that reports a made-up count of heads (document 01, Strength of the promises)
+
+-- A segment with an empty Tags, alone and behind an empty seek head.
+abbrev pub tagsAlone : List ℕ
+tagsAlone = 0x18 ∷ 0x53 ∷ 0x80 ∷ 0x67 ∷ 0x85 ∷ 0x12 ∷ 0x54 ∷ 0xC3 ∷ 0x67 ∷ 0x80 ∷ []
+
+abbrev pub tagsBehindAHead : List ℕ
+tagsBehindAHead =
+    0x18 ∷ 0x53 ∷ 0x80 ∷ 0x67 ∷ 0x8A ∷ 0x11 ∷ 0x4D ∷ 0x9B ∷ 0x74 ∷ 0x80 ∷ 0x12 ∷ 0x54 ∷ 0xC3 ∷ 0x67 ∷ 0x80 ∷ []
+
+-- The reply on the first says 0 heads, on the second 1: no one count is permitted for both. `HeadsCounted` says it of
+-- every recording.
+abbrev pub NotMadeUp : Type 0
+NotMadeUp =
+    (t u : List ℕ) (r r′ : PartReply) (t′ u′ : List ℕ) → length t ≡ 0 → length u ≡ 0
+    → PartPromise tagsAlone 0x1254C367 t r t′ → PartPromise tagsBehindAHead 0x1254C367 u r′ u′
+    → (r ≡ Found 10 0 0 0) × (r′ ≡ Absent 1)

@@ -1,0 +1,6 @@
+-- The definitions that the contracts of `seekchain_rules` cite, and the statements of its theorems.
+pub mod Answers
+pub mod Heads
+pub mod Lookup
+pub mod Contract
+pub mod Theorems

@@ -1,0 +1,8 @@
+// What the chain of linked seek heads is (document 01, Seek tables and the search): which heads are read, and what their
+// entries lead to.
+mod heads;
+mod lookup;
+
+pub use heads::Head;
+pub use heads::HeadsRead;
+pub use lookup::PartPlace;

@@ -1,0 +1,7 @@
+-- The laws that the proofs of `seekhead_rules` share.
+pub mod Uncounted
+pub mod Positions
+pub mod Passing
+pub mod Skims
+pub mod Entries
+pub mod Members

@@ -1,7 +1,0 @@
--- The laws that the proofs of `seeks` share.
-pub mod Uncounted
-pub mod Positions
-pub mod Passing
-pub mod Skims
-pub mod Entries
-pub mod Members

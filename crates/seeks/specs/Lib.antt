@@ -1,4 +1,0 @@
--- The definitions that the contracts of `seeks` cite.
-pub mod Seeks
-pub mod Table
-pub mod Contract

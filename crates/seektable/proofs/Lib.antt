@@ -1,6 +1,0 @@
--- The laws that the proofs of `seektable` share, and its theorems.
-pub mod Seen
-pub mod Positions
-pub mod Chains
-pub mod Lookups
-pub mod Leads

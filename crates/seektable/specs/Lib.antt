@@ -1,6 +1,0 @@
--- The definitions that the contracts of `seektable` cite, and the statements of its theorems.
-pub mod Answers
-pub mod Heads
-pub mod Lookup
-pub mod Contract
-pub mod Theorems

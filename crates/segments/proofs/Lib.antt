@@ -1,3 +1,0 @@
--- The laws that the proofs of `segments` share.
-pub mod Before
-pub mod Walking

@@ -1,3 +1,0 @@
--- The definitions that the contracts of `segments` cite.
-pub mod Walk
-pub mod Contract

@@ -1,0 +1,3 @@
+-- The laws that the proofs of `segments_rules` share.
+pub mod Before
+pub mod Walking

@@ -1,0 +1,3 @@
+-- The definitions that the contracts of `segments_rules` cite.
+pub mod Walk
+pub mod Contract

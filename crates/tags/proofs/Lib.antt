@@ -1,5 +1,0 @@
--- The laws that the proofs of `tags` share, and its theorems.
-pub mod Tags
-pub mod Unique
-pub mod Addressed
-pub mod Cases

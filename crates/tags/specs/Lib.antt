@@ -1,6 +1,0 @@
--- The definitions that the contracts of `tags` cite, and the statements of its theorems.
-pub mod Records
-pub mod Told
-pub mod Promise
-pub mod Theorems
-pub mod Cases

@@ -1,0 +1,58 @@
+-- Worked records of Tags, as one table: a question about a small payload, and the answer. They show the rules of
+-- document 01, Records.
+use Prim.Native.Nat.{ℕ}
+use mathlib.Core.List.{List, [], _∷_}
+use mathlib.Core.Bool.{true, false}
+use lib.ListN.{length}
+use Rattle.fields_rules.specs.Values.{unset, number, flag, text, binary, count}
+use Rattle.locate_rules.specs.Told.{Answer, fields, refusal}
+use Rattle.locate_rules.specs.Promise.{answerOf, ofBelow}
+use Rattle.locate_rules.specs.Cases.{Case, case, numbers}
+use Rattle.tags_rules.specs.Records.{tagOf, uidOf, simpleOf}
+use Rattle.tags_rules.specs.Promise.{tagAsked, uidAsked, simpleAsked}
+use Rattle.tags_rules.specs.declared.uid.UidList.{UidList}
+use Rattle.tags_rules.specs.declared.uid.UidList.the-variants.{Track}
+
+-- The questions, of a whole payload: the indices, and the answer.
+abbrev tag : List ℕ → ℕ → Answer → Case
+tag s k a = case (answerOf (tagOf s) (tagAsked s 0 (length s) k numbers)) a
+
+abbrev uid : List ℕ → ℕ → UidList → ℕ → Answer → Case
+uid s k list i a = case (answerOf (uidOf s list i) (uidAsked s 0 (length s) k list i numbers)) a
+
+abbrev simple : List ℕ → ℕ → ℕ → Answer → Case
+simple s k i a = case (answerOf (ofBelow (simpleOf s)) (simpleAsked s 0 (length s) k i numbers)) a
+
+-- A tag with two Targets: the first has a track uid, the last is empty.
+abbrev twoTargets : List ℕ
+twoTargets = 0x73 ∷ 0x73 ∷ 0x8A ∷ 0x63 ∷ 0xC0 ∷ 0x84 ∷ 0x63 ∷ 0xC5 ∷ 0x81 ∷ 0x01 ∷ 0x63 ∷ 0xC0 ∷ 0x80 ∷ []
+
+-- A tag with two track uids.
+abbrev twoUids : List ℕ
+twoUids =
+    0x73 ∷ 0x73 ∷ 0x8B ∷ 0x63 ∷ 0xC0 ∷ 0x88 ∷ 0x63 ∷ 0xC5 ∷ 0x81 ∷ 0x07 ∷ 0x63 ∷ 0xC5 ∷ 0x81 ∷ 0x08 ∷ []
+
+-- A simple tag with bytes and then a text.
+abbrev bytesThenText : List ℕ
+bytesThenText = 0x73 ∷ 0x73 ∷ 0x8A ∷ 0x67 ∷ 0xC8 ∷ 0x87 ∷ 0x44 ∷ 0x85 ∷ 0x81 ∷ 0x00 ∷ 0x44 ∷ 0x87 ∷ 0x80 ∷ []
+
+-- A simple tag with a text and then bytes.
+abbrev textThenBytes : List ℕ
+textThenBytes = 0x73 ∷ 0x73 ∷ 0x8A ∷ 0x67 ∷ 0xC8 ∷ 0x87 ∷ 0x44 ∷ 0x87 ∷ 0x80 ∷ 0x44 ∷ 0x85 ∷ 0x81 ∷ 0x00 ∷ []
+
+abbrev pub cases : List Case
+cases =
+    -- Only the last Targets counts: no track uids, and no member.
+    tag twoTargets 0
+    (fields (flag true ∷ unset ∷ unset ∷ count 0 ∷ count 0 ∷ count 0 ∷ count 0 ∷ count 0 ∷ []) 4)
+    ∷ uid twoTargets 0 Track 0 (refusal 15 0)
+    -- The members of a list in their order.
+    ∷ uid twoUids 0 Track 0 (fields (number 7 ∷ []) 4)
+    ∷ uid twoUids 0 Track 1 (fields (number 8 ∷ []) 4)
+    -- A list member of a tag without Targets.
+    ∷ tag bytesThenText 0 (fields (flag false ∷ count 1 ∷ []) 4)
+    ∷ uid bytesThenText 0 Track 0 (refusal 15 0)
+    -- The last of a text and bytes is the value.
+    ∷ simple bytesThenText 0 0 (fields (unset ∷ unset ∷ unset ∷ text 13 0 ∷ []) 4)
+    ∷ simple textThenBytes 0 0 (fields (unset ∷ unset ∷ unset ∷ binary 12 1 ∷ []) 4)
+    ∷ []

@@ -1,5 +1,0 @@
--- The laws that the proofs of `tracks` share, and its theorems.
-pub mod Said
-pub mod Unique
-pub mod Addressed
-pub mod Cases

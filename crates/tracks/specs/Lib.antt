@@ -1,8 +1,0 @@
--- The definitions that the contracts of `tracks` cite, and the statements of its theorems.
-pub mod Said
-pub mod Video
-pub mod Records
-pub mod Told
-pub mod Promise
-pub mod Theorems
-pub mod Cases

@@ -1,0 +1,23 @@
+-- What the question for a track promises of its reply and of the table.
+use Prim.Native.Nat.{ℕ}
+use mathlib.Core.List.{List}
+use lib.ListN.{length}
+use Rattle.locate_rules.specs.Asked.{Asked, asked}
+use Rattle.locate_rules.specs.Promise.{RecordPromise}
+use Rattle.locate_rules.specs.declared.steps.Step.the-variants.{Here, Nth}
+use Rattle.tracks_rules.specs.Records.{trackOf}
+use Rattle.tracks_rules.specs.Told.{trackTold}
+use Rattle.tracks_rules.specs.declared.track.TrackReply.{TrackReply}
+
+-- ---- the question, with a table of so many numbers
+
+-- It reads the payload under AE, the id that document 01, Kinds, gives for Tracks, so that the full set of masters
+-- holds for its direct children; then goes to the k-th entry.
+abbrev pub trackAsked : List ℕ → ℕ → ℕ → ℕ → ℕ → Asked
+trackAsked s start size k numbers = asked s start size 0xAE numbers (Nth 0xAE k) Here Here
+
+-- ---- the promise
+
+abbrev pub TrackPromise : List ℕ → ℕ → ℕ → ℕ → List ℕ → TrackReply → List ℕ → Type 0
+TrackPromise s start size k t r t′ =
+    RecordPromise (trackOf s) (trackAsked s start size k (length t)) (length t) (trackTold r) t′

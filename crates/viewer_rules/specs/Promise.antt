@@ -1,0 +1,27 @@
+-- What the functions of the C face promise: the faces of the replies that the calls behind them promise, and the very
+-- same tables.
+use Prim.Native.Nat.{ℕ}
+use mathlib.Core.Path.{_≡_}
+use mathlib.Core.List.{List}
+use lib.ListN.{length}
+use Rattle.elements_rules.specs.Promise.{tableOf as readTable}
+use Rattle.places_rules.specs.Payload.{payloadRange}
+use Rattle.places_rules.specs.Promise.{valuesOf}
+use Rattle.places_rules.specs.Whose.{askedOf, whoseOf}
+use Rattle.search_rules.specs.Part.{searchOf, replyOf, tableOf}
+use Rattle.viewer_rules.specs.Faces.{partFace, rangeFace, placeFace}
+use Rattle.viewer_rules.specs.declared.part.UzPart.{UzPart}
+use Rattle.viewer_rules.specs.declared.payload.UzRange.{UzRange}
+use Rattle.viewer_rules.specs.declared.whose.UzPlace.{UzPlace}
+
+pub record UzPartPromise (s : List ℕ) (part : ℕ) (t : List ℕ) (r : UzPart) (t′ : List ℕ) : Type 0 where
+  pub reply : r ≡ partFace (replyOf (searchOf s part (length t)))
+  pub table : t′ ≡ tableOf (length t) (searchOf s part (length t))
+
+pub record UzRangePromise (s t : List ℕ) (row : ℕ) (r : UzRange) : Type 0 where
+  pub reply : r ≡ rangeFace (valuesOf (payloadRange s t row))
+
+pub record UzPlacePromise
+    (s : List ℕ) (start size parent x : ℕ) (t : List ℕ) (r : UzPlace) (t′ : List ℕ) : Type 0 where
+  pub reply : r ≡ placeFace (whoseOf start x (askedOf s start size parent x (length t)))
+  pub table : t′ ≡ readTable start (length t) (askedOf s start size parent x (length t))

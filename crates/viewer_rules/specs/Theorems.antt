@@ -1,0 +1,100 @@
+-- What is proved of the C face beside the contracts: the statements of the theorems.
+use Prim.Native.Nat.{ℕ, _≤_}
+use mathlib.Core.Path.{_≡_}
+use mathlib.Core.List.{List}
+use lib.ListN.{length}
+use Rattle.header.specs.Reply.{Reply, accepted, refusal}
+use Rattle.places_rules.specs.Payload.{payloadRange}
+use Rattle.places_rules.specs.Promise.{valuesOf, RangePromise, WhosePromise}
+use Rattle.places_rules.specs.Whose.{askedOf, whoseOf}
+use Rattle.places_rules.specs.declared.payload.RangeReply.{RangeReply}
+use Rattle.places_rules.specs.declared.payload.RangeReply.the-variants.{Range, Refused as NoRange}
+use Rattle.places_rules.specs.declared.whose.WhoseReply.{WhoseReply}
+use Rattle.places_rules.specs.declared.whose.WhoseReply.the-variants.{Header, Payload, Refused as NoRow}
+use Rattle.search_rules.specs.Part.{searchOf, replyOf, PartPromise}
+use Rattle.search_rules.specs.declared.part.PartReply.{PartReply}
+use Rattle.search_rules.specs.declared.part.PartReply.the-variants.{Found, Absent, Refused as NoPart}
+use Rattle.viewer_rules.specs.Promise.{UzPartPromise, UzRangePromise, UzPlacePromise}
+use Rattle.viewer_rules.specs.declared.part.UzPart.{UzPart}
+use Rattle.viewer_rules.specs.declared.payload.UzRange.{UzRange}
+use Rattle.viewer_rules.specs.declared.whose.UzPlace.{UzPlace}
+
+-- Any two answers and tables that a promise permits to one question are equal (document 01, Strength of the promises).
+-- The numbers that stood in the lent table do not matter, only how many there are.
+abbrev pub OneUzPart : Type 0
+OneUzPart =
+    (s : List ℕ) (part : ℕ) (t u : List ℕ) (r r′ : UzPart) (t′ u′ : List ℕ) → length t ≡ length u
+    → UzPartPromise s part t r t′ → UzPartPromise s part u r′ u′ → (r ≡ r′) × (t′ ≡ u′)
+
+abbrev pub OneUzRange : Type 0
+OneUzRange =
+    (s t : List ℕ) (row : ℕ) (r r′ : UzRange) → UzRangePromise s t row r → UzRangePromise s t row r′ → r ≡ r′
+
+abbrev pub OneUzPlace : Type 0
+OneUzPlace =
+    (s : List ℕ) (start size parent x : ℕ) (t u : List ℕ) (r r′ : UzPlace) (t′ u′ : List ℕ) → length t ≡ length u
+    → UzPlacePromise s start size parent x t r t′ → UzPlacePromise s start size parent x u r′ u′
+    → (r ≡ r′) × (t′ ≡ u′)
+
+-- ---- `refused` tells a refusal
+
+abbrev pub Accepts : Reply → Type 0
+Accepts (accepted values) = Unit
+Accepts (refusal number id) = ⊥
+
+-- What crosses as `refused` is 0 exactly if the reply accepts, and else one of document 01's numbers: no refusal has
+-- the number 0, so that a C caller who tests `refused` misses none.
+pub record Tells (reply : Reply) (refused : ℕ) : Type 0 where
+  pub listed : refused ≤ 15
+  pub accepts : refused ≡ 0 → Accepts reply
+  pub zero : Accepts reply → refused ≡ 0
+
+abbrev pub PartTells : Type 0
+PartTells =
+    (s : List ℕ) (part : ℕ) (t : List ℕ) (r : UzPart) (t′ : List ℕ)
+    → UzPartPromise s part t r t′ → Tells (replyOf (searchOf s part (length t))) (r .refused)
+
+abbrev pub RangeTells : Type 0
+RangeTells =
+    (s t : List ℕ) (row : ℕ) (r : UzRange)
+    → UzRangePromise s t row r → Tells (valuesOf (payloadRange s t row)) (r .refused)
+
+abbrev pub PlaceTells : Type 0
+PlaceTells =
+    (s : List ℕ) (start size parent x : ℕ) (t : List ℕ) (r : UzPlace) (t′ : List ℕ)
+    → UzPlacePromise s start size parent x t r t′
+    → Tells (whoseOf start x (askedOf s start size parent x (length t))) (r .refused)
+
+-- ---- each number crosses under its own name
+
+-- The reply of the call behind each function, name by name: a second reading of the faces, which go by places in a list.
+abbrev pub partNamed : PartReply → UzPart
+partNamed (Found at size rows heads) =
+    record { refused = 0; id = 0; found = 1; at = at; size = size; rows = rows; heads = heads }
+partNamed (Absent heads) = record { refused = 0; id = 0; found = 0; at = 0; size = 0; rows = 0; heads = heads }
+partNamed (NoPart e) =
+    record { refused = e .number; id = e .id; found = 0; at = 0; size = 0; rows = 0; heads = 0 }
+
+abbrev pub rangeNamed : RangeReply → UzRange
+rangeNamed (Range r) = record { refused = 0; at = r .at; length = r .length }
+rangeNamed (NoRange e) = record { refused = e .number; at = 0; length = 0 }
+
+abbrev pub placeNamed : WhoseReply → UzPlace
+placeNamed (Header row rows) = record { refused = 0; row = row; «in_payload» = 0; rows = rows }
+placeNamed (Payload row rows) = record { refused = 0; row = row; «in_payload» = 1; rows = rows }
+placeNamed (NoRow e) = record { refused = e .number; row = 0; «in_payload» = 0; rows = 0 }
+
+abbrev pub PartNamed : Type 0
+PartNamed =
+    (s : List ℕ) (part : ℕ) (t : List ℕ) (q : PartReply) (r : UzPart) (t′ u′ : List ℕ)
+    → PartPromise s part t q t′ → UzPartPromise s part t r u′ → r ≡ partNamed q
+
+abbrev pub RangeNamed : Type 0
+RangeNamed =
+    (s t : List ℕ) (row : ℕ) (q : RangeReply) (r : UzRange)
+    → RangePromise s t row q → UzRangePromise s t row r → r ≡ rangeNamed q
+
+abbrev pub PlaceNamed : Type 0
+PlaceNamed =
+    (s : List ℕ) (start size parent x : ℕ) (t : List ℕ) (q : WhoseReply) (r : UzPlace) (t′ u′ : List ℕ)
+    → WhosePromise s start size parent x t q t′ → UzPlacePromise s start size parent x t r u′ → r ≡ placeNamed q
