@@ -1,4 +1,4 @@
-// The questions by their first word, and the form of each.
+// The questions, and the answer to each.
 ghost use Prim.Native.Nat.{_≤_};
 ghost use lib.ListN.{length};
 use crate::ask_body::body;
@@ -12,24 +12,27 @@ use crate::ask_utf8::utf8;
 use crate::ask_whose::whose;
 use lines::out;
 use lines::words;
+use questions::answer::bad;
+use questions::answer::put_told;
 use questions::asked::Asked;
 use questions::asked::asked_of;
+use questions::list::entry_of;
 use questions::table::MOST_ASKED;
-use questions::told::bad;
-use replies::ask_attachment::attachment;
-use replies::ask_audio::audio;
-use replies::ask_chapter::chapter;
-use replies::ask_display::display;
-use replies::ask_edition::edition;
-use replies::ask_label::label;
-use replies::ask_shown::shown;
-use replies::ask_simple::simple;
-use replies::ask_tag::tag;
-use replies::ask_track::track;
-use replies::ask_tracktype::tracktype;
-use replies::ask_uid::uid;
+use questions::told::Told;
+use replies::label;
+use replies::record;
+use replies::shown_bytes;
 
-// The answer to a line, and its line feed.
+// The questions that are answered with bytes, by their numbers in the list.
+const PAYLOAD: usize = 7;
+
+const SHOWN: usize = 19;
+
+const LABEL: usize = 20;
+
+// The answer to a line, and its line feed. The list has for each question its name, its form
+// (crates/questions/src/asked.rt has the letters), and the words that its answer may have. Its order is that of the
+// numbers in `base`, and from `attachment` on in crates/replies/src/records.rt.
 pub fn answer(
     line: &[u8],
     recording: &mut [u8; 65536],
@@ -37,33 +40,66 @@ pub fn answer(
     out: &mut [u8; 65536],
     held: usize,
 ) -> usize {
-    let n = line_told(line, recording, table, out, held);
+    let list = b"\
+        header ab id size length\n\
+        kind np kind master int uint string utf8 binary float date\n\
+        utf8 b utf8 no yes\n\
+        body npasb int uint float date text bytes master\n\
+        read asptb\n\
+        whose aspdtb row header payload\n\
+        part ntb absent at size heads\n\
+        payload asptrb bytes\n\
+        range lrb at\n\
+        attachment astkb description name mime data\n\
+        edition astkb uid hidden default ordered chapters\n\
+        chapter astkib uid start end hidden enabled segment edition displays\n\
+        display astkijb string language\n\
+        tag astkb target value type tracks editions chapters attachments simple\n\
+        uid astkuib uid\n\
+        simple astkib name language default value\n\
+        audio astkb rate channels depth\n\
+        tracktype k video audio complex logo subtitle buttons control unknown\n\
+        track astkb video audio complex logo subtitle buttons control unknown number uid type enabled default forced \
+        hearing visual text original commentary lacing duration name language codec private codecname settings none \
+        rate channels depth width height dwidth dheight interlaced stereo gamma\n\
+        shown asptrb text\n\
+        label gwb label\n";
+    let n = put_answer(list, line, recording, table, out, held);
     out::put(out, n, b"\n")
 }
 
-// The forms stand in the order of the names; crates/questions/src/asked.rt has their letters.
-fn line_told(
+// The answer by the line of its question in the list.
+fn put_answer(
+    list: &[u8],
     line: &[u8],
     recording: &mut [u8; 65536],
     table: &mut [u64; MOST_ASKED],
     out: &mut [u8; 65536],
     held: usize,
 ) -> usize {
-    let names =
-        b"header kind utf8 body read whose part payload range attachment edition chapter display tag uid simple audio tracktype label shown track";
-    let forms =
-        b"ab np b npasb asptb aspdtb ntb asptrb lrb astkb astkb astkib astkijb astkb astkwib astkib astkb k gwb asptrb astkb";
-    let question = words::place_of(words::word(line, 0), names);
-    let asked = asked_of(line, words::word(forms, question), recording, table);
+    let entry = entry_of(list, words::word(line, 0));
+    let from = entry.from;
+    let end = entry.end;
+    let asked = asked_of(line, words::word(&list[from..end], 1), recording, table);
     if !asked.good {
         return bad(out, held);
     }
-    lend(question, line, asked, recording, table, out, held)
+    lend(
+        entry.number,
+        &list[from..end],
+        line,
+        asked,
+        recording,
+        table,
+        out,
+        held,
+    )
 }
 
 // Lends the question its recording and its table: the parts of the room that its words filled.
 fn lend(
     question: usize,
+    entry: &[u8],
     line: &[u8],
     asked: Asked,
     recording: &[u8],
@@ -77,6 +113,7 @@ fn lend(
     let numbers = asked.numbers;
     reply(
         question,
+        entry,
         line,
         asked,
         &recording[..bytes],
@@ -86,9 +123,10 @@ fn lend(
     )
 }
 
-// The answer to a question, by its place among the names.
+// The answer to a question. A label needs room of its own.
 fn reply(
     question: usize,
+    entry: &[u8],
     line: &[u8],
     asked: Asked,
     recording: &[u8],
@@ -96,43 +134,35 @@ fn reply(
     out: &mut [u8; 65536],
     held: usize,
 ) -> usize {
+    if question == LABEL {
+        return label(asked, words::word(line, 2), recording, out, held);
+    }
+    let told = base(question, asked, recording, table);
+    let bytes = bytes_of(question, asked, recording, table);
+    put_told(told, entry, bytes, table, out, held)
+}
+
+// What the answer tells, by the number of the question.
+fn base(question: usize, asked: Asked, recording: &[u8], table: &mut [u64]) -> Told {
     match question {
-        0 => header(asked, recording, out, held),
-        1 => kind(asked, out, held),
-        2 => utf8(recording, out, held),
-        3 => body(asked, recording, out, held),
-        4 => read(asked, recording, table, out, held),
-        5 => whose(asked, recording, table, out, held),
-        6 => part(asked, recording, table, out, held),
-        7 => payload(asked, recording, table, out, held),
-        8 => range(asked, recording, table, out, held),
-        _ => record(question, line, asked, recording, table, out, held),
+        0 => header(asked, recording),
+        1 => kind(asked),
+        2 => utf8(recording),
+        3 => body(asked, recording),
+        4 => read(asked, recording, table),
+        5 => whose(asked, recording, table),
+        6 => part(asked, recording, table),
+        7 => payload(asked, recording, table),
+        8 => range(asked, recording, table),
+        _ => record(question, asked, recording, table),
     }
 }
 
-// The same for the questions from `attachment` on; a place behind all names is no question.
-fn record(
-    question: usize,
-    line: &[u8],
-    asked: Asked,
-    recording: &[u8],
-    table: &mut [u64],
-    out: &mut [u8; 65536],
-    held: usize,
-) -> usize {
+// The bytes that the answer tells, where it tells bytes.
+fn bytes_of<'a>(question: usize, asked: Asked, recording: &'a [u8], table: &[u64]) -> &'a [u8] {
     match question {
-        9 => attachment(asked, recording, table, out, held),
-        10 => edition(asked, recording, table, out, held),
-        11 => chapter(asked, recording, table, out, held),
-        12 => display(asked, recording, table, out, held),
-        13 => tag(asked, recording, table, out, held),
-        14 => uid(asked, words::word(line, 5), recording, table, out, held),
-        15 => simple(asked, recording, table, out, held),
-        16 => audio(asked, recording, table, out, held),
-        17 => tracktype(asked, out, held),
-        18 => label(asked, words::word(line, 2), recording, out, held),
-        19 => shown(asked, recording, table, out, held),
-        20 => track(asked, recording, table, out, held),
-        _ => bad(out, held),
+        PAYLOAD => places::row_payload(recording, table, asked.row),
+        SHOWN => shown_bytes(asked, recording, table),
+        _ => &recording[..0],
     }
 }

@@ -1,32 +1,28 @@
 // `body ID PARENT AT SIZE BYTES`: the body of an id under a parent id, at a place of a recording.
 use bodies_rules::Body;
 use bodies_rules::BodyReply;
-use lines::numbers;
-use lines::out;
 use questions::asked::Asked;
 use questions::told;
+use questions::told::Told;
 
-pub fn body(asked: Asked, recording: &[u8], out: &mut [u8; 65536], held: usize) -> usize {
+pub fn body(asked: Asked, recording: &[u8]) -> Told {
     let reply = bodies::body_at(recording, asked.id, asked.parent, asked.at, asked.size);
-    body_told(reply, out, held)
-}
-
-fn body_told(reply: BodyReply, out: &mut [u8; 65536], held: usize) -> usize {
     match reply {
-        BodyReply::Refused(refusal) => told::refused(refusal, out, held),
-        BodyReply::Body(body) => value_told(body, out, held),
+        BodyReply::Refused(refusal) => told::refused(told::REFUSED, refusal),
+        BodyReply::Body(body) => body_told(body),
     }
 }
 
 // The case of a body, and its value.
-fn value_told(body: Body, out: &mut [u8; 65536], held: usize) -> usize {
+fn body_told(body: Body) -> Told {
+    let none = told::before(told::ENDED, 0);
     match body {
-        Body::Integer(value) => numbers::put_integer(out, held, b"int ", value),
-        Body::Unsigned(value) => numbers::put_decimal(out, held, b"uint ", value),
-        Body::Float(value) => numbers::put_float(out, held, b"float ", value),
-        Body::Date(value) => numbers::put_integer(out, held, b"date ", value),
-        Body::Text(range) => told::range(b"text ", range, out, held),
-        Body::Bytes(range) => told::range(b"bytes ", range, out, held),
-        Body::Master => out::put(out, held, b"master"),
+        Body::Integer(value) => told::integer(none, 0, value),
+        Body::Unsigned(value) => told::count(none, 1, value),
+        Body::Float(value) => told::float(none, 2, value),
+        Body::Date(value) => told::integer(none, 3, value),
+        Body::Text(range) => told::range(none, 4, 0, range),
+        Body::Bytes(range) => told::range(none, 5, 0, range),
+        Body::Master => told::word(none, 6),
     }
 }

@@ -1,21 +1,28 @@
 // `header AT BYTES`: the header at a place of a recording.
 use header::HeaderReply;
-use lines::numbers;
 use questions::asked::Asked;
-use questions::told::refused;
+use questions::told;
+use questions::told::Told;
 
-pub fn header(asked: Asked, recording: &[u8], out: &mut [u8; 65536], held: usize) -> usize {
-    header_told(header::header_at(recording, asked.at), out, held)
+pub fn header(asked: Asked, recording: &[u8]) -> Told {
+    header_told(header::header_at(recording, asked.at))
 }
 
 // `id ID size N length N`
-fn header_told(reply: HeaderReply, out: &mut [u8; 65536], held: usize) -> usize {
+fn header_told(reply: HeaderReply) -> Told {
     match reply {
-        HeaderReply::Refused(refusal) => refused(refusal, out, held),
+        HeaderReply::Refused(refusal) => told::refused(told::REFUSED, refusal),
         HeaderReply::Header(header) => {
-            let n = numbers::put_hex(out, held, b"id ", header.id as u64, 1);
-            let n = numbers::put_decimal(out, n, b" size ", header.size);
-            numbers::put_decimal(out, n, b" length ", header.length)
+            let t = told::with(
+                told::before(told::ENDED, 0),
+                0,
+                0,
+                told::HEX,
+                header.id as u64,
+                1,
+            );
+            let t = told::count(t, 1, header.size);
+            told::count(t, 2, header.length)
         }
     }
 }

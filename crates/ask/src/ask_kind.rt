@@ -1,27 +1,28 @@
 // `kind ID PARENT`: the kind of an id under a parent id.
 use kinds::Kind;
-use lines::out;
-use lines::words;
 use questions::asked::Asked;
+use questions::told;
+use questions::told::Told;
 
 // `kind K`
-pub fn kind(asked: Asked, out: &mut [u8; 65536], held: usize) -> usize {
+pub fn kind(asked: Asked) -> Told {
     let kind = kinds::kind_of(asked.id, asked.parent);
-    let names = b"master int uint string utf8 binary float date";
-    let n = out::put(out, held, b"kind ");
-    out::put(out, n, words::word(names, place_of(kind)))
+    told::word(
+        told::word(told::before(told::ENDED, 0), 0),
+        kind_index(kind),
+    )
 }
 
-// The place of the kind's name in the list.
-fn place_of(kind: Kind) -> usize {
+// The place of the kind's name among the words of the answer.
+fn kind_index(kind: Kind) -> u64 {
     match kind {
-        Kind::Master => 0,
-        Kind::Int => 1,
-        Kind::Uint => 2,
-        Kind::String => 3,
-        Kind::Utf8 => 4,
-        Kind::Binary => 5,
-        Kind::Float => 6,
-        Kind::Date => 7,
+        Kind::Master => 1,
+        Kind::Int => 2,
+        Kind::Uint => 3,
+        Kind::String => 4,
+        Kind::Utf8 => 5,
+        Kind::Binary => 6,
+        Kind::Float => 7,
+        Kind::Date => 8,
     }
 }

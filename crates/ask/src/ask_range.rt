@@ -2,17 +2,12 @@
 use places_rules::RangeReply;
 use questions::asked::Asked;
 use questions::told;
+use questions::told::Told;
 
 // `at RANGE`
-pub fn range(
-    asked: Asked,
-    recording: &[u8],
-    table: &[u64],
-    out: &mut [u8; 65536],
-    held: usize,
-) -> usize {
+pub fn range(asked: Asked, recording: &[u8], table: &[u64]) -> Told {
     match places::payload_range(recording, table, asked.row) {
-        RangeReply::Refused(refusal) => told::refused(refusal, out, held),
-        RangeReply::Range(range) => told::range(b"at ", range, out, held),
+        RangeReply::Refused(refusal) => told::refused(told::REFUSED, refusal),
+        RangeReply::Range(range) => told::range(told::before(told::ENDED, 0), 0, 0, range),
     }
 }

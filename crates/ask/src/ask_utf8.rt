@@ -1,10 +1,12 @@
 // `utf8 BYTES`: whether the bytes are UTF-8.
-use lines::out;
+use questions::told;
+use questions::told::Told;
 
 // `utf8 yes` or `utf8 no`
-pub fn utf8(bytes: &[u8], out: &mut [u8; 65536], held: usize) -> usize {
+pub fn utf8(bytes: &[u8]) -> Told {
+    let t = told::word(told::before(told::ENDED, 0), 0);
     if utf8::is_utf8(bytes) {
-        return out::put(out, held, b"utf8 yes");
+        return told::word(t, 2);
     }
-    out::put(out, held, b"utf8 no")
+    told::word(t, 1)
 }

@@ -5,7 +5,8 @@ use Rattle.bodies_rules.specs.Promise.{bodyTold}
 use Rattle.bodies_rules.specs.Theorems.{OneReply}
 use Rattle.bodies_rules.specs.declared.reply.BodyReply.{BodyReply}
 use Rattle.bodies_rules.specs.declared.reply.BodyReply.the-variants.{Body as BodyIs, Refused}
-use Rattle.bodies_rules.specs.declared.body.Body.the-variants.{Integer, Unsigned, Float, Date, Text, Bytes, Master}
+use Rattle.bodies_rules.specs.declared.body.Body.the-variants.{Integer, Unsigned, Float, Date, Text, Bytes}
+use Rattle.bodies_rules.specs.declared.body.Body.the-variants.{Master}
 
 -- What was told tells the reply.
 abbrev replied : Told → BodyReply

@@ -12,7 +12,8 @@ use Rattle.bodies_rules.specs.Bodies.{Told, integer, unsigned, float, da
 use Rattle.bodies_rules.specs.declared.reply.BodyReply.{BodyReply}
 use Rattle.bodies_rules.specs.declared.reply.BodyReply.the-variants.{Body as BodyIs, Refused}
 use Rattle.bodies_rules.specs.declared.body.Body.{Body}
-use Rattle.bodies_rules.specs.declared.body.Body.the-variants.{Integer, Unsigned, Float, Date, Text, Bytes, Master}
+use Rattle.bodies_rules.specs.declared.body.Body.the-variants.{Integer, Unsigned, Float, Date, Text, Bytes}
+use Rattle.bodies_rules.specs.declared.body.Body.the-variants.{Master}
 
 -- Document 01's values for each case of `Body`, and number for each case of `BodyReply`.
 abbrev pub valuesOf : Body → Told

@@ -5,7 +5,8 @@ use Rattle.kinds.specs.declared.kind.Kind.{Kind}
 use Rattle.bodies_rules.specs.Bodies.{Told, integer, unsigned, float, date, text, bytes, master, refusal, bodyOf}
 use Rattle.bodies_rules.specs.declared.body.BodyRead.{BodyRead}
 use Rattle.bodies_rules.specs.declared.body.BodyRead.the-variants.{Read, Refused}
-use Rattle.bodies_rules.specs.declared.body.Body.the-variants.{Integer, Unsigned, Float, Date, Text, Bytes, Master}
+use Rattle.bodies_rules.specs.declared.body.Body.the-variants.{Integer, Unsigned, Float, Date, Text, Bytes}
+use Rattle.bodies_rules.specs.declared.body.Body.the-variants.{Master}
 
 -- The answer for a body of n octets at a place: the next place is behind it, but a master's payload is not read yet.
 abbrev pub readOf : ℕ → ℕ → Told → BodyRead

@@ -1,5 +1,5 @@
--- What `after`, the last number of a row, means (document 02, C-15): the statement of a theorem on an accepted read, and
--- a payload whose numbers are worked out.
+-- What `after`, the last number of a row, means (document 02, C-15): the statement of a theorem on an accepted read,
+-- and a payload whose numbers are worked out.
 use Prim.Native.Nat.{ℕ, suc, _*_, _≤_, _<_}
 use mathlib.Core.Path.{_≡_}
 use mathlib.Core.List.{List, [], _∷_}

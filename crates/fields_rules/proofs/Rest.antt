@@ -187,6 +187,9 @@ module _ {t : List ℕ} {parent id : ℕ} {kind : Kind} {e n : ℕ} {r : Row} {b
       → i + length (rest t parent id kind e n) ≡ m + length (rest t parent id kind e (r .after))
   count-turn i m h′ =
       (⊎-elim
-      (λ h. let x = count-hit t parent id kind e n (k .more) r (k .row) (sym (h .0) ∙ k .told) in omega (arith, x, h .1))
-      (λ h. let x = count-miss t parent id kind e n (k .more) r (k .row) (sym (h .0) ∙ k .told) in omega (arith, x, h .1)) h′)
+      (λ h.
+      let x = count-hit t parent id kind e n (k .more) r (k .row) (sym (h .0) ∙ k .told) in omega (arith, x, h .1))
+      (λ h.
+      let x = count-miss t parent id kind e n (k .more) r (k .row) (sym (h .0) ∙ k .told) in omega (arith, x, h .1))
+      h′)
       ∙ ap (λ (x : List Child). m + length x) over

@@ -13,7 +13,8 @@ use Rattle.bodies_rules.specs.declared.body.Range.{Range}
 use Rattle.elements_rules.specs.declared.row.Row.{Row}
 use Rattle.fields_rules.specs.Children.{children, lastOf}
 use Rattle.fields_rules.specs.Values.{unset, number, flag, content, iso, ietf, text, binary, real}
-use Rattle.fields_rules.specs.Values.{rangeIn, uintIn, floatIn, numberIn, flagIn, contentIn, realIn, languageIn, valueIn}
+use Rattle.fields_rules.specs.Values.{rangeIn, uintIn, floatIn, numberIn, flagIn, contentIn, realIn, languageIn}
+use Rattle.fields_rules.specs.Values.{valueIn}
 use Rattle.fields_rules.specs.Fields.{numberOf, flagOf, contentOf, realOf, languageOf, valueOf}
 use Rattle.fields_rules.specs.declared.child.Child.{Child}
 use Rattle.fields_rules.specs.declared.child.Child.the-variants.{Absent, At}

@@ -1,4 +1,4 @@
-// Numbers and bytes as text, each behind a label.
+// Numbers and bytes as text, each behind a label, and what of a number is written.
 ghost use mathlib.Core.Path.{_≡_};
 ghost use lib.ListN.{length};
 use crate::out::put;
@@ -9,17 +9,6 @@ pub fn put_decimal(out: &mut [u8; 65536], held: usize, label: &[u8], value: u64)
     let mut text = [0u8; 20];
     let k = io::decimal(value, &mut text);
     put(out, n, &text[..k])
-}
-
-// A signed number in decimal digits.
-pub fn put_integer(out: &mut [u8; 65536], held: usize, label: &[u8], value: i64) -> usize {
-    if value < 0 {
-        let n = put(out, held, label);
-        // How far it lies below -1.
-        let below = -1 - value;
-        return put_decimal(out, n, b"-", below as u64 + 1);
-    }
-    put_decimal(out, held, label, value as u64)
 }
 
 // A number in hexadecimal digits, upper case, with zeros in front up to `width` digits.
@@ -57,13 +46,22 @@ fn capital(b: u8) -> u8 {
     }
 }
 
-// The 16 hexadecimal digits of a float's pattern, or `nan`.
-pub fn put_float(out: &mut [u8; 65536], held: usize, label: &[u8], value: f64) -> usize {
-    if value == value {
-        return put_hex(out, held, label, f64::to_bits(value), 16);
+// How far a number lies from 0.
+pub fn magnitude(value: i64) -> u64 {
+    if value < 0 {
+        // How far it lies below -1.
+        let below = -1 - value;
+        return below as u64 + 1;
     }
-    let n = put(out, held, label);
-    put(out, n, b"nan")
+    value as u64
+}
+
+// The pattern of a float, or 0 for a NaN.
+pub fn pattern(value: f64) -> u64 {
+    if value == value {
+        return f64::to_bits(value);
+    }
+    0
 }
 
 // Bytes in hexadecimal digits, two for each, or `-` for none.

@@ -75,7 +75,7 @@ pub fn word(line: &[u8], k: usize) -> &[u8]
 }
 
 // The place of a word among the words of a list, or how many words the list has.
-pub fn place_of(word: &[u8], list: &[u8]) -> usize {
+pub fn index_of(word: &[u8], list: &[u8]) -> usize {
     let mut k: usize = 0;
     let mut at: usize = 0;
     while at < list.len() {

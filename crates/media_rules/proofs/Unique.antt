@@ -1,7 +1,6 @@
 -- Any two replies and tables that a promise permits to one question are equal. Assumes nothing.
 use Prim.Native.Nat.{ℕ}
 use mathlib.Core.Path.{_≡_, refl, ap, _∙_}
-use mathlib.Core.List.{List}
 use native.Mathlib.Omega.{arith}
 use Rattle.codes.proofs.Unique.{mode-once}
 use Rattle.fields_rules.specs.declared.field.Number.{Number}

@@ -1,5 +1,4 @@
 -- The values of a track's settings (document 01, Records; document 02, C-11), in document 01's terms.
-use Prim.Native.Nat.{ℕ}
 use mathlib.Core.List.{List, [], _∷_}
 use Rattle.fields_rules.specs.Values.{Value, unset, number}
 use Rattle.fields_rules.specs.Told.{numberTold, flagTold, realTold}

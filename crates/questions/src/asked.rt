@@ -1,8 +1,8 @@
 // What a line asks: the words behind its first one, read by the form of its question.
 //
 // A form has a letter for each word: `n` ID, `p` PARENT, `a` AT or START, `s` SIZE, `d` ADDRESS, `r` ROW,
-// `k` K or a track type's N, `i` I, `j` J, `b` BYTES, `t` NUMBERS, `l` the table's numbers themselves, `g` RANGE,
-// `w` a word that the question itself reads.
+// `k` K or a track type's N, `i` I, `j` J, `u` LIST, `b` BYTES, `t` NUMBERS, `l` the table's numbers themselves,
+// `g` RANGE, `w` a word that the question itself reads.
 ghost use Rattle.lines.specs.Bounds.{Few};
 ghost use Rattle.questions.specs.Bounds.{InTable, Lent};
 use crate::table;
@@ -25,6 +25,7 @@ pub struct Asked {
     pub row: u64,
     pub k: u64,
     pub i: u64,
+    // J, or the place of LIST among the lists.
     pub j: u64,
     // Whether RANGE is set; then `at` is its address, and `size` its length.
     pub set: bool,
@@ -32,6 +33,7 @@ pub struct Asked {
     pub numbers: usize,
 }
 
+// A form without letters is that of no question.
 pub fn asked_of(
     line: &[u8],
     form: &[u8],
@@ -40,6 +42,9 @@ pub fn asked_of(
 ) -> Asked
     ensures { λ r. ⌜ Lent r ⌝ }
 {
+    if form.len() == 0 {
+        return nothing(false);
+    }
     if words::word_count(line) != form.len() + 1 {
         return nothing(false);
     }
@@ -93,6 +98,7 @@ fn with_word(
         b'l' => with_numbers(asked, table::listed(word, table)),
         b'g' => with_range(asked, word),
         b'w' => asked,
+        b'u' => with_value(asked, b'j', list_of(word)),
         b'n' | b'p' => with_id(asked, letter, words::id(word)),
         _ => with_value(asked, letter, words::decimal(word)),
     }
@@ -181,6 +187,15 @@ fn with_value(asked: Asked, letter: u8, spelt: Count) -> Asked
         }
         _ => nothing(false),
     }
+}
+
+// The place of LIST.
+fn list_of(word: &[u8]) -> Count {
+    let place = words::index_of(word, b"track edition chapter attachment");
+    if place == 4 {
+        return Count::Bad;
+    }
+    Count::Is(place as u64)
 }
 
 // RANGE: `unset`, or `ADDRESS+LENGTH`.

@@ -1,4 +1,6 @@
-// What the questions of the program `ask` share: what a line asks, its table, and the parts of an answer.
+// What the questions of the program `ask` share: their list, what a line asks, its table, and what an answer tells.
+pub mod answer;
 pub mod asked;
+pub mod list;
 pub mod table;
 pub mod told;

@@ -3,8 +3,6 @@ ghost use Prim.Native.Nat.{_+_, _*_, _≤_};
 ghost use lib.ListN.{length};
 ghost use Rattle.elements_rules.specs.Rows.{width};
 ghost use Rattle.questions.specs.Bounds.{InTable};
-use crate::told::refused;
-use header::Refusal;
 use lines::numbers;
 use lines::out;
 use lines::words;
@@ -63,23 +61,28 @@ pub fn listed(word: &[u8], table: &mut [u64; MOST_ASKED]) -> Given
     Given::Bad
 }
 
-// `rows N`, each row that lies in the table, and whether a number beyond them is not 0.
-pub fn rows_told(rows: u64, table: &[u64], out: &mut [u8; 65536], held: usize) -> usize {
-    let shown = rows_within(rows, table);
-    let mut now = numbers::put_decimal(out, held, b"rows ", rows);
-    let mut k: usize = 0;
-    while k < shown {
-        now = row_told(table, WIDTH * k, out, now);
-        k += 1;
-    }
-    zeros_told(b" rest ", table, WIDTH * shown, out, now)
+// ` N`, each row that lies in the table, where they are told, and whether a number beyond them is not 0.
+pub fn put_rows(rows: u64, told: bool, table: &[u64], out: &mut [u8; 65536], held: usize) -> usize {
+    let within = rows_within(rows, table);
+    let n = numbers::put_decimal(out, held, b" ", rows);
+    let n = put_each(within, told, table, out, n);
+    put_zeros(b" rest ", table, WIDTH * within, out, n)
 }
 
-// ` rows N` without the rows, and whether a number beyond them is not 0.
-pub fn rest_told(rows: u64, table: &[u64], out: &mut [u8; 65536], held: usize) -> usize {
-    let within = rows_within(rows, table);
-    let n = numbers::put_decimal(out, held, b" rows ", rows);
-    zeros_told(b" rest ", table, WIDTH * within, out, n)
+// The first `rows` rows of the table, where they are told.
+fn put_each(rows: usize, told: bool, table: &[u64], out: &mut [u8; 65536], held: usize) -> usize
+    requires { ⌜ width * rows ≤ length (now table) ⌝ }
+{
+    if !told {
+        return held;
+    }
+    let mut now = held;
+    let mut k: usize = 0;
+    while k < rows {
+        now = put_row(table, WIDTH * k, out, now);
+        k += 1;
+    }
+    now
 }
 
 // How many of the rows lie in the table.
@@ -94,7 +97,7 @@ fn rows_within(rows: u64, table: &[u64]) -> usize
 }
 
 // ` / id parent address header payload kind depth after`, the id in hexadecimal digits.
-fn row_told(table: &[u64], at: usize, out: &mut [u8; 65536], held: usize) -> usize
+fn put_row(table: &[u64], at: usize, out: &mut [u8; 65536], held: usize) -> usize
     requires { ⌜ at + width ≤ length (now table) ⌝ }
 {
     let mut now = numbers::put_hex(out, held, b" / ", table[at], 1);
@@ -106,14 +109,8 @@ fn row_told(table: &[u64], at: usize, out: &mut [u8; 65536], held: usize) -> usi
     now
 }
 
-// The refusal, and whether a number of the table is not 0.
-pub fn refused_told(refusal: Refusal, table: &[u64], out: &mut [u8; 65536], held: usize) -> usize {
-    let n = refused(refusal, out, held);
-    zeros_told(b" table ", table, 0, out, n)
-}
-
 // `0` where every number from `from` on is 0, else `dirty`.
-fn zeros_told(
+pub fn put_zeros(
     label: &[u8],
     table: &[u64],
     from: usize,
@@ -121,19 +118,17 @@ fn zeros_told(
     held: usize,
 ) -> usize {
     let n = out::put(out, held, label);
-    if are_zero(table, from) {
-        return out::put(out, n, b"0");
-    }
-    out::put(out, n, b"dirty")
+    out::put(out, n, words::word(b"0 dirty", dirt(table, from)))
 }
 
-fn are_zero(table: &[u64], from: usize) -> bool {
+// 0 where every number from `from` on is 0, else 1.
+fn dirt(table: &[u64], from: usize) -> usize {
     let mut i = from;
     while i < table.len() {
         if table[i] != 0 {
-            return false;
+            return 1;
         }
         i += 1;
     }
-    true
+    0
 }

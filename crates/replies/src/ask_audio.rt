@@ -1,34 +1,31 @@
 // `audio START SIZE NUMBERS K BYTES`: the settings of an audio track.
 use media_rules::Audio;
 use media_rules::AudioReply;
-use questions::asked::Asked;
-use questions::table;
 use questions::told;
+use questions::told::Told;
 
-pub fn audio(
-    asked: Asked,
-    recording: &[u8],
-    table: &mut [u64],
-    out: &mut [u8; 65536],
-    held: usize,
-) -> usize {
-    let reply = media::audio_at(recording, asked.at, asked.size, asked.k, table);
+// `rate F channels N depth N`
+pub fn audio(reply: AudioReply) -> Told {
     match reply {
-        AudioReply::Refused(refusal) => table::refused_told(refusal, table, out, held),
-        AudioReply::Audio { audio, rows } => {
-            let n = fields_told(audio, out, held);
-            table::rest_told(rows, table, out, n)
-        }
+        AudioReply::Refused(refusal) => told::refused(told::UNREAD, refusal),
+        AudioReply::Audio { audio, rows } => with_audio(
+            told::before(told::REST, rows),
+            0,
+            1,
+            2,
+            audio,
+        ),
     }
 }
 
-// `rate F channels N depth N`
-pub fn fields_told(audio: Audio, out: &mut [u8; 65536], held: usize) -> usize {
-    let names = b"rate channels depth";
-    let rate = audio.sample_rate;
-    let channels = audio.channels;
-    let depth = audio.bit_depth;
-    let n = told::real(names, 0, rate, out, held);
-    let n = told::number(names, 1, channels, out, n);
-    told::number(names, 2, depth, out, n)
+// The settings behind these words.
+pub fn with_audio(told: Told, rate: u64, channels: u64, depth: u64, audio: Audio) -> Told {
+    let Audio {
+        sample_rate,
+        channels: count,
+        bit_depth,
+    } = audio;
+    let t = told::real(told, rate, sample_rate);
+    let t = told::number(t, channels, count);
+    told::number(t, depth, bit_depth)
 }

@@ -5,8 +5,8 @@ use labels::stage_label;
 use lines::numbers;
 use lines::words;
 use lines::words::Spelt;
+use questions::answer::bad;
 use questions::asked::Asked;
-use questions::told::bad;
 
 // `word` is LABEL, which is spelt into room of its own.
 pub fn label(

@@ -1,51 +1,31 @@
 // `shown START SIZE PARENT NUMBERS ROW BYTES`: the shown text of a row, after the read of its table.
 use elements_rules::ReadReply;
-use lines::numbers;
 use places_rules::RangeReply;
 use questions::asked::Asked;
-use questions::table;
 use questions::told;
+use questions::told::Told;
 
-pub fn shown(
-    asked: Asked,
-    recording: &[u8],
-    table: &mut [u64],
-    out: &mut [u8; 65536],
-    held: usize,
-) -> usize {
-    let reply = elements::read(recording, asked.at, asked.size, asked.parent, table);
-    read_told(reply, recording, table, asked.row, out, held)
-}
-
-// The refusal of the read, or the row's text.
-fn read_told(
-    reply: ReadReply,
-    recording: &[u8],
-    table: &[u64],
-    row: u64,
-    out: &mut [u8; 65536],
-    held: usize,
-) -> usize {
-    match reply {
-        ReadReply::Refused(refusal) => table::refused_told(refusal, table, out, held),
-        ReadReply::Rows(_) => text_told(recording, table, row, out, held),
+// The refusal of the read, or `text RANGE HEX`
+pub fn shown(read: ReadReply, text: RangeReply) -> Told {
+    match read {
+        ReadReply::Refused(refusal) => told::refused(told::UNREAD, refusal),
+        ReadReply::Rows(_) => match text {
+            RangeReply::Refused(refusal) => told::refused(told::REFUSED, refusal),
+            RangeReply::Range(range) => {
+                told::with(
+                    told::before(told::ENDED, 0),
+                    0,
+                    0,
+                    told::RANGE_BYTES,
+                    range.at,
+                    range.length,
+                )
+            },
+        },
     }
 }
 
-// `text RANGE HEX`
-fn text_told(
-    recording: &[u8],
-    table: &[u64],
-    row: u64,
-    out: &mut [u8; 65536],
-    held: usize,
-) -> usize {
-    match labels::text_range(recording, table, row) {
-        RangeReply::Refused(refusal) => told::refused(refusal, out, held),
-        RangeReply::Range(range) => {
-            let n = told::range(b"text ", range, out, held);
-            let text = labels::shown_text(recording, table, row);
-            numbers::put_bytes(out, n, b" ", text)
-        }
-    }
+// The text itself.
+pub fn shown_bytes<'a>(asked: Asked, recording: &'a [u8], table: &[u64]) -> &'a [u8] {
+    labels::shown_text(recording, table, asked.row)
 }

@@ -1,21 +1,15 @@
 // `tracktype N`: the type of a track by its number.
 use codes::Tracktype;
-use lines::out;
-use lines::words;
-use questions::asked::Asked;
-
-pub fn tracktype(asked: Asked, out: &mut [u8; 65536], held: usize) -> usize {
-    name_told(Tracktype::new(asked.k), out, held)
-}
+use questions::told;
+use questions::told::Told;
 
 // The type by its name.
-pub fn name_told(tracktype: Tracktype, out: &mut [u8; 65536], held: usize) -> usize {
-    let names = b"video audio complex logo subtitle buttons control unknown";
-    out::put(out, held, words::word(names, place_of(tracktype)))
+pub fn tracktype(tracktype: Tracktype) -> Told {
+    told::word(told::before(told::ENDED, 0), type_index(tracktype))
 }
 
-// The place of the type's name in the list.
-fn place_of(tracktype: Tracktype) -> usize {
+// The place of the type's name among the words of the answer.
+pub fn type_index(tracktype: Tracktype) -> u64 {
     match tracktype {
         Tracktype::Video => 0,
         Tracktype::Audio => 1,

@@ -1,13 +1,18 @@
 // The answers of the program `ask` to the questions for records, track types, shown text and labels.
-pub mod ask_attachment;
-pub mod ask_audio;
-pub mod ask_chapter;
-pub mod ask_display;
-pub mod ask_edition;
-pub mod ask_label;
-pub mod ask_shown;
-pub mod ask_simple;
-pub mod ask_tag;
-pub mod ask_track;
-pub mod ask_tracktype;
-pub mod ask_uid;
+mod ask_attachment;
+mod ask_audio;
+mod ask_chapter;
+mod ask_display;
+mod ask_edition;
+mod ask_label;
+mod ask_shown;
+mod ask_simple;
+mod ask_tag;
+mod ask_track;
+mod ask_tracktype;
+mod ask_uid;
+mod records;
+
+pub use ask_label::label;
+pub use ask_shown::shown_bytes;
+pub use records::record;

@@ -26,6 +26,13 @@ fn read_recording(room: &mut [u8]) -> usize {
     held
 }
 
+// Writes the listing to standard output by way of the page, and answers whether all was written.
+fn list(recording: &[u8], page: &mut [u8; PAGE]) -> bool {
+    let n = listing(recording, page);
+    let text: &[u8] = page;
+    io::write_all(1, &text[..n])
+}
+
 // What can't be read is not listed. That, and a failed write, is told on standard error: a program can't set its exit
 // status.
 fn main() {
@@ -37,9 +44,7 @@ fn main() {
     }
     let whole: &[u8] = &room;
     let mut page = [0u8; PAGE];
-    let n = listing(&whole[..held], &mut page);
-    let text: &[u8] = &page;
-    if !io::write_all(1, &text[..n]) {
+    if !list(&whole[..held], &mut page) {
         io::write_all(2, b"rows: standard output can't be written\n");
     }
 }

@@ -6,6 +6,7 @@ ghost use Rattle.elements_rules.specs.Rows.{width, rowsOf};
 ghost use Rattle.pages.specs.Page.{Wrote};
 ghost use Rattle.pages.specs.Text.{ascii};
 ghost use Rattle.rowtext.specs.Lines.{kindWord, rowPlace, rowLine, rowLines};
+ghost use Rattle.rowtext.specs.Cuts.{Cuts};
 ghost use Rattle.rowtext.specs.Room.{lineRoom};
 use elements_rules::Row;
 use pages::put;
@@ -13,23 +14,40 @@ use pages::put_decimal;
 use pages::put_hexadecimal;
 use rowstore::row_at;
 
+// Where a word begins and ends.
+pub struct Cut {
+    pub from: usize,
+    pub end: usize,
+}
+
+// Where the word for a kind's number, and the space before it, stand among the words of `put_kind`.
+fn cut_of(kind: u64) -> Cut
+    ensures { λ r. ⌜ Cuts kind r ⌝ }
+{
+    match kind {
+        1 => Cut { from: 0, end: 7 },
+        2 => Cut { from: 7, end: 11 },
+        3 => Cut { from: 11, end: 16 },
+        4 => Cut { from: 16, end: 23 },
+        5 => Cut { from: 23, end: 28 },
+        6 => Cut { from: 28, end: 35 },
+        7 => Cut { from: 35, end: 41 },
+        8 => Cut { from: 41, end: 46 },
+        _ => Cut { from: 0, end: 1 },
+    }
+}
+
 // A space, and the word for a kind's number.
 fn put_kind(page: &mut [u8], held: usize, kind: u64) -> usize
     requires { ⌜ held + 7 ≤ length (now page) ⌝ }
     ensures { λ r. ⌜ Wrote (now (page .entry)) held (ascii " " ++ kindWord kind) r (now (page .exit)) ⌝ }
     ensures { λ r. ⌜ r ≤ held + 7 ⌝ }
 {
-    match kind {
-        1 => put(page, held, b" master"),
-        2 => put(page, held, b" int"),
-        3 => put(page, held, b" uint"),
-        4 => put(page, held, b" string"),
-        5 => put(page, held, b" utf8"),
-        6 => put(page, held, b" binary"),
-        7 => put(page, held, b" float"),
-        8 => put(page, held, b" date"),
-        _ => put(page, held, b" "),
-    }
+    let words: &[u8] = b" master int uint string utf8 binary float date";
+    let word = cut_of(kind);
+    let from = word.from;
+    let end = word.end;
+    put(page, held, &words[from..end])
 }
 
 // Where a row is: header address, header length, payload length, depth.

@@ -97,7 +97,8 @@ read-at s at size parent numbers a = passes _ _ _ (ap not a)
 
 module _ (at size numbers : ℕ) (heads t′ : List ℕ) where
   read-refused : (e : Refusal) (o : Outcome) → readTold (ReadRefused e) ≡ readReply o → t′ ≡ readTable at numbers o
-      → (partTold (Refused e) ≡ replyOf (as-search at size heads o)) × (t′ ≡ tableOf numbers (as-search at size heads o))
+      → (partTold (Refused e) ≡ replyOf (as-search at size heads o))
+      × (t′ ≡ tableOf numbers (as-search at size heads o))
   unfolding tableOf readTable
   read-refused e (done f) q w = let z : _≡_ {A = ℕ} 0 1 = cc in absurd (omega arith)
   read-refused e (unread e′) q w = (q, w)

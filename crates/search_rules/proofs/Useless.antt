@@ -18,7 +18,8 @@ use Rattle.seekhead_rules.specs.Table.{latestFrom}
 use Rattle.seekchain_rules.specs.Heads.{chain}
 use Rattle.seekchain_rules.specs.Lookup.{byHeads}
 use Rattle.segments_rules.specs.Walk.{toSegment, segmentOf, visit, walk, children, lookupOf}
-use Rattle.search_rules.specs.Part.{parentOf, Search, found, absent, refused, searchOf, replyOf, tableOf, partTold}
+use Rattle.search_rules.specs.Part.{parentOf, Search, found, absent, refused, searchOf, replyOf, tableOf}
+use Rattle.search_rules.specs.Part.{partTold}
 use Rattle.search_rules.specs.Theorems.{tagsAlone, tagsBehindAHead, NotMadeUp, NotUntouched}
 use Rattle.search_rules.specs.declared.part.PartReply.{PartReply}
 use Rattle.search_rules.specs.declared.part.PartReply.the-variants.{Found, Absent, Refused}

@@ -25,7 +25,8 @@ use Rattle.kinds.specs.Kinds.{member}
 use Rattle.seekchain_rules.specs.Heads.{tooFar, sought, mostHeads, linkedHeads}
 use Rattle.seekchain_rules.specs.Heads.{Chain, chained, broken, follow, chain}
 use Rattle.seekchain_rules.specs.Lookup.{found, absent, stopped, onChain, byHeads}
-use Rattle.seekchain_rules.specs.Theorems.{IsAt, IsHead, AreHeads, NotAmong, Distinct, GoodHeads, ByHeads, HeadsLead}
+use Rattle.seekchain_rules.specs.Theorems.{IsAt, IsHead, AreHeads, NotAmong, Distinct, GoodHeads, ByHeads}
+use Rattle.seekchain_rules.specs.Theorems.{HeadsLead}
 use Rattle.seekchain_rules.specs.declared.heads.Head.{Head}
 use Rattle.seekchain_rules.proofs.Chains.{sought-read}
 

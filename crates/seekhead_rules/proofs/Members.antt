@@ -25,7 +25,8 @@ use Rattle.elements_rules.specs.Forest.{Forest}
 use Rattle.elements_rules.specs.Reading.{Outcome, done, refused, elementOf}
 use Rattle.elements_rules.proofs.Bodies.{master-body}
 use Rattle.elements_rules.proofs.Standing.{stands-inside, body-stands}
-use Rattle.seekhead_rules.specs.Seeks.{segmentId, seekId, withoutRows, seekBody, noted, noSeek, withMembers, entryOf}
+use Rattle.seekhead_rules.specs.Seeks.{segmentId, seekId, withoutRows, seekBody, noted, noSeek, withMembers}
+use Rattle.seekhead_rules.specs.Seeks.{entryOf}
 use Rattle.seekhead_rules.specs.Table.{latestFrom}
 use Rattle.seekhead_rules.specs.Contract.{inner, Holds, BytesInside, MemberMet, seekTold, inserted, ChildMet}
 use Rattle.seekhead_rules.specs.declared.seek.Seek.{Seek}

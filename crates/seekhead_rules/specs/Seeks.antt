@@ -5,7 +5,8 @@ use mathlib.Core.Bool.{cond, false}
 use lib.ListN.{drop}
 use lib.Dec.{eqb}
 use Rattle.header.specs.Vint.{bigEndian}
-use Rattle.bodies_rules.specs.Bodies.{Told, integer, unsigned, float, date, text, bytes, master, refusal, payload, bodyOf}
+use Rattle.bodies_rules.specs.Bodies.{Told, integer, unsigned, float, date, text, bytes, master, refusal, payload}
+use Rattle.bodies_rules.specs.Bodies.{bodyOf}
 use Rattle.elements_rules.specs.Forest.{Element, Forest, none, node, whole}
 use Rattle.elements_rules.specs.Reading.{Outcome, masterBody}
 use Rattle.elements_rules.specs.declared.row.Mode.{Mode}

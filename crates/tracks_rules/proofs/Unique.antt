@@ -130,7 +130,8 @@ track-once a b q0 =
 
     same :
         {x0 y0 x1 y1 : Number} {x2 y2 : Typed} {x3 y3 x4 y4 x5 y5 x6 y6 x7 y7 x8 y8 x9 y9 x10 y10 x11 y11 : Flag}
-        {x12 y12 : Number} {x13 y13 : Content} {x14 y14 : Language} {x15 y15 x16 y16 x17 y17 : Content} {x18 y18 : Settings}
+        {x12 y12 : Number} {x13 y13 : Content} {x14 y14 : Language}
+        {x15 y15 x16 y16 x17 y17 : Content} {x18 y18 : Settings}
         → x0 ≡ y0 → x1 ≡ y1 → x2 ≡ y2 → x3 ≡ y3 → x4 ≡ y4 → x5 ≡ y5 → x6 ≡ y6 → x7 ≡ y7 → x8 ≡ y8 → x9 ≡ y9
         → x10 ≡ y10 → x11 ≡ y11 → x12 ≡ y12 → x13 ≡ y13 → x14 ≡ y14 → x15 ≡ y15 → x16 ≡ y16 → x17 ≡ y17 → x18 ≡ y18
         → of x0 x1 x2 x3 x4 x5 x6 x7 x8 x9 x10 x11 x12 x13 x14 x15 x16 x17 x18

@@ -72,8 +72,8 @@ full =
 abbrev fullValues : List Value
 fullValues =
     unset ∷ number 3 ∷ unset ∷ unset ∷ flag false ∷ flag true ∷ unset ∷ unset ∷ unset ∷ unset ∷ unset ∷ flag false
-    ∷ number 4 ∷ unset ∷ iso 25 1 ∷ content 28 1 ∷ content 32 2 ∷ content 38 1 ∷ number 1 ∷ number 5 ∷ number 6 ∷ number 7
-    ∷ number 8 ∷ flag true ∷ unset ∷ unset ∷ []
+    ∷ number 4 ∷ unset ∷ iso 25 1 ∷ content 28 1 ∷ content 32 2 ∷ content 38 1 ∷ number 1 ∷ number 5
+    ∷ number 6 ∷ number 7 ∷ number 8 ∷ flag true ∷ unset ∷ unset ∷ []
 
 -- Two E0, the first with a width of 5, and an entry inside the entry, with the track number 9.
 abbrev twoVideos : List ℕ

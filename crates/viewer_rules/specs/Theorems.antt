@@ -67,7 +67,8 @@ PlaceTells =
 
 -- ---- each number crosses under its own name
 
--- The reply of the call behind each function, name by name: a second reading of the faces, which go by places in a list.
+-- The reply of the call behind each function, name by name: a second reading of the faces, which go by places in a
+-- list.
 abbrev pub partNamed : PartReply → UzPart
 partNamed (Found at size rows heads) =
     record { refused = 0; id = 0; found = 1; at = at; size = size; rows = rows; heads = heads }

@@ -8,33 +8,15 @@ use Rattle.ask.proofs.answers.lend.Tie as tie
 
 slice-aggregate-reply : tie.Need-slice-aggregate-reply
 slice-aggregate-reply c =
-    let a = c .before .before .before .before .args in
+    let a = c .before .before .before .before .before .args in
     sym (length-take-le (a .asked .bytes) (a .recording .now) (omega arith))
-
-slice-relend-prefix-reply : tie.Need-slice-relend-prefix-reply
-slice-relend-prefix-reply c = search needs
 
 slice-aggregate-reply-2 : tie.Need-slice-aggregate-reply-2
 slice-aggregate-reply-2 c =
-    let a = c .before .before .before .before .before .args in
+    let a = c .before .before .before .before .before .before .args in
     sym (length-take-le (a .asked .numbers) (a .table .now) (omega arith))
-
-reply-requires : tie.Need-reply-requires
-reply-requires c κs = search needs
-
-same-length : tie.Need-same-length
-same-length c = search needs
-
-returns : tie.Need-returns
-returns c = search needs
 
 pub lend-spec : {M : Type 1} → statement M
 lend-spec =
-    tie.close
-    (tie.spec
-    slice-aggregate-reply
-    slice-relend-prefix-reply
-    slice-aggregate-reply-2
-    reply-requires
-    same-length
-    returns)
+    tie.close (tie.spec slice-aggregate-reply (λ c. search needs) slice-aggregate-reply-2 (λ c κs. search needs)
+    (λ c. search needs) (λ c. search needs))

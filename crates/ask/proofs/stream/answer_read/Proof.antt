@@ -27,26 +27,10 @@ answer-lines-requires c κs =
 sub-left : tie.Need-sub-left
 sub-left c = begun c
 
-element-write-room : tie.Need-element-write-room
-element-write-room c = search needs
-
-returns : tie.Need-returns
-returns c = search needs
-
 keep-requires : tie.Need-keep-requires
 keep-requires c κs = let b = begun (c .before .before) in omega arith
 
-returns-2 : tie.Need-returns-2
-returns-2 c = search needs
-
 pub answer-read-spec : {M : Type 1} → statement M
 answer-read-spec =
-    tie.close
-    (tie.spec
-    slice-aggregate-answer-lines
-    answer-lines-requires
-    sub-left
-    element-write-room
-    returns
-    keep-requires
-    returns-2)
+    tie.close (tie.spec slice-aggregate-answer-lines answer-lines-requires sub-left (λ c. search needs)
+    (λ c. search needs) keep-requires (λ c. search needs))

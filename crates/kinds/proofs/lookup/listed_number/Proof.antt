@@ -28,5 +28,5 @@ returns-3 c =
 
 pub listed-number-spec : {M : Type 1} → statement M
 listed-number-spec =
-    tie.close (tie.spec (λ c. search needs) lower-bound-requires returns (λ c. search needs) (λ c. search needs) returns-2
-    returns-3)
+    tie.close (tie.spec (λ c. search needs) lower-bound-requires returns (λ c. search needs) (λ c. search needs)
+    returns-2 returns-3)

@@ -22,21 +22,6 @@ returns c = rw (c .if1 .taken)
 loop-holds : tie.Need-loop-holds Inv-loop μ-loop
 loop-holds c = (omega arith, refl, refl, refl)
 
-add-room : tie.Need-add-room Inv-loop μ-loop
-add-room c = search needs
-
-slice-read-room : tie.Need-slice-read-room Inv-loop μ-loop
-slice-read-room c = search needs
-
-slice-write-room : tie.Need-slice-write-room Inv-loop μ-loop
-slice-write-room c = search needs
-
-add-i : tie.Need-add-i Inv-loop μ-loop
-add-i c = search needs
-
-loop-less : tie.Need-loop-less Inv-loop μ-loop
-loop-less c = search needs
-
 loop-again : tie.Need-loop-again Inv-loop μ-loop
 loop-again c =
     let a = c .before .before .before .before .args in
@@ -44,9 +29,6 @@ loop-again c =
     let m = moved (a .room .now) (l .room) (a .from) (l .i) (omega arith) (l .inv .1) (l .inv .2) (l .inv .3) in
     let t = to-move (a .room .now) (l .room) (a .from) (l .i) (omega arith) (l .inv .1) (l .inv .2) (l .inv .3) in
     (omega arith, search needs, m, t)
-
-same-length : tie.Need-same-length Inv-loop μ-loop
-same-length c = search needs
 
 returns-2 : tie.Need-returns-2 Inv-loop μ-loop
 returns-2 c =
@@ -56,17 +38,5 @@ returns-2 c =
 
 pub keep-spec : {M : Type 1} → statement M
 keep-spec =
-    tie.close
-    (tie.spec
-    Inv-loop
-    μ-loop
-    returns
-    loop-holds
-    add-room
-    slice-read-room
-    slice-write-room
-    add-i
-    loop-less
-    loop-again
-    same-length
-    returns-2)
+    tie.close (tie.spec Inv-loop μ-loop returns loop-holds (λ c. search needs) (λ c. search needs) (λ c. search needs)
+    (λ c. search needs) (λ c. search needs) loop-again (λ c. search needs) returns-2)

@@ -6,19 +6,11 @@ use lib.Seq.{length-take-le}
 use Rattle.lines.proofs.out.flush.Statement.{statement}
 use Rattle.lines.proofs.out.flush.Tie as tie
 
-returns : tie.Need-returns
-returns c = search needs
-
 slice-aggregate-write-all : tie.Need-slice-aggregate-write-all
 slice-aggregate-write-all c =
     let a = c .before .before .before .args in
     sym (length-take-le (a .held) (a .out .now) (omega arith))
 
-write-all-requires : tie.Need-write-all-requires
-write-all-requires c κs = search needs
-
-returns-2 : tie.Need-returns-2
-returns-2 c = search needs
-
 pub flush-spec : {M : Type 1} → statement M
-flush-spec = tie.close (tie.spec returns slice-aggregate-write-all write-all-requires returns-2)
+flush-spec =
+    tie.close (tie.spec (λ c. search needs) slice-aggregate-write-all (λ c κs. search needs) (λ c. search needs))

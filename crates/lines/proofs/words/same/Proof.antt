@@ -20,23 +20,11 @@ returns c = other-length (c .before .args .a .now) (c .before .args .b .now) (c 
 loop-holds : tie.Need-loop-holds Inv-loop μ-loop
 loop-holds c = (omega arith, c .if1 .left, refl)
 
-shared-slice-read-if2 : tie.Need-shared-slice-read-if2 Inv-loop μ-loop
-shared-slice-read-if2 c = search needs
-
-shared-slice-read-if2-2 : tie.Need-shared-slice-read-if2-2 Inv-loop μ-loop
-shared-slice-read-if2-2 c = search needs
-
 returns-2 : tie.Need-returns-2 Inv-loop μ-loop
 returns-2 c =
     let l = c .before .before .before .before in
     let start = l .before .before in
     other-byte (start .args .a .now) (start .args .b .now) (l .loop .i) (c .if2 .taken)
-
-add-i : tie.Need-add-i Inv-loop μ-loop
-add-i c = search needs
-
-loop-less : tie.Need-loop-less Inv-loop μ-loop
-loop-less c = search needs
 
 loop-again : tie.Need-loop-again Inv-loop μ-loop
 loop-again c =
@@ -55,16 +43,5 @@ returns-3 c =
 
 pub same-spec : {M : Type 1} → statement M
 same-spec =
-    tie.close
-    (tie.spec
-    Inv-loop
-    μ-loop
-    returns
-    loop-holds
-    shared-slice-read-if2
-    shared-slice-read-if2-2
-    returns-2
-    add-i
-    loop-less
-    loop-again
-    returns-3)
+    tie.close (tie.spec Inv-loop μ-loop returns loop-holds (λ c. search needs) (λ c. search needs) returns-2
+    (λ c. search needs) (λ c. search needs) loop-again returns-3)

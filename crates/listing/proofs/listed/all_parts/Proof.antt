@@ -6,24 +6,6 @@ use borrow.Author.Needs.{needs}
 use Rattle.listing.proofs.listed.all_parts.Statement.{statement}
 use Rattle.listing.proofs.listed.all_parts.Tie as tie
 
-part-lines-requires : tie.Need-part-lines-requires
-part-lines-requires c κs = search needs
-
-part-lines-requires-2 : tie.Need-part-lines-requires-2
-part-lines-requires-2 c κs = search needs
-
-part-lines-requires-3 : tie.Need-part-lines-requires-3
-part-lines-requires-3 c κs = search needs
-
-part-lines-requires-4 : tie.Need-part-lines-requires-4
-part-lines-requires-4 c κs = search needs
-
-same-length : tie.Need-same-length
-same-length c = search needs
-
-same-length-2 : tie.Need-same-length-2
-same-length-2 c = search needs
-
 returns : tie.Need-returns
 unfolding allParts
 returns c =
@@ -43,12 +25,5 @@ returns c =
 
 pub all-parts-spec : {M : Type 1} → statement M
 all-parts-spec =
-    tie.close
-    (tie.spec
-    part-lines-requires
-    part-lines-requires-2
-    part-lines-requires-3
-    part-lines-requires-4
-    same-length
-    same-length-2
-    returns)
+    tie.close (tie.spec (λ c κs. search needs) (λ c κs. search needs) (λ c κs. search needs) (λ c κs. search needs)
+    (λ c. search needs) (λ c. search needs) returns)

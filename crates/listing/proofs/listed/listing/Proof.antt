@@ -5,36 +5,12 @@ use borrow.Author.Needs.{needs}
 use Rattle.listing.proofs.listed.listing.Statement.{statement}
 use Rattle.listing.proofs.listed.listing.Tie as tie
 
-slice-aggregate-put : tie.Need-slice-aggregate-put
-slice-aggregate-put c = search needs
-
-put-requires : tie.Need-put-requires
-put-requires c κs = search needs
-
 returns : tie.Need-returns
 returns c =
     let p1 = c .before .before .before in
     let w = c .put .ensures in
     let e = w .ends in
     listing-is _ _ _ _ _ (too-long _ (p1 .if1 .taken)) (search needs) w
-
-slice-aggregate-put-decimal : tie.Need-slice-aggregate-put-decimal
-slice-aggregate-put-decimal c = search needs
-
-put-decimal-requires : tie.Need-put-decimal-requires
-put-decimal-requires c κs = search needs
-
-slice-aggregate-put-2 : tie.Need-slice-aggregate-put-2
-slice-aggregate-put-2 c = search needs
-
-put-requires-2 : tie.Need-put-requires-2
-put-requires-2 c κs = search needs
-
-slice-aggregate-all-parts : tie.Need-slice-aggregate-all-parts
-slice-aggregate-all-parts c = search needs
-
-all-parts-requires : tie.Need-all-parts-requires
-all-parts-requires c κs = search needs
 
 returns-2 : tie.Need-returns-2
 returns-2 c =
@@ -51,15 +27,5 @@ returns-2 c =
 
 pub listing-spec : {M : Type 1} → statement M
 listing-spec =
-    tie.close
-    (tie.spec
-    slice-aggregate-put
-    put-requires
-    returns
-    slice-aggregate-put-decimal
-    put-decimal-requires
-    slice-aggregate-put-2
-    put-requires-2
-    slice-aggregate-all-parts
-    all-parts-requires
-    returns-2)
+    tie.close (tie.spec (λ c. search needs) (λ c κs. search needs) returns (λ c. search needs) (λ c κs. search needs)
+    (λ c. search needs) (λ c κs. search needs) (λ c. search needs) (λ c κs. search needs) returns-2)

@@ -4,18 +4,6 @@ use native.Mathlib.Omega.{arith}
 use Rattle.questions.proofs.asked.with_bytes.Statement.{statement}
 use Rattle.questions.proofs.asked.with_bytes.Tie as tie
 
-enum-told : tie.Need-enum-told
-enum-told c = search needs
-
-nothing-requires : tie.Need-nothing-requires
-nothing-requires c κs = search needs
-
-enum-known-spelt : tie.Need-enum-known-spelt
-enum-known-spelt c = search needs
-
-returns : tie.Need-returns
-returns c = search needs
-
 returns-2 : tie.Need-returns-2
 returns-2 c =
     let fits = rw (c .before .spelt .given .1) at (c .before .before .before .pre .0) in
@@ -23,4 +11,4 @@ returns-2 c =
 
 pub with-bytes-spec : {M : Type 1} → statement M
 with-bytes-spec =
-    tie.close (tie.spec enum-told nothing-requires enum-known-spelt returns returns-2)
+    tie.close (tie.spec (λ c. search needs) (λ c κs. search needs) (λ c. search needs) (λ c. search needs) returns-2)

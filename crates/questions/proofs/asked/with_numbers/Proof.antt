@@ -4,18 +4,6 @@ use native.Mathlib.Omega.{arith}
 use Rattle.questions.proofs.asked.with_numbers.Statement.{statement}
 use Rattle.questions.proofs.asked.with_numbers.Tie as tie
 
-enum-told : tie.Need-enum-told
-enum-told c = search needs
-
-nothing-requires : tie.Need-nothing-requires
-nothing-requires c κs = search needs
-
-enum-known-given : tie.Need-enum-known-given
-enum-known-given c = search needs
-
-returns : tie.Need-returns
-returns c = search needs
-
 returns-2 : tie.Need-returns-2
 returns-2 c =
     let fits = rw (c .before .given .given .1) at (c .before .before .before .pre .0) in
@@ -23,4 +11,4 @@ returns-2 c =
 
 pub with-numbers-spec : {M : Type 1} → statement M
 with-numbers-spec =
-    tie.close (tie.spec enum-told nothing-requires enum-known-given returns returns-2)
+    tie.close (tie.spec (λ c. search needs) (λ c κs. search needs) (λ c. search needs) (λ c. search needs) returns-2)

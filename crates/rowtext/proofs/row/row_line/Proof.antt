@@ -7,27 +7,6 @@ use borrow.Author.Needs.{needs}
 use Rattle.rowtext.proofs.row.row_line.Statement.{statement}
 use Rattle.rowtext.proofs.row.row_line.Tie as tie
 
-row-place-requires : tie.Need-row-place-requires
-row-place-requires c κs = search needs
-
-put-kind-requires : tie.Need-put-kind-requires
-put-kind-requires c κs = search needs
-
-slice-aggregate-put-hexadecimal : tie.Need-slice-aggregate-put-hexadecimal
-slice-aggregate-put-hexadecimal c = search needs
-
-put-hexadecimal-requires : tie.Need-put-hexadecimal-requires
-put-hexadecimal-requires c κs = search needs
-
-slice-aggregate-put : tie.Need-slice-aggregate-put
-slice-aggregate-put c = search needs
-
-put-requires : tie.Need-put-requires
-put-requires c κs = search needs
-
-same-length : tie.Need-same-length
-same-length c = search needs
-
 returns : tie.Need-returns
 unfolding rowLine
 returns c =
@@ -47,13 +26,5 @@ returns c =
 
 pub row-line-spec : {M : Type 1} → statement M
 row-line-spec =
-    tie.close
-    (tie.spec
-    row-place-requires
-    put-kind-requires
-    slice-aggregate-put-hexadecimal
-    put-hexadecimal-requires
-    slice-aggregate-put
-    put-requires
-    same-length
-    returns)
+    tie.close (tie.spec (λ c κs. search needs) (λ c κs. search needs) (λ c. search needs) (λ c κs. search needs)
+    (λ c. search needs) (λ c κs. search needs) (λ c. search needs) returns)

@@ -33,12 +33,6 @@ row-line-requires c κs =
     let l = i .wrote .long in
     omega arith
 
-add-n : tie.Need-add-n Inv-loop μ-loop
-add-n c = search needs
-
-loop-less : tie.Need-loop-less Inv-loop μ-loop
-loop-less c = search needs
-
 loop-again : tie.Need-loop-again Inv-loop μ-loop
 loop-again c =
     let p2 = c .before .before .before in
@@ -56,15 +50,5 @@ returns c = listed-ends _ _ _ _ _ _ _ (c .loop-test .left) (c .before .loop .inv
 
 pub row-lines-spec : {M : Type 1} → statement M
 row-lines-spec =
-    tie.close
-    (tie.spec
-    Inv-loop
-    μ-loop
-    loop-holds
-    row-at-requires
-    row-line-requires
-    add-n
-    loop-less
-    loop-again
-    same-length
-    returns)
+    tie.close (tie.spec Inv-loop μ-loop loop-holds row-at-requires row-line-requires (λ c. search needs)
+    (λ c. search needs) loop-again same-length returns)

@@ -7,33 +7,6 @@ use borrow.Author.Needs.{needs}
 use Rattle.rowtext.proofs.row.row_place.Statement.{statement}
 use Rattle.rowtext.proofs.row.row_place.Tie as tie
 
-slice-aggregate-put-decimal : tie.Need-slice-aggregate-put-decimal
-slice-aggregate-put-decimal c = search needs
-
-put-decimal-requires : tie.Need-put-decimal-requires
-put-decimal-requires c κs = search needs
-
-slice-aggregate-put-decimal-2 : tie.Need-slice-aggregate-put-decimal-2
-slice-aggregate-put-decimal-2 c = search needs
-
-put-decimal-requires-2 : tie.Need-put-decimal-requires-2
-put-decimal-requires-2 c κs = search needs
-
-slice-aggregate-put-decimal-3 : tie.Need-slice-aggregate-put-decimal-3
-slice-aggregate-put-decimal-3 c = search needs
-
-put-decimal-requires-3 : tie.Need-put-decimal-requires-3
-put-decimal-requires-3 c κs = search needs
-
-slice-aggregate-put-decimal-4 : tie.Need-slice-aggregate-put-decimal-4
-slice-aggregate-put-decimal-4 c = search needs
-
-put-decimal-requires-4 : tie.Need-put-decimal-requires-4
-put-decimal-requires-4 c κs = search needs
-
-same-length : tie.Need-same-length
-same-length c = search needs
-
 returns : tie.Need-returns
 unfolding rowPlace
 returns c =
@@ -52,15 +25,5 @@ returns c =
 
 pub row-place-spec : {M : Type 1} → statement M
 row-place-spec =
-    tie.close
-    (tie.spec
-    slice-aggregate-put-decimal
-    put-decimal-requires
-    slice-aggregate-put-decimal-2
-    put-decimal-requires-2
-    slice-aggregate-put-decimal-3
-    put-decimal-requires-3
-    slice-aggregate-put-decimal-4
-    put-decimal-requires-4
-    same-length
-    returns)
+    tie.close (tie.spec (λ c. search needs) (λ c κs. search needs) (λ c. search needs) (λ c κs. search needs)
+    (λ c. search needs) (λ c κs. search needs) (λ c. search needs) (λ c κs. search needs) (λ c. search needs) returns)
