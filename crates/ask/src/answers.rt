@@ -11,7 +11,6 @@ use crate::ask_read::read;
 use crate::ask_utf8::utf8;
 use crate::ask_whose::whose;
 use lines::out;
-use lines::words;
 use questions::answer::bad;
 use questions::answer::put_told;
 use questions::asked::Asked;
@@ -161,7 +160,7 @@ fn base(question: usize, asked: Asked, recording: &[u8], table: &mut [u64]) -> T
 // The bytes that the answer tells, where it tells bytes.
 fn bytes_of<'a>(question: usize, asked: Asked, recording: &'a [u8], table: &[u64]) -> &'a [u8] {
     match question {
-        PAYLOAD => places::row_payload(recording, table, asked.row),
+        PAYLOAD => payloads::row_payload(recording, table, asked.row),
         SHOWN => shown_bytes(asked, recording, table),
         _ => &recording[..0],
     }

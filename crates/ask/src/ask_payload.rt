@@ -7,7 +7,7 @@ use questions::told::Told;
 
 pub fn payload(asked: Asked, recording: &[u8], table: &mut [u64]) -> Told {
     let reply = elements::read(recording, asked.at, asked.size, asked.parent, table);
-    payload_told(reply, places::payload_range(recording, table, asked.row))
+    payload_told(reply, payloads::payload_range(recording, table, asked.row))
 }
 
 // The refusal of the read, or `bytes HEX`

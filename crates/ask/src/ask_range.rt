@@ -6,7 +6,7 @@ use questions::told::Told;
 
 // `at RANGE`
 pub fn range(asked: Asked, recording: &[u8], table: &[u64]) -> Told {
-    match places::payload_range(recording, table, asked.row) {
+    match payloads::payload_range(recording, table, asked.row) {
         RangeReply::Refused(refusal) => told::refused(told::REFUSED, refusal),
         RangeReply::Range(range) => told::range(told::before(told::ENDED, 0), 0, 0, range),
     }

@@ -6,7 +6,6 @@ use crate::answers::answer;
 use lines::input;
 use lines::input::Got;
 use lines::out;
-use lines::words;
 use questions::table::MOST_ASKED;
 
 // Room for the longest line that is a question, and more. A longer line is none.

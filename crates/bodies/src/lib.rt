@@ -1,13 +1,9 @@
 // The reader of typed bodies (document 01, Bodies; RFC 8794, section 7).
 //
 // `body_at` is the public call. The crates above hand a header that was read to `read_body`.
-mod float;
-mod integer;
 mod range;
 mod reply;
 mod typed;
 
-pub use float::float_of_4;
-pub use float::float_of_8;
 pub use reply::body_at;
 pub use typed::read_body;

@@ -1,10 +1,6 @@
 // The body of an element by its kind.
 ghost use mathlib.Core.Path.{_≡_};
 ghost use Rattle.bodies_rules.specs.Reads.{bodyRead};
-use crate::float::read_float;
-use crate::integer::read_date;
-use crate::integer::read_int;
-use crate::integer::read_uint;
 use crate::range::read_bytes;
 use crate::range::read_text;
 use bodies_rules::Body;
@@ -12,6 +8,10 @@ use bodies_rules::BodyRead;
 use header::Cursor;
 use header::Header;
 use kinds::Kind;
+use number_bodies::read_date;
+use number_bodies::read_float;
+use number_bodies::read_int;
+use number_bodies::read_uint;
 
 // The body after a header that was read, at the place where its payload begins. Of a master nothing is tested here.
 pub fn read_body(place: Cursor, recording: &[u8], header: Header, kind: Kind) -> BodyRead

@@ -5,7 +5,7 @@ ghost use Rattle.fields_rules.specs.Contract.{Readable};
 ghost use Rattle.chapters.specs.Records.{editionOf};
 ghost use Rattle.chapters.specs.Told.{editionValues};
 ghost use Rattle.chapters.specs.Promise.{EditionPromise};
-use fields::count_children;
+use children::count_children;
 use fields::flag_field;
 use fields::number_field;
 use fields_rules::Below;

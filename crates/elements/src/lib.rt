@@ -6,7 +6,5 @@ mod element;
 mod reply;
 
 pub use element::master_body;
-pub use reply::clear;
 pub use reply::fill;
-pub use reply::is_allowed;
 pub use reply::read;

@@ -9,39 +9,10 @@ use elements_rules::ElementRead;
 use elements_rules::Mode;
 use elements_rules::ReadReply;
 use header::Cursor;
-use header::MOST_BYTES;
 use header::Refusal;
 use kinds::TABLE;
-use rowstore::MOST_NUMBERS;
-use rowstore::WIDTH;
-
-// Fills the table with zeros.
-pub fn clear(table: &mut [u64])
-    ensures { λ _. ⌜ now (table .exit) ≡ zeros (length (now (table .entry))) ⌝ }
-{
-    let mut i: usize = 0;
-    while i < table.len() {
-        table[i] = 0;
-        i += 1;
-    }
-}
-
-// Whether the lengths are within their limits and the start is not past the end; else 14.
-pub fn is_allowed(recording: &[u8], start: u64, table: &[u64]) -> bool
-    ensures { λ r. ⌜ r ≡ allowed (now (recording .entry)) start (length (now (table .entry))) ⌝ }
-{
-    let length = recording.len() as u64;
-    if MOST_BYTES < length {
-        return false;
-    }
-    if table.len() % WIDTH != 0 {
-        return false;
-    }
-    if MOST_NUMBERS < table.len() {
-        return false;
-    }
-    start <= length
-}
+use rowstore::clear;
+use rowstore::is_allowed;
 
 // The reading into a cleared table, with arguments that are allowed.
 pub fn fill(recording: &[u8], start: u64, size: u64, parent: u32, table: &mut [u64]) -> ReadReply

@@ -7,10 +7,8 @@ ghost use Rattle.fields_rules.specs.Values.{uintIn, floatIn, rangeIn};
 ghost use Rattle.fields_rules.specs.Fields.{numberOf, flagOf, contentOf, languageOf, valueOf, realOf};
 ghost use Rattle.fields_rules.specs.Told.{numberTold, flagTold, contentTold, languageTold, valueTold, realTold};
 ghost use Rattle.fields_rules.specs.Contract.{Readable, Holds};
-use crate::child::last_child;
-use bodies::float_of_4;
-use bodies::float_of_8;
 use bodies_rules::Range;
+use children::last_child;
 use elements_rules::Row;
 use fields_rules::Below;
 use fields_rules::Child;
@@ -22,6 +20,8 @@ use fields_rules::Real;
 use fields_rules::TagValue;
 use header::big_endian;
 use kinds::Kind;
+use number_bodies::float_of_4;
+use number_bodies::float_of_8;
 
 // The range of a row's payload.
 fn range_of(row: Row) -> Range

@@ -4,7 +4,7 @@ ghost use Rattle.labels.specs.Shown.{isText};
 ghost use Rattle.labels.specs.Promise.{TextPromise, ShownPromise};
 use bodies_rules::Range;
 use header::Refusal;
-use places::payload_range;
+use payloads::payload_range;
 use places_rules::RangeReply;
 use rowstore::row_at;
 

@@ -1,5 +1,3 @@
 -- The laws that the proofs of `lines` use.
 pub mod Signs
-pub mod Parted
-pub mod Alike
 pub mod Moved

@@ -1,3 +1,2 @@
 -- What the contracts of `lines` cite.
 pub mod Bounds
-pub mod Words

@@ -7,18 +7,18 @@ ghost use Rattle.fields_rules.specs.Contract.{AllJump};
 ghost use Rattle.locate_rules.specs.Steps.{spotOf, entered, reached};
 ghost use Rattle.locate_rules.specs.Asked.{asked};
 ghost use Rattle.locate_rules.specs.Contract.{Numbered, Known, LocateMet};
-use elements::clear;
+use children::last_child;
+use children::nth_child;
+use children::rows_below;
 use elements::read;
 use elements_rules::ReadReply;
-use fields::last_child;
-use fields::nth_child;
-use fields::rows_below;
 use fields_rules::Child;
 use header::Refusal;
 use kinds::Kind;
 use locate_rules::Located;
 use locate_rules::Spot;
 use locate_rules::Step;
+use rowstore::clear;
 
 fn spot_of(child: Child) -> Spot
     requires { ⌜ Numbered child ⌝ }

@@ -1,10 +1,6 @@
-// Places of a recording by the rows of a table: a row's payload, and the row that holds an address (document 01,
-// Element table).
+// The address question (document 01, Element table): the row that holds an address of the recording.
 //
-// The public calls are `payload_range`, `row_payload` and `whose_byte`.
-mod payload;
+// The public call is `whose_byte`.
 mod whose;
 
-pub use payload::payload_range;
-pub use payload::row_payload;
 pub use whose::whose_byte;

@@ -6,15 +6,15 @@ ghost use Rattle.elements_rules.specs.Rows.{width, rowsOf};
 ghost use Rattle.elements_rules.specs.Holds.{within};
 ghost use Rattle.places_rules.specs.Whose.{holderIn, whoseIn};
 ghost use Rattle.places_rules.specs.Promise.{whoseTold, WhosePromise};
-use elements::clear;
 use elements::fill;
-use elements::is_allowed;
 use elements_rules::ReadReply;
 use elements_rules::Row;
 use header::Refusal;
 use kinds::MASTER;
 use places_rules::Holder;
 use places_rules::WhoseReply;
+use rowstore::clear;
+use rowstore::is_allowed;
 use rowstore::row_at;
 
 // Whether the address is one of `size` bytes from `start` on; start plus size may pass 2^64.

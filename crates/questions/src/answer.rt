@@ -4,7 +4,6 @@ use crate::told;
 use crate::told::Told;
 use lines::numbers;
 use lines::out;
-use lines::words;
 
 // The answer to a line that is no question.
 pub fn bad(out: &mut [u8; 65536], held: usize) -> usize {

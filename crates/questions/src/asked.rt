@@ -3,15 +3,14 @@
 // A form has a letter for each word: `n` ID, `p` PARENT, `a` AT or START, `s` SIZE, `d` ADDRESS, `r` ROW,
 // `k` K or a track type's N, `i` I, `j` J, `u` LIST, `b` BYTES, `t` NUMBERS, `l` the table's numbers themselves,
 // `g` RANGE, `w` a word that the question itself reads.
-ghost use Rattle.lines.specs.Bounds.{Few};
+ghost use Rattle.words.specs.Words.{Few};
 ghost use Rattle.questions.specs.Bounds.{InTable, Lent};
 use crate::table;
 use crate::table::Given;
 use crate::table::MOST_ASKED;
-use lines::words;
-use lines::words::Count;
-use lines::words::Named;
-use lines::words::Spelt;
+use words::Count;
+use words::Named;
+use words::Spelt;
 
 // What the words spell, and how many bytes of the recording and numbers of the table the call is lent.
 // A line that spells something else is not good.

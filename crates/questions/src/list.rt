@@ -1,7 +1,6 @@
 // The list of questions: a line for each, with its name, its form, and the words of its answer.
 ghost use Prim.Native.Nat.{_≤_};
 ghost use lib.ListN.{length};
-use lines::words;
 
 // A question's number, counted from 0, and where its line begins and ends.
 pub struct Entry {

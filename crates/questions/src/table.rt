@@ -5,9 +5,8 @@ ghost use Rattle.elements_rules.specs.Rows.{width};
 ghost use Rattle.questions.specs.Bounds.{InTable};
 use lines::numbers;
 use lines::out;
-use lines::words;
-use lines::words::Count;
 use rowstore::WIDTH;
+use words::Count;
 
 // A question's table has at most so many numbers.
 pub const MOST_ASKED: usize = 36_000;

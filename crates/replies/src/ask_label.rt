@@ -3,10 +3,9 @@ use bodies_rules::Range;
 use fields_rules::Content;
 use labels::stage_label;
 use lines::numbers;
-use lines::words;
-use lines::words::Spelt;
 use questions::answer::bad;
 use questions::asked::Asked;
+use words::Spelt;
 
 // `word` is LABEL, which is spelt into room of its own.
 pub fn label(

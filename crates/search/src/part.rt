@@ -1,13 +1,13 @@
 // The public call: a part of a recording, found and read into rows of a lent table.
 ghost use mathlib.Core.Path.{_≡_};
 ghost use Rattle.search_rules.specs.Part.{parentOf, PartPromise};
-use elements::clear;
 use elements::fill;
-use elements::is_allowed;
 use elements_rules::ReadReply;
 use header::Refusal;
 use kinds::TABLE;
 use kinds::ids;
+use rowstore::clear;
+use rowstore::is_allowed;
 use search_rules::Parent;
 use search_rules::PartReply;
 use seekchain_rules::PartPlace;

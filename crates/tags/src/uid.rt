@@ -2,8 +2,7 @@
 ghost use mathlib.Core.Path.{_≡_};
 ghost use Rattle.tags_rules.specs.Records.{memberId};
 ghost use Rattle.tags_rules.specs.Promise.{UidPromise};
-use elements::clear;
-use fields::nth_child;
+use children::nth_child;
 use fields::uint_in;
 use fields_rules::Child;
 use header::Refusal;
@@ -12,6 +11,7 @@ use kinds::ids;
 use locate::locate;
 use locate_rules::Located;
 use locate_rules::Step;
+use rowstore::clear;
 use tags_rules::UidList;
 use tags_rules::UidReply;
 

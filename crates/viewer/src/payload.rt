@@ -1,6 +1,6 @@
 // `uz_row_payload`: where the payload of a row is. The table is only read.
 ghost use Rattle.viewer_rules.specs.Promise.{UzRangePromise};
-use places::payload_range;
+use payloads::payload_range;
 use places_rules::RangeReply;
 use viewer_rules::UzRange;
 

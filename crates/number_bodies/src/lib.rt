@@ -1,0 +1,12 @@
+// The bodies that are a number (document 01, Bodies; RFC 8794, section 7): integers, dates and floats.
+//
+// For the crate above, which reads a body by its kind.
+mod float;
+mod integer;
+
+pub use float::float_of_4;
+pub use float::float_of_8;
+pub use float::read_float;
+pub use integer::read_date;
+pub use integer::read_int;
+pub use integer::read_uint;
