@@ -1,4 +1,4 @@
--- The laws that the proofs of `bodies_rules` use, and its theorems.
+-- The laws that the proofs of `bodies` use, and the theorems.
 pub mod Signs
 pub mod Nans
 pub mod Ends

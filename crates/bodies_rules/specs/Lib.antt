@@ -1,4 +1,4 @@
--- The definitions that the contracts of `bodies_rules` cite, and the statements of its theorems.
+-- The definitions that the contracts of `bodies` cite, and the statements of its theorems.
 pub mod Numbers
 pub mod Bodies
 pub mod Reads

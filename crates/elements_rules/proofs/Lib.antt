@@ -1,4 +1,4 @@
--- The laws that the proofs of `elements_rules` share, and its theorems.
+-- The laws that the proofs of `elements` share, and the theorems.
 pub mod Limits
 pub mod Outcomes
 pub mod Parts

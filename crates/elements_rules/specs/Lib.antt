@@ -1,4 +1,4 @@
--- The definitions that the contracts of `elements_rules` cite, and the statements of its theorems.
+-- The definitions that the contracts of `elements` cite, and the statements of its theorems.
 pub mod Forest
 pub mod Reading
 pub mod Rows

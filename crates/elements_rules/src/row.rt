@@ -1,4 +1,5 @@
 // A row, and how elements are read.
+
 // An element in the table.
 pub struct Row {
     pub id: u64,

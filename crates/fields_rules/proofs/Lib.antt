@@ -1,4 +1,4 @@
--- The laws that the proofs of `fields_rules` share, and its theorems.
+-- The laws that the proofs of `fields` share, and the theorems.
 pub mod Rest
 pub mod Levels
 pub mod Picked

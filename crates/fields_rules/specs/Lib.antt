@@ -1,4 +1,4 @@
--- The definitions that the contracts of `fields_rules` cite, and the statements of its theorems.
+-- The definitions that the contracts of `fields` cite, and the statements of its theorems.
 pub mod Children
 pub mod Values
 pub mod Fields

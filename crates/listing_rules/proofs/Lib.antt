@@ -1,4 +1,4 @@
--- The laws that the proofs of `listing_rules` share, and its theorems.
+-- The laws that the proofs of `listing` share, and the theorems.
 pub mod PartTexts
 pub mod Unique
 pub mod Cases

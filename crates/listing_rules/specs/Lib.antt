@@ -1,4 +1,4 @@
--- The definitions that the contracts of `listing_rules` cite, and the statements of its theorems.
+-- The definitions that the contracts of `listing` cite, and the statements of its theorems.
 pub mod Listing
 pub mod Room
 pub mod Promise

@@ -1,4 +1,4 @@
--- The laws that the proofs of `locate_rules` and of the crates above share, and its theorems.
+-- The laws that the proofs of `locate` and of the crates above share, and the theorems.
 pub mod Ways
 pub mod Inner
 pub mod Lists

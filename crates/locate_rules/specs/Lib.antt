@@ -1,4 +1,4 @@
--- The definitions that the contracts of `locate_rules` cite, and the statements of its theorems.
+-- The definitions that the contracts of `locate` cite, and the statements of its theorems.
 pub mod Steps
 pub mod Asked
 pub mod Told

@@ -1,4 +1,4 @@
--- Every address in a record is the payload's place of a row of the table (`TracksAddressed`); the settings of a track
+-- Every address in a record is the payload's place of a row of the table (`MediaAddressed`); the settings of a track
 -- name none. Assumes nothing.
 use Prim.Native.Nat.{ℕ, _≤_}
 use mathlib.Core.List.{List}
@@ -18,7 +18,7 @@ use Rattle.media_rules.specs.Said.{saidIn, saidOf}
 use Rattle.codes.specs.Stereo.{modes}
 use Rattle.media_rules.specs.Video.{interlaced, stereo}
 use Rattle.media_rules.specs.Records.{audioOf, videoOf}
-use Rattle.media_rules.specs.Theorems.{TracksAddressed}
+use Rattle.media_rules.specs.Theorems.{MediaAddressed}
 
 -- What a number says is placed, if it is so for each number.
 pub said-placed : (rs : List Row) (says : ℕ → Value) → ((n : ℕ) → Placed rs (says n))
@@ -59,8 +59,8 @@ module _ (s : List ℕ) (rs : List Row) (parent : ℕ) (l : parent ≤ length rs
       let gamma = reals s rs parent l _ in
       (number _, (number _, (number _, (number _, (interlaced, (stereo, (gamma, tt)))))))
 
-pub tracks-addressed : TracksAddressed
-tracks-addressed =
+pub media-addressed : MediaAddressed
+media-addressed =
     record {
       audio = λ s start size k. asked-addressed _ s start size _ _ _ _ (audio-placed s);
     }

@@ -1,4 +1,4 @@
--- The laws that the proofs of `media_rules` share, and its theorems.
+-- The laws that the proofs of `media` share, and the theorems.
 pub mod Said
 pub mod Unique
 pub mod Addressed

@@ -1,4 +1,4 @@
--- The definitions that the contracts of `media_rules` cite, and the statements of its theorems.
+-- The definitions that the contracts of `media` cite, and the statements of its theorems.
 pub mod Said
 pub mod Video
 pub mod Records

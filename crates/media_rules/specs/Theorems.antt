@@ -17,5 +17,5 @@ OneAudio =
     → AudioPromise s start size k t r t′ → AudioPromise s start size k u r′ u′ → (r ≡ r′) × (t′ ≡ u′)
 
 -- Every address in a record that is told is the payload's place of one of the rows that the table holds at exit.
-pub record TracksAddressed : Type 0 where
+pub record MediaAddressed : Type 0 where
   pub audio : (s : List ℕ) (start size k : ℕ) → Addressed (ofBelow (audioOf s)) (audioAsked s start size k)

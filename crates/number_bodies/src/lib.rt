@@ -1,6 +1,6 @@
 // The bodies that are a number (document 01, Bodies; RFC 8794, section 7): integers, dates and floats.
 //
-// For the crate above, which reads a body by its kind.
+// For the crates above, which read a body by its kind, or the float of a row.
 mod float;
 mod integer;
 

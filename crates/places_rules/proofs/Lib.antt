@@ -1,4 +1,4 @@
--- The laws that the proofs of `places_rules` share, and its theorems.
+-- The laws that the proofs of `places` share, and the theorems.
 pub mod Ranges
 pub mod Spots
 pub mod Asked

@@ -1,4 +1,4 @@
--- The definitions that the contracts of `places_rules` cite, and the statements of its theorems.
+-- The definitions that the contracts of `places` cite, and the statements of its theorems.
 pub mod Payload
 pub mod Whose
 pub mod Promise

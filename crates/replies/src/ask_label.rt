@@ -36,12 +36,12 @@ fn label_told<'a>(
     if whole.len() < length {
         return bad(out, held);
     }
-    let shown = stage_label(recording, part_of(asked), &whole[0..length]);
+    let shown = stage_label(recording, content_of(asked), &whole[0..length]);
     numbers::put_bytes(out, held, b"label ", shown)
 }
 
 // RANGE
-fn part_of(asked: Asked) -> Content {
+fn content_of(asked: Asked) -> Content {
     if asked.set {
         return Content::At(Range {
             at: asked.at,

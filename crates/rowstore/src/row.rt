@@ -1,4 +1,4 @@
-// A row, and the lent table of numbers that holds rows.
+// The rows of a lent table: kept, closed behind their children, and taken out.
 ghost use mathlib.Core.Path.{_≡_};
 ghost use mathlib.Core.Bool.{true, not};
 ghost use mathlib.Core.List.{[], _∷_};

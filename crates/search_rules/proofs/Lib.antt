@@ -1,4 +1,4 @@
--- The laws that the proofs of `search_rules` share, and its theorems.
+-- The laws that the proofs of `search` share, and the theorems.
 pub mod Trusty
 pub mod Finding
 pub mod Unique

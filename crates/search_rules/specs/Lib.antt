@@ -1,4 +1,4 @@
--- The definitions that the contracts of `search_rules` cite, and the statements of its theorems.
+-- The definitions that the contracts of `search` cite, and the statements of its theorems.
 pub mod Part
 pub mod Theorems
 pub mod Cases

@@ -1,4 +1,4 @@
--- The laws that the proofs of `seekchain_rules` share, and its theorems.
+-- The laws that the proofs of `seekchain` share, and the theorems.
 pub mod Seen
 pub mod Positions
 pub mod Chains

@@ -1,4 +1,4 @@
--- What the functions of `seektable` promise each other: how the definitions are told by the code's enums.
+-- What the functions of `seekchain` promise each other: how the definitions are told by the code's enums.
 use Prim.Native.Nat.{ℕ}
 use lib.ListN.{length}
 use Rattle.seekhead_rules.specs.Table.{latest}

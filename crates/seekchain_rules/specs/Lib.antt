@@ -1,4 +1,4 @@
--- The definitions that the contracts of `seekchain_rules` cite, and the statements of its theorems.
+-- The definitions that the contracts of `seekchain` cite, and the statements of its theorems.
 pub mod Answers
 pub mod Heads
 pub mod Lookup

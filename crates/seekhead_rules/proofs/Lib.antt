@@ -1,4 +1,4 @@
--- The laws that the proofs of `seekhead_rules` share.
+-- The laws that the proofs of `seekhead` share.
 pub mod Uncounted
 pub mod Positions
 pub mod Passing

@@ -1,4 +1,4 @@
--- What the functions of `seeks` promise each other: how the definitions are told by the code's enums.
+-- What the functions of `seekhead` promise each other: how the definitions are told by the code's enums.
 use Prim.Native.Nat.{ℕ, _+_, _≤_, _<_}
 use mathlib.Core.Path.{_≡_}
 use mathlib.Core.List.{List}

@@ -1,4 +1,4 @@
--- The definitions that the contracts of `seekhead_rules` cite.
+-- The definitions that the contracts of `seekhead` cite.
 pub mod Seeks
 pub mod Table
 pub mod Contract

@@ -1,3 +1,3 @@
--- The laws that the proofs of `segments_rules` share.
+-- The laws that the proofs of `segments` share.
 pub mod Before
 pub mod Walking

@@ -1,3 +1,3 @@
--- The definitions that the contracts of `segments_rules` cite.
+-- The definitions that the contracts of `segments` cite.
 pub mod Walk
 pub mod Contract

@@ -1,4 +1,4 @@
--- The laws that the proofs of `tags_rules` share, and its theorems.
+-- The laws that the proofs of `tags` share, and the theorems.
 pub mod Tags
 pub mod Unique
 pub mod Addressed

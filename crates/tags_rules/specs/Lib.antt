@@ -1,4 +1,4 @@
--- The definitions that the contracts of `tags_rules` cite, and the statements of its theorems.
+-- The definitions that the contracts of `tags` cite, and the statements of its theorems.
 pub mod Records
 pub mod Told
 pub mod Promise

@@ -1,4 +1,4 @@
--- The laws that the proofs of `tracks_rules` share, and its theorems.
+-- The laws that the proofs of `tracks` share, and the theorems.
 pub mod Decided
 pub mod Unique
 pub mod Addressed

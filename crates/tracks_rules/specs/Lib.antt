@@ -1,4 +1,4 @@
--- The definitions that the contracts of `tracks_rules` cite, and the statements of its theorems.
+-- The definitions that the contracts of `tracks` cite, and the statements of its theorems.
 pub mod Typed
 pub mod Settings
 pub mod Records

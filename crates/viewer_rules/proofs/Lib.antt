@@ -1,4 +1,4 @@
--- What the proofs of `viewer_rules` share, and its theorems.
+-- What the proofs of `viewer` share, and the theorems.
 pub mod Crossing
 pub mod Unique
 pub mod Numbers

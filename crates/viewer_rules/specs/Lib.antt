@@ -1,4 +1,4 @@
--- The definitions that the contracts of `viewer_rules` cite, and the statements of its theorems.
+-- The definitions that the contracts of `viewer` cite, and the statements of its theorems.
 pub mod Faces
 pub mod Promise
 pub mod Theorems

@@ -1,4 +1,5 @@
 // The answer of `uz_find_part`.
+
 // `uz_part` of include/uzrafmed.h.
 #[repr(C)]
 pub struct UzPart {

@@ -1,4 +1,5 @@
 // The answer of `uz_row_payload`.
+
 // `uz_range` of include/uzrafmed.h.
 #[repr(C)]
 pub struct UzRange {

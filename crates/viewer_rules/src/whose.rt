@@ -1,4 +1,5 @@
 // The answer of `uz_whose_byte`.
+
 // `uz_place` of include/uzrafmed.h.
 #[repr(C)]
 pub struct UzPlace {
