@@ -1,9 +1,9 @@
 // `body ID PARENT AT SIZE BYTES`: the body of an id under a parent id, at a place of a recording.
+use answers::told;
+use answers::told::Told;
 use bodies_rules::Body;
 use bodies_rules::BodyReply;
 use questions::asked::Asked;
-use questions::told;
-use questions::told::Told;
 
 pub fn body(asked: Asked, recording: &[u8]) -> Told {
     let reply = bodies::body_at(recording, asked.id, asked.parent, asked.at, asked.size);

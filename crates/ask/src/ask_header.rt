@@ -1,8 +1,8 @@
 // `header AT BYTES`: the header at a place of a recording.
+use answers::told;
+use answers::told::Told;
 use header::HeaderReply;
 use questions::asked::Asked;
-use questions::told;
-use questions::told::Told;
 
 pub fn header(asked: Asked, recording: &[u8]) -> Told {
     header_told(header::header_at(recording, asked.at))

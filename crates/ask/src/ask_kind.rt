@@ -1,8 +1,8 @@
 // `kind ID PARENT`: the kind of an id under a parent id.
+use answers::told;
+use answers::told::Told;
 use kinds::Kind;
 use questions::asked::Asked;
-use questions::told;
-use questions::told::Told;
 
 // `kind K`
 pub fn kind(asked: Asked) -> Told {

@@ -1,7 +1,7 @@
 // `part ID NUMBERS BYTES`: a part of a recording, found by the search and read into a table.
+use answers::told;
+use answers::told::Told;
 use questions::asked::Asked;
-use questions::told;
-use questions::told::Told;
 use search_rules::PartReply;
 
 pub fn part(asked: Asked, recording: &[u8], table: &mut [u64]) -> Told {

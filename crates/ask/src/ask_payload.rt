@@ -1,9 +1,9 @@
 // `payload START SIZE PARENT NUMBERS ROW BYTES`: the payload of a row, after the read of its table.
+use answers::told;
+use answers::told::Told;
 use elements_rules::ReadReply;
 use places_rules::RangeReply;
 use questions::asked::Asked;
-use questions::told;
-use questions::told::Told;
 
 pub fn payload(asked: Asked, recording: &[u8], table: &mut [u64]) -> Told {
     let reply = elements::read(recording, asked.at, asked.size, asked.parent, table);

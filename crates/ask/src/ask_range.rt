@@ -1,8 +1,8 @@
 // `range N,N,.. ROW BYTES`: where the payload of a row of the table given lies.
+use answers::told;
+use answers::told::Told;
 use places_rules::RangeReply;
 use questions::asked::Asked;
-use questions::told;
-use questions::told::Told;
 
 // `at RANGE`
 pub fn range(asked: Asked, recording: &[u8], table: &[u64]) -> Told {

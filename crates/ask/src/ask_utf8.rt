@@ -1,6 +1,6 @@
 // `utf8 BYTES`: whether the bytes are UTF-8.
-use questions::told;
-use questions::told::Told;
+use answers::told;
+use answers::told::Told;
 
 // `utf8 yes` or `utf8 no`
 pub fn utf8(bytes: &[u8]) -> Told {

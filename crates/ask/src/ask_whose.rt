@@ -1,8 +1,8 @@
 // `whose START SIZE PARENT ADDRESS NUMBERS BYTES`: the row whose header or leaf payload holds an address.
+use answers::told;
+use answers::told::Told;
 use places_rules::WhoseReply;
 use questions::asked::Asked;
-use questions::told;
-use questions::told::Told;
 
 pub fn whose(asked: Asked, recording: &[u8], table: &mut [u64]) -> Told {
     let reply = places::whose_byte(

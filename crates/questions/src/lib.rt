@@ -1,6 +1,4 @@
-// What the questions of the program `ask` share: their list, what a line asks, its table, and what an answer tells.
-pub mod answer;
+// What the questions of the program `ask` share: their list, what a line asks, and its table.
 pub mod asked;
 pub mod list;
 pub mod table;
-pub mod told;

@@ -1,8 +1,8 @@
 // `attachment START SIZE NUMBERS K BYTES`: an attached file.
+use answers::told;
+use answers::told::Told;
 use attachments::Attachment;
 use attachments::AttachmentReply;
-use questions::told;
-use questions::told::Told;
 
 // `description RANGE name RANGE mime RANGE data RANGE`
 pub fn attachment(reply: AttachmentReply) -> Told {

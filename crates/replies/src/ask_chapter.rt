@@ -1,8 +1,8 @@
 // `chapter START SIZE NUMBERS K I BYTES`: a chapter of an edition.
+use answers::told;
+use answers::told::Told;
 use chapters::Chapter;
 use chapters::ChapterReply;
-use questions::told;
-use questions::told::Told;
 
 // `uid N start N end N hidden F enabled F segment RANGE edition N displays COUNT`
 pub fn chapter(reply: ChapterReply) -> Told {

@@ -1,8 +1,8 @@
 // `display START SIZE NUMBERS K I J BYTES`: what a chapter is shown as.
+use answers::told;
+use answers::told::Told;
 use chapters::ChapterDisplay;
 use chapters::DisplayReply;
-use questions::told;
-use questions::told::Told;
 
 // `string RANGE`, and the language.
 pub fn display(reply: DisplayReply) -> Told {

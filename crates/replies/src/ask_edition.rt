@@ -1,8 +1,8 @@
 // `edition START SIZE NUMBERS K BYTES`: an edition of chapters.
+use answers::told;
+use answers::told::Told;
 use chapters::ChapterEdition;
 use chapters::EditionReply;
-use questions::told;
-use questions::told::Told;
 
 // `uid N hidden F default F ordered F chapters COUNT`
 pub fn edition(reply: EditionReply) -> Told {

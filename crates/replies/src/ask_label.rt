@@ -1,9 +1,9 @@
 // `label RANGE LABEL BYTES`: the label of a boot stage.
+use answers::answer::bad;
 use bodies_rules::Range;
 use fields_rules::Content;
 use labels::stage_label;
 use lines::numbers;
-use questions::answer::bad;
 use questions::asked::Asked;
 use words::Spelt;
 

@@ -1,9 +1,9 @@
 // `shown START SIZE PARENT NUMBERS ROW BYTES`: the shown text of a row, after the read of its table.
+use answers::told;
+use answers::told::Told;
 use elements_rules::ReadReply;
 use places_rules::RangeReply;
 use questions::asked::Asked;
-use questions::told;
-use questions::told::Told;
 
 // The refusal of the read, or `text RANGE HEX`
 pub fn shown(read: ReadReply, text: RangeReply) -> Told {

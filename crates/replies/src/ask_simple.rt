@@ -1,6 +1,6 @@
 // `simple START SIZE NUMBERS K I BYTES`: a simple tag of a tag.
-use questions::told;
-use questions::told::Told;
+use answers::told;
+use answers::told::Told;
 use tags_rules::SimpleReply;
 use tags_rules::SimpleTag;
 

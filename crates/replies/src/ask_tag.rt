@@ -1,7 +1,7 @@
 // `tag START SIZE NUMBERS K BYTES`: a tag.
+use answers::told;
+use answers::told::Told;
 use fields_rules::Flag;
-use questions::told;
-use questions::told::Told;
 use tags_rules::Tag;
 use tags_rules::TagReply;
 use tags_rules::Target;

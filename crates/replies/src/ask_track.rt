@@ -1,11 +1,11 @@
 // `track START SIZE NUMBERS K BYTES`: a track, and its settings.
 use crate::ask_audio::with_audio;
 use crate::ask_tracktype::type_index;
+use answers::told;
+use answers::told::Told;
 use fields_rules::Number;
 use media_rules::Stereo;
 use media_rules::Video;
-use questions::told;
-use questions::told::Told;
 use tracks_rules::Settings;
 use tracks_rules::Track;
 use tracks_rules::TrackReply;

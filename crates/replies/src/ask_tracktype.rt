@@ -1,7 +1,7 @@
 // `tracktype N`: the type of a track by its number.
+use answers::told;
+use answers::told::Told;
 use codes::Tracktype;
-use questions::told;
-use questions::told::Told;
 
 // The type by its name.
 pub fn tracktype(tracktype: Tracktype) -> Told {

@@ -1,6 +1,6 @@
 // `uid START SIZE NUMBERS K LIST I BYTES`: a member of one of a tag's uid lists.
-use questions::told;
-use questions::told::Told;
+use answers::told;
+use answers::told::Told;
 use tags_rules::UidList;
 use tags_rules::UidReply;
 

@@ -1,5 +1,5 @@
 // An answer as text, behind what the output holds already.
-use crate::table;
+use crate::rows;
 use crate::told;
 use crate::told::Told;
 use lines::numbers;
@@ -101,12 +101,12 @@ fn put_ending(
     match ending {
         told::ROWS | told::REST => {
             let n = put_word(before, b"rows", out, held);
-            table::put_rows(a, ending == told::ROWS, table, out, n)
+            rows::put_rows(a, ending == told::ROWS, table, out, n)
         }
         told::REFUSED => put_refused(a, b, out, held),
         told::UNREAD => {
             let n = put_refused(a, b, out, held);
-            table::put_zeros(b" table ", table, 0, out, n)
+            rows::put_zeros(b" table ", table, 0, out, n)
         }
         _ => held,
     }

@@ -2,8 +2,8 @@
 use borrow.Author.Needs.{needs}
 use Prim.Native.Nat.{_-_, _≤_}
 use Rattle.elements_rules.specs.Rows.{width}
-use Rattle.questions.proofs.table.put_row.Statement.{statement}
-use Rattle.questions.proofs.table.put_row.Tie as tie
+use Rattle.answers.proofs.rows.put_row.Statement.{statement}
+use Rattle.answers.proofs.rows.put_row.Tie as tie
 
 abbrev Inv-loop : tie.InvT-loop
 Inv-loop table at out₀ held now₀ k₀ t8 out now k = k ≤ width

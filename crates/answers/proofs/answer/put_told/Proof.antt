@@ -1,8 +1,8 @@
 -- `put_told` is safe and ends: the cells that it tells lie in the answer. Assumes nothing.
 use borrow.Author.Needs.{needs}
 use Prim.Native.Nat.{_-_, _≤_}
-use Rattle.questions.proofs.answer.put_told.Statement.{statement}
-use Rattle.questions.proofs.answer.put_told.Tie as tie
+use Rattle.answers.proofs.answer.put_told.Statement.{statement}
+use Rattle.answers.proofs.answer.put_told.Tie as tie
 
 abbrev Inv-loop : tie.InvT-loop
 Inv-loop entry bytes table out₀ held told count now₀ k₀ out now k = k ≤ 32

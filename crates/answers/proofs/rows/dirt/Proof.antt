@@ -2,8 +2,8 @@
 use borrow.Author.Needs.{needs}
 use Prim.Native.Nat.{_-_}
 use lib.ListN.{length}
-use Rattle.questions.proofs.table.dirt.Statement.{statement}
-use Rattle.questions.proofs.table.dirt.Tie as tie
+use Rattle.answers.proofs.rows.dirt.Statement.{statement}
+use Rattle.answers.proofs.rows.dirt.Tie as tie
 
 abbrev Inv-loop : tie.InvT-loop
 Inv-loop table from i₀ i = Unit

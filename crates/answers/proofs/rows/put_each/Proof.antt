@@ -1,8 +1,8 @@
 -- `put_each` is safe and ends: each row that it tells lies in the table. Assumes nothing.
 use borrow.Author.Needs.{needs}
 use Prim.Native.Nat.{_-_, _≤_}
-use Rattle.questions.proofs.table.put_each.Statement.{statement}
-use Rattle.questions.proofs.table.put_each.Tie as tie
+use Rattle.answers.proofs.rows.put_each.Statement.{statement}
+use Rattle.answers.proofs.rows.put_each.Tie as tie
 
 abbrev Inv-loop : tie.InvT-loop
 Inv-loop rows told table out₀ held now₀ k₀ out now k = k ≤ rows
