@@ -1,5 +1,4 @@
 // The program `ask`: one question a line on standard input, one answer a line on standard output.
-mod answers;
 mod ask_body;
 mod ask_header;
 mod ask_kind;
@@ -9,6 +8,7 @@ mod ask_range;
 mod ask_read;
 mod ask_utf8;
 mod ask_whose;
+mod line;
 mod stream;
 
 fn main() {

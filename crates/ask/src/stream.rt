@@ -2,7 +2,7 @@
 ghost use Prim.Native.Nat.{_≤_, _<_};
 ghost use lib.ListN.{length};
 ghost use Rattle.ask.specs.Bounds.{Roomy};
-use crate::answers::answer;
+use crate::line::answer;
 use lines::input;
 use lines::input::Got;
 use lines::out;

@@ -1,5 +1,5 @@
 // The questions for records, track types and shown text, by their numbers in the list of questions
-// (crates/ask/src/answers.rt).
+// (crates/ask/src/line.rt).
 use crate::ask_attachment::attachment;
 use crate::ask_audio::audio;
 use crate::ask_chapter::chapter;

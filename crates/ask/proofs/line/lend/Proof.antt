@@ -3,8 +3,8 @@ use borrow.Author.Needs.{needs}
 use mathlib.Core.Path.{sym}
 use native.Mathlib.Omega.{arith}
 use lib.Seq.{length-take-le}
-use Rattle.ask.proofs.answers.lend.Statement.{statement}
-use Rattle.ask.proofs.answers.lend.Tie as tie
+use Rattle.ask.proofs.line.lend.Statement.{statement}
+use Rattle.ask.proofs.line.lend.Tie as tie
 
 slice-aggregate-reply : tie.Need-slice-aggregate-reply
 slice-aggregate-reply c =
