@@ -13,7 +13,7 @@ use fields_rules::TagValue;
 use header::Refusal;
 use lines::numbers;
 
-// Room for 32 cells. No answer has more.
+// Room for 32 cells. The longest answer, a video track, has 28; a cell more than fits would be left out.
 pub const ROOM: usize = 164;
 
 pub type Told = [u64; ROOM];

@@ -1,4 +1,4 @@
-// The list of questions: a line for each, with its name, its form, and the words of its answer.
+// A question's line in the list of questions, which has its name, its form, and the words of its answer.
 ghost use Prim.Native.Nat.{_≤_};
 ghost use lib.ListN.{length};
 
