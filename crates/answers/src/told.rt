@@ -10,8 +10,8 @@ use fields_rules::Language;
 use fields_rules::Number;
 use fields_rules::Real;
 use fields_rules::TagValue;
-use header::Refusal;
 use lines::numbers;
+use refusals::Refusal;
 
 // Room for 32 cells. The longest answer, a video track, has 28; a cell more than fits would be left out.
 pub const ROOM: usize = 164;

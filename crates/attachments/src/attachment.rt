@@ -8,12 +8,12 @@ ghost use Rattle.attachments.specs.Promise.{AttachmentPromise};
 use fields::content_field;
 use fields_rules::Below;
 use fields_rules::Content;
-use header::Refusal;
 use kinds::Kind;
 use kinds::ids;
 use locate::locate;
 use locate_rules::Located;
 use locate_rules::Step;
+use refusals::Refusal;
 
 pub struct Attachment {
     pub description: Content,

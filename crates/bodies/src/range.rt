@@ -8,8 +8,9 @@ ghost use Rattle.bodies_rules.specs.Reads.{bodyRead};
 use bodies_rules::Body;
 use bodies_rules::BodyRead;
 use bodies_rules::Range;
+use bodies_rules::Value;
 use header::Cursor;
-use header::Refusal;
+use refusals::Cause;
 use utf8::is_utf8;
 
 // Whether the recording has `size` bytes at the place.
@@ -29,16 +30,19 @@ pub fn read_text(place: Cursor, recording: &[u8], size: u64) -> BodyRead
     ensures { λ r. ⌜ r ≡ bodyRead Utf8 (now (recording .entry)) (place .at) size ⌝ }
 {
     if !is_there(place, recording, size) {
-        return BodyRead::Refused(Refusal::past_end());
+        return BodyRead::Refused(Cause::PastEnd);
     }
     let at = place.at;
     let end = at + size;
     let first = at as usize;
     let last = end as usize;
     if !is_utf8(&recording[first..last]) {
-        return BodyRead::Refused(Refusal::not_utf8());
+        return BodyRead::Refused(Cause::NotUtf8);
     }
-    BodyRead::Read(Body::Text(Range { at, length: size }), Cursor { at: end })
+    BodyRead::Read(
+        Body::Value(Value::Text(Range { at, length: size })),
+        Cursor { at: end },
+    )
 }
 
 // Any bytes.
@@ -46,9 +50,12 @@ pub fn read_bytes(place: Cursor, recording: &[u8], size: u64) -> BodyRead
     ensures { λ r. ⌜ r ≡ bodyRead Binary (now (recording .entry)) (place .at) size ⌝ }
 {
     if !is_there(place, recording, size) {
-        return BodyRead::Refused(Refusal::past_end());
+        return BodyRead::Refused(Cause::PastEnd);
     }
     let at = place.at;
     let end = at + size;
-    BodyRead::Read(Body::Bytes(Range { at, length: size }), Cursor { at: end })
+    BodyRead::Read(
+        Body::Value(Value::Bytes(Range { at, length: size })),
+        Cursor { at: end },
+    )
 }

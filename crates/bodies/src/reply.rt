@@ -5,10 +5,12 @@ use bodies_rules::Body;
 use bodies_rules::BodyRead;
 use bodies_rules::BodyReply;
 use header::Cursor;
+use header::Headed;
 use header::Header;
 use header::MOST_BYTES;
-use header::Refusal;
 use kinds::kind_of;
+use refusals::Cause;
+use refusals::Refusal;
 
 // The body of `size` bytes at a place. 14: the recording is too long, or the place is past its end.
 pub fn body_at(recording: &[u8], id: u32, parent: u32, at: u64, size: u64) -> BodyReply
@@ -16,21 +18,29 @@ pub fn body_at(recording: &[u8], id: u32, parent: u32, at: u64, size: u64) -> Bo
 {
     let length = recording.len() as u64;
     if MOST_BYTES < length {
-        return BodyReply::Refused(Refusal::bad_argument());
+        return BodyReply::Refused(Refusal {
+            cause: Cause::BadArgument,
+        });
     }
     if length < at {
-        return BodyReply::Refused(Refusal::bad_argument());
+        return BodyReply::Refused(Refusal {
+            cause: Cause::BadArgument,
+        });
     }
     let kind = kind_of(id, parent);
     // The caller names the payload, so that no byte is a header's.
-    let named = Header {
-        id,
-        size,
-        length: 0,
-    };
     let place = Cursor { at };
-    match read_body(place, recording, named, kind) {
+    let element = Headed {
+        place,
+        payload: place,
+        header: Header {
+            id,
+            size,
+            length: 0,
+        },
+    };
+    match read_body(recording, element, kind) {
         BodyRead::Read(body, _) => BodyReply::Body(body),
-        BodyRead::Refused(refusal) => BodyReply::Refused(refusal),
+        BodyRead::Refused(cause) => BodyReply::Refused(Refusal { cause }),
     }
 }

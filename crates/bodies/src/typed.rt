@@ -5,27 +5,27 @@ use crate::range::read_bytes;
 use crate::range::read_text;
 use bodies_rules::Body;
 use bodies_rules::BodyRead;
-use header::Cursor;
-use header::Header;
+use header::Headed;
 use kinds::Kind;
 use number_bodies::read_date;
 use number_bodies::read_float;
 use number_bodies::read_int;
 use number_bodies::read_uint;
 
-// The body after a header that was read, at the place where its payload begins. Of a master nothing is tested here.
-pub fn read_body(place: Cursor, recording: &[u8], header: Header, kind: Kind) -> BodyRead
-    ensures { λ r. ⌜ r ≡ bodyRead kind (now (recording .entry)) (place .at) (header .size) ⌝ }
+// The body of an element whose header was read. Of a master nothing is tested here.
+pub fn read_body(recording: &[u8], element: Headed, kind: Kind) -> BodyRead
+    ensures { λ r. ⌜ r ≡ bodyRead kind (now (recording .entry)) (element .payload .at) (element .header .size) ⌝ }
 {
-    let size = header.size;
+    let payload = element.payload;
+    let size = element.header.size;
     match kind {
-        Kind::Master => BodyRead::Read(Body::Master, place),
-        Kind::Int => read_int(place, recording, size),
-        Kind::Uint => read_uint(place, recording, size),
-        Kind::String => read_text(place, recording, size),
-        Kind::Utf8 => read_text(place, recording, size),
-        Kind::Binary => read_bytes(place, recording, size),
-        Kind::Float => read_float(place, recording, size),
-        Kind::Date => read_date(place, recording, size),
+        Kind::Master => BodyRead::Read(Body::Master, payload),
+        Kind::Int => read_int(payload, recording, size),
+        Kind::Uint => read_uint(payload, recording, size),
+        Kind::String => read_text(payload, recording, size),
+        Kind::Utf8 => read_text(payload, recording, size),
+        Kind::Binary => read_bytes(payload, recording, size),
+        Kind::Float => read_float(payload, recording, size),
+        Kind::Date => read_date(payload, recording, size),
     }
 }

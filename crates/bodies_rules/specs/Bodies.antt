@@ -4,33 +4,30 @@ use mathlib.Core.List.{List}
 use mathlib.Core.Bool.{cond, _||_}
 use lib.ListN.{length, take, drop}
 use lib.Dec.{leb, eqb}
-use lib.IntN.{ℤ}
-use lib.Ieee.{Float}
+use Rattle.refusals.specs.declared.refusal.Cause.{Cause}
+use Rattle.refusals.specs.declared.refusal.Cause.the-variants.{PastEnd, InvalidUint, InvalidFloat, InvalidDate, NotUtf8}
 use Rattle.header.specs.Vint.{bigEndian}
-use Rattle.header.specs.Refusals.{pastEnd, invalidUint, invalidFloat, invalidDate, notUtf8}
-use Rattle.header.specs.declared.refusal.Refusal.{Refusal}
 use Rattle.kinds.specs.declared.kind.Kind.{Kind}
-use Rattle.kinds.specs.declared.kind.Kind.the-variants.{Master, Int, Uint, String, Utf8, Binary, Date}
-use Rattle.kinds.specs.declared.kind.Kind.the-variants.{Float as FloatKind}
+use Rattle.kinds.specs.declared.kind.Kind.the-variants.{Master, Int, Uint, String, Utf8, Binary, Float, Date}
 use Rattle.utf8.specs.Utf8.{utf8}
 use Rattle.bodies_rules.specs.Numbers.{signedOf, floatOf}
+use Rattle.bodies_rules.specs.declared.body.Body.{Body}
+use Rattle.bodies_rules.specs.declared.body.Body.the-variants.{Value as ValueIs, Master as MasterIs}
+use Rattle.bodies_rules.specs.declared.body.Value.{Value}
+use Rattle.bodies_rules.specs.declared.body.Value.the-variants.{Integer, Unsigned, Text, Bytes}
+use Rattle.bodies_rules.specs.declared.body.Value.the-variants.{Float as FloatIs, Date as DateIs}
 
--- A body in document 01's own terms: its case with the values of that case, or a refusal's number with the id that 8
--- carries.
+-- A body, which is a value by its case or a master; or why there is none. Whose body it is is known to whoever read the
+-- header.
 pub data Told : Type 0 where
-  integer : ℤ → Told
-  unsigned : ℕ → Told
-  float : Float → Told
-  -- nanoseconds from 2001-01-01
-  date : ℤ → Told
-  -- the address of the first byte, and how many there are
-  text : ℕ → ℕ → Told
-  bytes : ℕ → ℕ → Told
-  master : Told
-  refusal : ℕ → ℕ → Told
+  body : Body → Told
+  refused : Cause → Told
 
-abbrev pub refuses : Refusal → Told
-refuses e = refusal (e .number) (e .id)
+abbrev pub value : Value → Told
+value v = body (ValueIs v)
+
+abbrev pub master : Told
+master = body MasterIs
 
 module _ (s : List ℕ) (at size : ℕ) where
   -- The octets of the body.
@@ -43,19 +40,19 @@ module _ (s : List ℕ) (at size : ℕ) where
 
   -- What is told if the recording has those octets; else 1.
   abbrev pub ifThere : Told → Told
-  ifThere t = cond (leb (at + size) (length s)) t (refuses pastEnd)
+  ifThere t = cond (leb (at + size) (length s)) t (refused PastEnd)
 
   -- A text of either kind.
   abbrev pub textOf : Told
-  textOf = cond (utf8 payload) (text at size) (refuses notUtf8)
+  textOf = cond (utf8 payload) (value (Text (record { at = at; length = size }))) (refused NotUtf8)
 
   -- The size is tested first, then the end of the recording, then the text.
   unfoldable pub bodyOf : Kind → Told
   bodyOf Master = master
-  bodyOf Int = cond (leb size 8) (ifThere (integer (signedOf size number))) (refuses invalidUint)
-  bodyOf Uint = cond (leb size 8) (ifThere (unsigned number)) (refuses invalidUint)
+  bodyOf Int = cond (leb size 8) (ifThere (value (Integer (signedOf size number)))) (refused InvalidUint)
+  bodyOf Uint = cond (leb size 8) (ifThere (value (Unsigned number))) (refused InvalidUint)
   bodyOf String = ifThere textOf
   bodyOf Utf8 = ifThere textOf
-  bodyOf Binary = ifThere (bytes at size)
-  bodyOf FloatKind = cond (eqb size 4 || eqb size 8) (ifThere (float (floatOf size number))) (refuses invalidFloat)
-  bodyOf Date = cond (eqb size 8) (ifThere (date (signedOf size number))) (refuses invalidDate)
+  bodyOf Binary = ifThere (value (Bytes (record { at = at; length = size })))
+  bodyOf Float = cond (eqb size 4 || eqb size 8) (ifThere (value (FloatIs (floatOf size number)))) (refused InvalidFloat)
+  bodyOf Date = cond (eqb size 8) (ifThere (value (DateIs (signedOf size number)))) (refused InvalidDate)

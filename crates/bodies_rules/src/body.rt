@@ -1,6 +1,6 @@
 // What a body is: a value by its kind, or a master.
 use header::Cursor;
-use header::Refusal;
+use refusals::Cause;
 
 // A part of the recording: the address of its first byte, and how many bytes it has.
 pub struct Range {
@@ -8,8 +8,8 @@ pub struct Range {
     pub length: u64,
 }
 
-// A value whose case is integer, unsigned, float, date, text or bytes, or it is a master.
-pub enum Body {
+// A value by its case.
+pub enum Value {
     Integer(i64),
     Unsigned(u64),
     Float(f64),
@@ -17,11 +17,16 @@ pub enum Body {
     Date(i64),
     Text(Range),
     Bytes(Range),
+}
+
+// A value, or it is a master.
+pub enum Body {
+    Value(Value),
     Master,
 }
 
-// A body with the place after it, or a refusal. A master's payload is still to be read: the place is where it begins.
+// A body with the place after it, or why there is none. A master's payload is still to be read: the place is where it begins.
 pub enum BodyRead {
     Read(Body, Cursor),
-    Refused(Refusal),
+    Refused(Cause),
 }

@@ -5,4 +5,5 @@ mod reply;
 pub use body::Body;
 pub use body::BodyRead;
 pub use body::Range;
+pub use body::Value;
 pub use reply::BodyReply;

@@ -1,6 +1,6 @@
 // The reply of `body_at`.
 use crate::body::Body;
-use header::Refusal;
+use refusals::Refusal;
 
 // The body, or a refusal.
 pub enum BodyReply {

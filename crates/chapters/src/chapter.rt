@@ -13,12 +13,12 @@ use fields_rules::Below;
 use fields_rules::Content;
 use fields_rules::Flag;
 use fields_rules::Number;
-use header::Refusal;
 use kinds::Kind;
 use kinds::ids;
 use locate::locate;
 use locate_rules::Located;
 use locate_rules::Step;
+use refusals::Refusal;
 
 pub struct Chapter {
     pub uid: Number,

@@ -10,12 +10,12 @@ use fields::language_field;
 use fields_rules::Below;
 use fields_rules::Content;
 use fields_rules::Language;
-use header::Refusal;
 use kinds::Kind;
 use kinds::ids;
 use locate::locate;
 use locate_rules::Located;
 use locate_rules::Step;
+use refusals::Refusal;
 
 pub struct ChapterDisplay {
     pub string: Content,

@@ -9,8 +9,9 @@ use elements_rules::ElementRead;
 use elements_rules::Mode;
 use elements_rules::ReadReply;
 use header::Cursor;
-use header::Refusal;
 use kinds::TABLE;
+use refusals::Cause;
+use refusals::Refusal;
 use rowstore::clear;
 use rowstore::is_allowed;
 
@@ -46,7 +47,9 @@ pub fn read(recording: &[u8], start: u64, size: u64, parent: u32, table: &mut [u
 {
     clear(table);
     if !is_allowed(recording, start, table) {
-        return ReadReply::Refused(Refusal::bad_argument());
+        return ReadReply::Refused(Refusal {
+            cause: Cause::BadArgument,
+        });
     }
     fill(recording, start, size, parent, table)
 }

@@ -10,7 +10,7 @@ use lib.Dec.{ltb}
 use borrow.Author.Tests.{ltb-true, ltb-false}
 use Rattle.header.specs.Vint.{octetBits, bits, oneMore, widthOf, bigEndianFrom, bigEndian, ofWidth, vintOf}
 use Rattle.header.specs.Header.{sized, named, headerOf}
-use Rattle.header.specs.Reply.{accepted}
+use Rattle.refusals.specs.Reply.{accepted}
 use Rattle.kinds.specs.Elements.{elements}
 use Rattle.kinds.specs.Kinds.{kindIn, keeps, kindUnder}
 use Rattle.bodies_rules.specs.Bodies.{bodyOf}
@@ -331,7 +331,7 @@ abbrev read-nested : Outcome
 read-nested = readOf nested 0 8 0 (4 * width)
 
 unfoldable computed : Type 0
-computed = (replyOf read-nested ≡ accepted (4 ∷ [])) × (tableOf 0 (4 * width) read-nested ≡ nestedTable)
+computed = (replyOf read-nested ≡ accepted 4) × (tableOf 0 (4 * width) read-nested ≡ nestedTable)
 
 nested-read : computed
 unfolding computed octetBits bits oneMore widthOf bigEndianFrom bigEndian ofWidth vintOf sized named headerOf

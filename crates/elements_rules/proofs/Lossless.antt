@@ -9,7 +9,7 @@ use lib.Seq.{take-add, drop-drop}
 use lib.Dec.{eqb}
 use borrow.Author.Tests.{eqb-true}
 use Rattle.header.specs.Header.{heading, headerOf}
-use Rattle.header.specs.Reads.{headerAt}
+use Rattle.header.specs.Reads.{headedAt, headerAt}
 use Rattle.header.specs.Theorems.{Octets}
 use Rattle.header.specs.declared.cursor.Header.{Header}
 use Rattle.header.specs.declared.cursor.HeaderRead.the-variants.{Read}
@@ -57,10 +57,9 @@ each-right P (r ∷ rs) ss a = each-right P rs ss (a .1)
 
 module _ (s s′ : List ℕ) (o : Octets s) (o′ : Octets s′) where
   same-header : (at : ℕ) (h : Header) → headerOf (drop at s) ≡ heading h
-      → headerAt s′ at ≡ Read h (record { at = at + h .length }) → part s at (h .length) ≡ part s′ at (h .length)
+      → headerAt s′ at ≡ Read (headedAt at h) → part s at (h .length) ≡ part s′ at (h .length)
   same-header at h q r =
-      header-determined s s′ o o′ at at h (record { at = at + h .length }) (record { at = at + h .length })
-      (header-there s at h q) r
+      header-determined s s′ o o′ at at h (header-there s at h q) r
 
   same-payload : (id parent depth at after : ℕ) (e : Element) (kids : Forest) → StandsAt s id at e kids
       → SameLeaf s s′ (rowOf e parent depth at after)
@@ -114,7 +113,7 @@ with-headers : (s : List ℕ) (rs : List Row) → Each (Sound s) rs → Each Has
 unfolding Each HasHeader
 with-headers s [] a = tt
 with-headers s (r ∷ rs) a =
-    let q = header-read s (r .address) _ _ (a .0 .head) .0 in
+    let q = header-read s (r .address) _ (a .0 .head) .0 in
     (header-inside s (r .address) _ q .0, with-headers s rs (a .1))
 
 -- ---- the theorem

@@ -7,7 +7,7 @@ use native.Mathlib.Omega.{arith}
 use Rattle.header.specs.Header.{Heading, heading}
 use Rattle.header.specs.Header.{refused as refusedHeader}
 use Rattle.header.specs.declared.cursor.Header.{Header}
-use Rattle.header.specs.declared.refusal.Refusal.{Refusal}
+use Rattle.refusals.specs.declared.refusal.Refusal.{Refusal}
 use Rattle.elements_rules.specs.Forest.{Element, Forest, none, node, join}
 use Rattle.elements_rules.specs.Reading.{Outcome, done, refused, andThen, prepend, above, refuseIf, headed}
 
@@ -53,7 +53,7 @@ of-headed {x} {k} {f} q = go x q
   where
     go : (y : Heading) → headed y k ≡ done f → (h : Header) × (y ≡ heading h) × (k h ≡ done f)
     go (heading h) w = (h, refl, w)
-    go (refusedHeader e) w = never w
+    go (refusedHeader c) w = never w
 
 -- Either way of a choice.
 pub of-cond : {C : Type 0} (b : Bool) {a a′ o : Outcome} → cond b a a′ ≡ o

@@ -7,7 +7,7 @@ use lib.ListN.{drop}
 use lib.Dec.{eqb}
 use borrow.Author.Tests.{eqb-true, ltb-false}
 use Rattle.header.specs.Header.{heading, headerOf}
-use Rattle.header.specs.Refusals.{tooDeep}
+use Rattle.refusals.specs.Refusals.{tooDeep}
 use Rattle.header.specs.declared.cursor.Header.{Header}
 use Rattle.kinds.specs.Kinds.{kindUnder}
 use Rattle.bodies_rules.specs.Bodies.{bodyOf}

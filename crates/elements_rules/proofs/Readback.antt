@@ -4,7 +4,7 @@ use mathlib.Core.Path.{_≡_, refl, sym, ap, _∙_}
 use mathlib.Core.List.{List, [], _∷_, _++_}
 use native.Mathlib.Omega.{arith}
 use lib.ListN.{length, length-append, length-replicate}
-use Rattle.header.specs.Reply.{accepted}
+use Rattle.refusals.specs.Reply.{accepted}
 use Rattle.elements_rules.specs.Forest.{Forest, count}
 use Rattle.elements_rules.specs.Reading.{Outcome, done, refused}
 use Rattle.elements_rules.specs.Rows.{rows, width, flat, flatten, firstRow, rowsOf}
@@ -29,7 +29,7 @@ pub record Accepted (s : List ℕ) (start size parent numbers n : ℕ) (t′ : L
   pub fits : n ≤ numbers / width
   pub as-long : length t′ ≡ numbers
 
-told-rows : (n : ℕ) (o : Outcome) → accepted (n ∷ []) ≡ replyOf o → (f : Forest) × (o ≡ done f) × (n ≡ count f)
+told-rows : (n : ℕ) (o : Outcome) → accepted n ≡ replyOf o → (f : Forest) × (o ≡ done f) × (n ≡ count f)
 told-rows n (done f) q = (f, refl, cc)
 told-rows n (refused e) q = let z : _≡_ {A = ℕ} 0 1 = cc in absurd (omega arith)
 

@@ -8,12 +8,14 @@ use native.Mathlib.Omega.{arith}
 use lib.ListN.{length, drop}
 use borrow.Author.Tests.{le-ltb, lt-ltb, ne-eqb}
 use Rattle.header.specs.Header.{heading, headerOf}
-use Rattle.header.specs.Refusals.{overrun, tooDeep, noFreeRow}
+use Rattle.refusals.specs.Refusals.{because, overrun, tooDeep, noFreeRow}
 use Rattle.header.specs.Reads.{headerAt}
 use Rattle.header.specs.declared.cursor.Cursor.{Cursor}
+use Rattle.header.specs.declared.cursor.Headed.{Headed}
 use Rattle.header.specs.declared.cursor.Header.{Header}
 use Rattle.header.specs.declared.cursor.HeaderRead.the-variants.{Read as HeaderIs, Refused as HeaderRefused}
-use Rattle.header.specs.declared.refusal.Refusal.{Refusal}
+use Rattle.refusals.specs.declared.refusal.Cause.{Cause}
+use Rattle.refusals.specs.declared.refusal.Refusal.{Refusal}
 use Rattle.header.proofs.Inside.{header-read, header-refused}
 use Rattle.kinds.specs.Kinds.{numberOf, kindUnder}
 use Rattle.bodies_rules.specs.Bodies.{bodyOf}
@@ -48,9 +50,12 @@ module _ (s : List ℕ) (mode : Mode) (cap depth parent at n : ℕ) where
       go zero = rw (header-refused s at e q)
       go (suc l) = rw (header-refused s at e q)
 
-  module _ (h : Header) (next : Cursor) (q : headerAt s at ≡ HeaderIs h next) where
+  module _ (x : Headed) (q : headerAt s at ≡ HeaderIs x) where
+    abbrev h : Header
+    h = x .header
+
     head : headerOf (drop at s) ≡ heading h
-    head = header-read s at h next q .0
+    head = header-read s at x q .0
 
     pub el-deep : depths ≤ depth → element-here ≡ refused tooDeep
     unfolding element
@@ -79,9 +84,9 @@ module _ (s : List ℕ) (mode : Mode) (cap depth parent at n : ℕ) where
             (masterBody s mode cap (depth + 1) (h .id) (at + h .length) (h .size) (n + 1))
         el-master m = el-body ∙ rw (master-body s (at + h .length) (h .size) (kindUnder (h .id) parent) m)
 
-        pub el-bad : (e : Refusal) → bodyRead (kindUnder (h .id) parent) s (at + h .length) (h .size) ≡ BodyRefused e
-            → element-here ≡ refused e
-        el-bad e b = el-body ∙ rw (held-refused s (at + h .length) (h .size) (kindUnder (h .id) parent) e
+        pub el-bad : (c : Cause) → bodyRead (kindUnder (h .id) parent) s (at + h .length) (h .size) ≡ BodyRefused c
+            → element-here ≡ refused (because c)
+        el-bad c b = el-body ∙ rw (held-refused s (at + h .length) (h .size) (kindUnder (h .id) parent) c
             (masterBody s mode cap (depth + 1) (h .id) (at + h .length) (h .size) (n + 1)) b)
 
         pub el-leaf : (after : Cursor)

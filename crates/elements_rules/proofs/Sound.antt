@@ -9,7 +9,7 @@ use lib.ListN.{length, drop}
 use lib.Dec.{eqb}
 use borrow.Author.Tests.{eqb-false}
 use Rattle.header.specs.Header.{heading, headerOf}
-use Rattle.header.specs.Reads.{headerRead, headerAt}
+use Rattle.header.specs.Reads.{headedAt, headerRead, headerAt}
 use Rattle.header.specs.declared.cursor.Header.{Header}
 use Rattle.header.specs.declared.cursor.HeaderRead.the-variants.{Read}
 use Rattle.kinds.specs.Kinds.{numberOf}
@@ -38,7 +38,7 @@ is-leaf k q = go (eqb k 1) refl q
 
 module _ (s : List ℕ) where
   pub header-there : (at : ℕ) (h : Header) → headerOf (drop at s) ≡ heading h
-      → headerAt s at ≡ Read h (record { at = at + h .length })
+      → headerAt s at ≡ Read (headedAt at h)
   unfolding headerAt headerRead
   header-there at h q = rw q
 

@@ -63,7 +63,7 @@ module _ (s : List ℕ) where
   value-inside at n k m v = go (leaf-body s at n k m)
     where
       go : Leaf s at n (bodyOf s at n k) → at + n ≤ length s
-      go (a-refusal number id e) = absurd (subst IsValue e v)
+      go (a-refusal c e) = absurd (subst IsValue e v)
       go (a-value i w) = i
 
   not-master : (at n : ℕ) (k : Kind) → IsValue (bodyOf s at n k) → numberOf k ≡ 1 → ⊥
@@ -77,7 +77,7 @@ module _ (s : List ℕ) where
       go false d = by (leaf-body s at n k (eqb-false (numberOf k) 1 d))
         where
           by : Leaf s at n (bodyOf s at n k) → numberOf k ≡ 1
-          by (a-refusal number id r) = let z : _≡_ {A = ℕ} 0 1 = cc in absurd (omega arith)
+          by (a-refusal c r) = let z : _≡_ {A = ℕ} 0 1 = cc in absurd (omega arith)
           by (a-value i v) = absurd (subst IsValue e v)
 
   -- One element over its children.

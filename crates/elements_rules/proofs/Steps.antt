@@ -6,13 +6,15 @@ use mathlib.Core.List.{List, [], _∷_}
 use mathlib.Core.Bool.{Bool, true, false, not}
 use native.Mathlib.Omega.{arith}
 use lib.ListN.{length}
-use Rattle.header.specs.Refusals.{tooDeep, noFreeRow}
+use Rattle.refusals.specs.Refusals.{because, tooDeep, noFreeRow}
+use Rattle.refusals.specs.declared.refusal.Cause.{Cause}
 use Rattle.header.specs.Reads.{headerAt}
 use Rattle.header.specs.declared.cursor.Cursor.{Cursor}
+use Rattle.header.specs.declared.cursor.Headed.{Headed}
 use Rattle.header.specs.declared.cursor.Header.{Header}
 use Rattle.header.specs.declared.cursor.HeaderRead.the-variants.{Read as HeaderIs, Refused as HeaderRefused}
-use Rattle.header.specs.declared.refusal.Refusal.{Refusal}
-use Rattle.header.proofs.Inside.{header-read, header-inside}
+use Rattle.refusals.specs.declared.refusal.Refusal.{Refusal}
+use Rattle.header.proofs.Inside.{header-there}
 use Rattle.kinds.specs.Kinds.{numberOf, kindUnder}
 use Rattle.kinds.specs.declared.kind.Kind.{Kind}
 use Rattle.bodies_rules.specs.Reads.{bodyRead}
@@ -44,19 +46,23 @@ module _ (s : List ℕ) (mode : Mode) (t : List ℕ) (place : Cursor) (n : ℕ) 
       met-refused s mode _ _ _ _ n here t t′ e
       (el-refused s mode (length t / width) (above .depth) (above .id) (place .at) n e q)
 
-  module _ (h : Header) (next : Cursor) (q : headerAt s (place .at) ≡ HeaderIs h next) where
-    pub too-deep : (t′ : List ℕ) (e : Refusal) → depths ≤ above .depth → e ≡ tooDeep → Promised t′ (Refused e)
-    too-deep t′ e d z =
-        met-refused s mode _ _ _ _ n here t t′ e
-        (el-deep s mode (length t / width) (above .depth) (above .id) (place .at) n h next q d ∙ rw z)
+  module _ (x : Headed) (q : headerAt s (place .at) ≡ HeaderIs x) where
+    abbrev h : Header
+    h = x .header
+
+    abbrev next : Cursor
+    next = x .payload
+
+    pub too-deep : (t′ : List ℕ) → depths ≤ above .depth → Promised t′ (Refused tooDeep)
+    too-deep t′ d =
+        met-refused s mode _ _ _ _ n here t t′ tooDeep
+        (el-deep s mode (length t / width) (above .depth) (above .id) (place .at) n x q d)
 
     -- Where the payload begins.
     pub payload-at : (1 ≤ h .length) × (next .at ≡ place .at + h .length) × (next .at ≤ length s)
     payload-at =
-        let (a, b) = header-read s (place .at) h next q in
-        let i = header-inside s (place .at) h a in
-        let c = ap (λ (x : Cursor). x .at) b in
-        omega arith
+        let there = header-there s (place .at) x q in
+        (there .some, there .behind, there .inside)
 
     module _ (k : Kind) (d : above .depth < depths) (listed : k ≡ kindUnder (h .id) (above .id)) (t₁ : List ℕ) where
       -- What was to be kept is the element's row.
@@ -74,12 +80,12 @@ module _ (s : List ℕ) (mode : Mode) (t : List ℕ) (place : Cursor) (n : ℕ) 
             after = n + 1;
           }) kept
 
-      pub no-free : (number : ℕ) (kept : Bool) (t′ : List ℕ) (e : Refusal) → row-here (h .id) number kept
-          → not kept ≡ true → e ≡ noFreeRow → Promised t′ (Refused e)
-      no-free number kept t′ e w z x =
+      pub no-free : (number : ℕ) (kept : Bool) (t′ : List ℕ) → row-here (h .id) number kept → not kept ≡ true
+          → Promised t′ (Refused noFreeRow)
+      no-free number kept t′ w z =
           let f = no-room (full mode (length t / width) n) kept (w .0) z in
-          met-refused s mode _ _ _ _ n here t t′ e
-          (el-full s mode (length t / width) (above .depth) (above .id) (place .at) n h next q d f ∙ rw x)
+          met-refused s mode _ _ _ _ n here t t′ noFreeRow
+          (el-full s mode (length t / width) (above .depth) (above .id) (place .at) n x q d f)
 
       -- The row is written.
       pub record Wrote : Type 0 where
@@ -103,12 +109,13 @@ module _ (s : List ℕ) (mode : Mode) (t : List ℕ) (place : Cursor) (n : ℕ) 
         room-after kept =
             subst (λ (x : ℕ). n + 1 ≤ x / width) (sym (w .same)) (room-free mode t n (w .free) kept)
 
-        pub body-fails : (e : Refusal) → bodyRead k s (next .at) (h .size) ≡ BodyRefused e → Promised t₁ (Refused e)
+        pub body-fails : (e : Cause) → bodyRead k s (next .at) (h .size) ≡ BodyRefused e
+            → Promised t₁ (Refused (because e))
         body-fails e b =
             let c = payload-at in
             let b′ = rw (listed, c .1) at b in
-            met-refused s mode _ _ _ _ n here t t₁ e
-            (el-bad s mode (length t / width) (above .depth) (above .id) (place .at) n h next q d (w .free) e b′)
+            met-refused s mode _ _ _ _ n here t t₁ (because e)
+            (el-bad s mode (length t / width) (above .depth) (above .id) (place .at) n x q d (w .free) e b′)
 
         pub leaf-met : (body : Body) (after : Cursor) → (numberOf k ≡ 1 → ⊥) → n ≤ place .at
             → bodyRead k s (next .at) (h .size) ≡ BodyIs body after → Promised t₁ (Read (n + 1) after)
@@ -122,7 +129,7 @@ module _ (s : List ℕ) (mode : Mode) (t : List ℕ) (place : Cursor) (n : ℕ) 
             let i = r .inside in
             let z : place .at + h .length + h .size ≡ place .at + (h .length + h .size) = omega arith in
             met-leaf s mode (above .row) (above .depth) (place .at) n (elementOf (above .id) h) t t₁ (w .row) here after
-            (el-leaf s mode (length t / width) (above .depth) (above .id) (place .at) n h next q d (w .free) after r)
+            (el-leaf s mode (length t / width) (above .depth) (above .id) (place .at) n x q d (w .free) after r)
             (r .behind ∙ ap (λ (x : ℕ). record { at = x }) z) (omega arith) (omega arith) l
             (room-free mode t n (w .free))
 
@@ -138,7 +145,7 @@ module _ (s : List ℕ) (mode : Mode) (t : List ℕ) (place : Cursor) (n : ℕ) 
               (masterBody s mode (length t / width) (above .depth + 1) (h .id) (place .at + h .length) (h .size)
               (n + 1))
           master-is =
-              el-master s mode (length t / width) (above .depth) (above .id) (place .at) n h next q d (w .free)
+              el-master s mode (length t / width) (above .depth) (above .id) (place .at) n x q d (w .free)
               (rw listed at m)
 
           pub master-broken : (r : ElementRead) (e : Refusal) → r ≡ Refused e → Inner t₂ r → Promised t₂ r

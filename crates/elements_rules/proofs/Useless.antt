@@ -7,8 +7,8 @@ use lib.ListN.{length, getD}
 use lib.Seq.{getD-append-add}
 use Rattle.header.specs.Vint.{octetBits, bits, oneMore, widthOf, bigEndianFrom, bigEndian, ofWidth, vintOf}
 use Rattle.header.specs.Header.{sized, named, headerOf}
-use Rattle.header.specs.Reply.{accepted}
-use Rattle.header.specs.declared.refusal.Refusal.{Refusal}
+use Rattle.refusals.specs.Reply.{accepted}
+use Rattle.refusals.specs.declared.refusal.Refusal.{Refusal}
 use Rattle.kinds.specs.Elements.{elements}
 use Rattle.kinds.specs.Kinds.{kindIn, keeps, kindUnder}
 use Rattle.bodies_rules.specs.Bodies.{bodyOf}
@@ -27,7 +27,7 @@ use Rattle.elements_rules.proofs.Readback.{accepted-read}
 
 unfoldable computed : Type 0
 computed =
-    (replyOf (readOf trackEntry 0 2 0 (2 * width)) ≡ accepted (1 ∷ []))
+    (replyOf (readOf trackEntry 0 2 0 (2 * width)) ≡ accepted 1)
     × (tableOf 0 (2 * width) (readOf trackEntry 0 2 0 (2 * width)) ≡ 0xAE ∷ 0 ∷ 0 ∷ 2 ∷ 0 ∷ 1 ∷ 0 ∷ 1 ∷ zeros width)
     × (tableOf 0 (2 * width) (readOf blockGroup 0 2 0 (2 * width)) ≡ 0xA0 ∷ 0 ∷ 0 ∷ 2 ∷ 0 ∷ 1 ∷ 0 ∷ 1 ∷ zeros width)
 
@@ -37,7 +37,7 @@ unfolding computed octetBits bits oneMore widthOf bigEndianFrom bigEndian ofWidt
     isTable allowed filled readOf tableOf
 both-read = (refl, refl, refl)
 
-pub rows-told : (r : ReadReply) (n : ℕ) → readTold r ≡ accepted (n ∷ []) → r ≡ Rows n
+pub rows-told : (r : ReadReply) (n : ℕ) → readTold r ≡ accepted n → r ≡ Rows n
 rows-told (Rows m) n q = cc
 rows-told (Refused e) n q = let z : _≡_ {A = ℕ} 0 1 = cc in absurd (omega arith)
 

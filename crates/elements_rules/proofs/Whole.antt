@@ -7,9 +7,9 @@ use native.Mathlib.Nat.{zero-add}
 use native.Mathlib.Omega.{arith}
 use lib.ListN.{length, length-replicate}
 use lib.Seq.{sets-eq}
-use Rattle.header.specs.Refusals.{badArgument}
+use Rattle.refusals.specs.Refusals.{badArgument}
 use Rattle.header.specs.declared.cursor.Cursor.{Cursor}
-use Rattle.header.specs.declared.refusal.Refusal.{Refusal}
+use Rattle.refusals.specs.declared.refusal.Refusal.{Refusal}
 use Rattle.elements_rules.specs.Forest.{Forest, count}
 use Rattle.elements_rules.specs.Reading.{Outcome, done, refused, masterBody}
 use Rattle.elements_rules.specs.Rows.{rows, width, flatten}
@@ -110,12 +110,11 @@ module _ (s : List ℕ) (start size parent : ℕ) (t : List ℕ) where
   unfolding readOf
   refused-argument a = refuses _ _ _ (ap not a)
 
-  pub not-allowed : (e : Refusal) (t₁ : List ℕ) → allowed s start (length t) ≡ false → e ≡ badArgument
-      → t₁ ≡ zeros (length t) → ReadPromise s start size parent t (Refused e) t₁
-  not-allowed e t₁ a b z =
-      let q = refused-argument a ∙ ap refused (sym b) in
-      promised s start size parent t (Refused e) t₁
-      (gives-refusal start (length t) (readOf s start size parent (length t)) t₁ e q z)
+  pub not-allowed : (t₁ : List ℕ) → allowed s start (length t) ≡ false → t₁ ≡ zeros (length t)
+      → ReadPromise s start size parent t (Refused badArgument) t₁
+  not-allowed t₁ a z =
+      promised s start size parent t (Refused badArgument) t₁
+      (gives-refusal start (length t) (readOf s start size parent (length t)) t₁ badArgument (refused-argument a) z)
 
   -- What was promised of the cleared table holds of the table that the caller lent.
   pub as-lent : (t₁ t₂ : List ℕ) (r : ReadReply) → length t₁ ≡ length t → ReadPromise s start size parent t₁ r t₂

@@ -1,13 +1,13 @@
 -- What the public call `read` promises of its reply and of the table.
 use Prim.Native.Nat.{ℕ, _*_, _-_, _/_, _%_}
 use mathlib.Core.Path.{_≡_}
-use mathlib.Core.List.{List, [], _∷_, _++_}
+use mathlib.Core.List.{List, _++_}
 use mathlib.Core.Bool.{Bool, true, _&&_, not}
 use lib.ListN.{length, replicate}
 use lib.Dec.{leb, eqb}
 use Rattle.header.specs.Promise.{mostBytes}
-use Rattle.header.specs.Refusals.{badArgument}
-use Rattle.header.specs.Reply.{Reply, accepted, refusalOf}
+use Rattle.refusals.specs.Refusals.{badArgument}
+use Rattle.refusals.specs.Reply.{Reply, accepted, refusal}
 use Rattle.elements_rules.specs.Forest.{count}
 use Rattle.elements_rules.specs.Reading.{Outcome, done, refused, refuseIf, masterBody}
 use Rattle.elements_rules.specs.Rows.{rows, width, flatten}
@@ -42,9 +42,9 @@ readOf s start size parent numbers =
     refuseIf (not (allowed s start numbers)) badArgument (filled s start size parent numbers)
 
 -- The reply: how many rows there are.
-abbrev pub replyOf : Outcome → Reply
-replyOf (done f) = accepted (count f ∷ [])
-replyOf (refused e) = refusalOf e
+abbrev pub replyOf : Outcome → Reply ℕ
+replyOf (done f) = accepted (count f)
+replyOf (refused e) = refusal e
 
 abbrev pub zeros : ℕ → List ℕ
 zeros n = replicate n 0
@@ -54,10 +54,10 @@ unfoldable pub tableOf : ℕ → ℕ → Outcome → List ℕ
 tableOf start numbers (done f) = flatten (rows 0 0 start 0 f) ++ zeros (numbers - count f * width)
 tableOf start numbers (refused e) = zeros numbers
 
--- Document 01's number and values for each case of `ReadReply`.
-abbrev pub readTold : ReadReply → Reply
-readTold (Rows n) = accepted (n ∷ [])
-readTold (Refused e) = refusalOf e
+-- Document 01's value for each case of `ReadReply`: the count of rows, or the refusal.
+abbrev pub readTold : ReadReply → Reply ℕ
+readTold (Rows n) = accepted n
+readTold (Refused e) = refusal e
 
 pub record ReadPromise (s : List ℕ) (start size parent : ℕ) (t : List ℕ) (r : ReadReply) (t′ : List ℕ) : Type 0 where
   pub reply : readTold r ≡ replyOf (readOf s start size parent (length t))

@@ -7,11 +7,15 @@ use lib.ListN.{drop}
 use lib.Dec.{ltb, leb, eqb}
 use Rattle.header.specs.Header.{Heading, heading, headerOf}
 use Rattle.header.specs.Header.{refused as refusedHeader}
-use Rattle.header.specs.Refusals.{overrun, tooDeep, noFreeRow}
+use Rattle.refusals.specs.Refusals.{because, overrun, tooDeep, noFreeRow}
+use Rattle.header.specs.Reads.{headerRead}
 use Rattle.header.specs.declared.cursor.Header.{Header}
-use Rattle.header.specs.declared.refusal.Refusal.{Refusal}
+use Rattle.header.specs.declared.cursor.HeaderRead.{HeaderRead}
+use Rattle.refusals.specs.declared.refusal.Refusal.{Refusal}
 use Rattle.kinds.specs.Kinds.{kindUnder}
-use Rattle.bodies_rules.specs.Bodies.{Told, integer, unsigned, float, date, text, bytes, master, refusal, bodyOf}
+use Rattle.bodies_rules.specs.Bodies.{Told, body, bodyOf}
+use Rattle.bodies_rules.specs.Bodies.{refused as refusedBody}
+use Rattle.bodies_rules.specs.declared.body.Body.the-variants.{Value, Master}
 use Rattle.elements_rules.specs.Forest.{Element, Forest, none, node, span, count, join}
 use Rattle.elements_rules.specs.declared.row.Mode.{Mode}
 
@@ -40,21 +44,24 @@ unfoldable pub refuseIf : Bool → Refusal → Outcome → Outcome
 refuseIf true e o = refused e
 refuseIf false e o = o
 
+-- The header of an element at a place: the one step by which the element rules read a header.
+abbrev pub elementHeader : List ℕ → ℕ → Heading
+elementHeader s at = headerOf (drop at s)
+
+-- The same as the code tells it.
+abbrev pub elementRead : List ℕ → ℕ → HeaderRead
+elementRead s at = headerRead at (elementHeader s at)
+
 -- What follows a header that was read.
 abbrev pub headed : Heading → (Header → Outcome) → Outcome
 headed (heading h) next = next h
-headed (refusedHeader e) next = refused e
+headed (refusedHeader cause) next = refused (because cause)
 
--- What a body holds: a master its elements, any other body none.
+-- What a body holds: a master its elements, a value none.
 abbrev pub held : Told → Outcome → Outcome
-held master elements = elements
-held (refusal number id) elements = refused (record { number = number; id = id })
-held (integer z) elements = done none
-held (unsigned v) elements = done none
-held (float x) elements = done none
-held (date z) elements = done none
-held (text a l) elements = done none
-held (bytes a l) elements = done none
+held (body Master) elements = elements
+held (body (Value v)) elements = done none
+held (refusedBody cause) elements = refused (because cause)
 
 -- Rows are kept, and the table has none free.
 unfoldable pub full : Mode → ℕ → ℕ → Bool
@@ -62,7 +69,7 @@ full mode cap n = (mode .keep) && leb cap n
 
 -- Elements one after another at a place, until the bytes that are left are used up; n rows stand before them. `read`
 -- reads one of them. Each takes a byte at least, so there are no more elements than bytes: `most` is that bound.
-unfoldable pub siblings : (ℕ → ℕ → Outcome) → ℕ → ℕ → ℕ → ℕ → Outcome
+unfoldable pub siblings : (read : ℕ → ℕ → Outcome) → (most at left n : ℕ) → Outcome
 siblings read zero at left n = done none
 siblings read (suc most) at left n =
     cond (eqb left 0) (done none)
@@ -73,22 +80,23 @@ siblings read (suc most) at left n =
 abbrev pub elementOf : ℕ → Header → Element
 elementOf parent h = record { header = h; kind = kindUnder (h .id) parent }
 
--- One element at a place, under a parent id, with n of `cap` rows taken; `levels` tells how many depths are left. The
--- order: header; 12; 13; body.
-unfoldable pub element : List ℕ → Mode → ℕ → ℕ → ℕ → ℕ → ℕ → Outcome
-element s mode cap zero parent at n = headed (headerOf (drop at s)) (λ h. refused tooDeep)
-element s mode cap (suc levels) parent at n =
-    headed (headerOf (drop at s)) (λ h.
-    refuseIf (full mode cap n) noFreeRow
-    (above (elementOf parent h)
-    (held (bodyOf s (at + h .length) (h .size) (kindUnder (h .id) parent))
-    (siblings (element s mode cap levels (h .id)) (h .size) (at + h .length) (h .size) (n + 1)))))
-
 -- A read's direct rows have depth 0; the deepest row has depth 15.
 abbrev pub depths : ℕ
 depths = 16
 
--- The elements of a master's payload, which have that depth.
-unfoldable pub masterBody : List ℕ → Mode → ℕ → ℕ → ℕ → ℕ → ℕ → ℕ → Outcome
-masterBody s mode cap depth parent at size n =
-    siblings (element s mode cap (depths - depth) parent) size at size n
+-- Of a recording, in a mode, with room for `cap` rows.
+module _ (s : List ℕ) (mode : Mode) (cap : ℕ) where
+  -- One element at a place, under a parent id, with n rows taken; `levels` tells how many depths are left. The order:
+  -- header; 12; 13; body.
+  unfoldable pub element : (levels parent at n : ℕ) → Outcome
+  element zero parent at n = headed (elementHeader s at) (λ h. refused tooDeep)
+  element (suc levels) parent at n =
+      headed (elementHeader s at) (λ h.
+      refuseIf (full mode cap n) noFreeRow
+      (above (elementOf parent h)
+      (held (bodyOf s (at + h .length) (h .size) (kindUnder (h .id) parent))
+      (siblings (element levels (h .id)) (h .size) (at + h .length) (h .size) (n + 1)))))
+
+  -- The elements of a master's payload, which have that depth.
+  unfoldable pub masterBody : (depth parent at size n : ℕ) → Outcome
+  masterBody depth parent at size n = siblings (element (depths - depth) parent) size at size n

@@ -5,19 +5,15 @@ use mathlib.Core.List.{List}
 use lib.ListN.{length, drop}
 use Rattle.header.specs.Header.{heading, headerOf}
 use Rattle.kinds.specs.Kinds.{numberOf, kindUnder}
-use Rattle.bodies_rules.specs.Bodies.{Told, integer, unsigned, float, date, text, bytes, master, refusal, bodyOf}
+use Rattle.bodies_rules.specs.Bodies.{Told, body, refused, bodyOf}
+use Rattle.bodies_rules.specs.declared.body.Body.the-variants.{Value, Master}
 use Rattle.elements_rules.specs.Forest.{Element, Forest, none, node, whole, span}
 
 -- A body is a value: no master, and no refusal.
 abbrev pub IsValue : Told → Type 0
-IsValue (integer z) = Unit
-IsValue (unsigned v) = Unit
-IsValue (float x) = Unit
-IsValue (date z) = Unit
-IsValue (text a l) = Unit
-IsValue (bytes a l) = Unit
-IsValue master = ⊥
-IsValue (refusal number id) = ⊥
+IsValue (body (Value v)) = Unit
+IsValue (body Master) = ⊥
+IsValue (refused cause) = ⊥
 
 abbrev pub IsMaster : Element → Type 0
 IsMaster e = numberOf (e .kind) ≡ 1

@@ -5,7 +5,9 @@ use mathlib.Core.List.{List, [], _∷_, _++_}
 use mathlib.Core.Logic.{_⊎_}
 use mathlib.Core.Bool.{true}
 use lib.ListN.{length, take, drop}
-use Rattle.header.specs.Reads.{headerAt}
+use Rattle.refusals.specs.Theorems.{Listed}
+use Rattle.refusals.specs.declared.refusal.Refusal.{Refusal}
+use Rattle.header.specs.Reads.{headedAt, headerAt}
 use Rattle.header.specs.Theorems.{Octets}
 use Rattle.header.specs.declared.cursor.HeaderRead.the-variants.{Read}
 use Rattle.kinds.specs.Entries.{kindOf}
@@ -19,7 +21,7 @@ use Rattle.elements_rules.specs.Holds.{isLeaf, holders}
 use Rattle.elements_rules.specs.Promise.{ReadPromise}
 use Rattle.elements_rules.specs.declared.row.Row.{Row}
 use Rattle.elements_rules.specs.declared.reply.ReadReply.{ReadReply}
-use Rattle.elements_rules.specs.declared.reply.ReadReply.the-variants.{Rows}
+use Rattle.elements_rules.specs.declared.reply.ReadReply.the-variants.{Rows, Refused}
 
 -- Any two replies and tables that the promise permits to one question are equal (document 01, Strength of the
 -- promises). The numbers that stood in the lent table do not matter, only how many there are.
@@ -27,6 +29,12 @@ abbrev pub OneReply : Type 0
 OneReply =
     (s : List ℕ) (start size parent : ℕ) (t u : List ℕ) (r r′ : ReadReply) (t′ u′ : List ℕ) → length t ≡ length u
     → ReadPromise s start size parent t r t′ → ReadPromise s start size parent u r′ u′ → (r ≡ r′) × (t′ ≡ u′)
+
+-- A refusal that the promise permits is one of document 01's list.
+abbrev pub RefusesListed : Type 0
+RefusesListed =
+    (s : List ℕ) (start size parent : ℕ) (t : List ℕ) (e : Refusal) (t′ : List ℕ)
+    → ReadPromise s start size parent t (Refused e) t′ → Listed e
 
 -- ---- the table loses nothing
 
@@ -96,7 +104,7 @@ ParentsBefore =
 pub record Sound (s : List ℕ) (r : Row) : Type 0 where
   pub head :
       headerAt s (r .address)
-      ≡ Read (record { id = r .id; size = r .payload; length = r .header }) (record { at = r .address + r .header })
+      ≡ Read (headedAt (r .address) (record { id = r .id; size = r .payload; length = r .header }))
   pub inside : r .address + r .header + r .payload ≤ length s
   pub value : isLeaf r ≡ true → IsValue (bodyOf s (r .address + r .header) (r .payload) (kindOf (r .kind)))
 

@@ -1,6 +1,6 @@
 // What the readers of elements take and give.
 use header::Cursor;
-use header::Refusal;
+use refusals::Refusal;
 
 // What stands above elements: their parent's id, its row number plus 1 (0 for none), and their own depth.
 pub struct Above {

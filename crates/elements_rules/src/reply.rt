@@ -1,5 +1,5 @@
 // The reply of `read`.
-use header::Refusal;
+use refusals::Refusal;
 
 // How many rows there are, or a refusal.
 pub enum ReadReply {

@@ -1,6 +1,6 @@
 -- A header that was read has bytes, and they are in the recording. Assumes nothing.
 use Prim.Native.Nat.{ℕ, _+_, _*_, _%_, _^_, _≤_, _<_}
-use mathlib.Core.Path.{_≡_, refl, ap}
+use mathlib.Core.Path.{_≡_, refl, ap, sym, _∙_}
 use mathlib.Core.List.{List}
 use mathlib.Core.Bool.{Bool, true, false, cond}
 use native.Mathlib.Nat.{mod-lt}
@@ -12,11 +12,12 @@ use borrow.Author.Tests.{ltb-true, leb-true}
 use Rattle.header.specs.Vint.{Width, unmarked, zeros, widthOf, bits, bigEndian}
 use Rattle.header.specs.Vint.{Vint, vint, ends, long, ofWidth, vintOf}
 use Rattle.header.specs.Header.{Heading, heading, refused, sized, named, headerOf}
-use Rattle.header.specs.Reads.{headerRead, headerAt}
-use Rattle.header.specs.declared.cursor.Cursor.{Cursor}
+use Rattle.header.specs.Reads.{headedAt, headerRead, headerAt}
+use Rattle.header.specs.declared.cursor.Headed.{Headed}
 use Rattle.header.specs.declared.cursor.Header.{Header}
 use Rattle.header.specs.declared.cursor.HeaderRead.the-variants.{Read, Refused}
-use Rattle.header.specs.declared.refusal.Refusal.{Refusal}
+use Rattle.refusals.specs.Refusals.{because}
+use Rattle.refusals.specs.declared.refusal.Refusal.{Refusal}
 
 -- what a VINT of z zero bits is made of
 pub record Made (most : ℕ) (s : List ℕ) (w : Width) (n v : ℕ) : Type 0 where
@@ -100,34 +101,47 @@ module _ (s : List ℕ) (at : ℕ) where
       omega arith
 
   -- What a read header says of the octets at its place.
-  pub header-read : (h : Header) (next : Cursor) → headerAt s at ≡ Read h next
-      → (headerOf (drop at s) ≡ heading h) × (next ≡ record { at = at + h .length })
+  pub header-read : (e : Headed) → headerAt s at ≡ Read e
+      → (headerOf (drop at s) ≡ heading (e .header)) × (e ≡ headedAt at (e .header))
   unfolding headerAt headerRead
-  header-read h next = go (headerOf (drop at s))
+  header-read e = go (headerOf (drop at s))
     where
-      go : (x : Heading) → headerRead at x ≡ Read h next → (x ≡ heading h) × (next ≡ record { at = at + h .length })
-      go (heading h′) w = (cc, cc)
-      go (refused e) w = let x : _≡_ {A = ℕ} 0 1 = cc in absurd (omega arith)
+      go : (x : Heading) → headerRead at x ≡ Read e → (x ≡ heading (e .header)) × (e ≡ headedAt at (e .header))
+      go (heading h) w =
+          let q : headedAt at h ≡ e = cc in
+          let k : h ≡ e .header = ap (λ (x : Headed). x .header) q in
+          (ap heading k, sym q ∙ ap (headedAt at) k)
+      go (refused c) w = let x : _≡_ {A = ℕ} 0 1 = cc in absurd (omega arith)
 
-  -- All that is known of a header that was read.
-  pub record HeaderThere (h : Header) (next : Cursor) : Type 0 where
-    pub head : headerOf (drop at s) ≡ heading h
-    pub behind : next .at ≡ at + h .length
-    pub some : 1 ≤ h .length
-    pub inside : next .at ≤ length s
-    pub sized : h .size < 2 ^ 56
+  -- All that is known of an element whose header was read.
+  pub record HeaderThere (e : Headed) : Type 0 where
+    pub head : headerOf (drop at s) ≡ heading (e .header)
+    pub is : e ≡ headedAt at (e .header)
+    pub begins : e .place .at ≡ at
+    pub behind : e .payload .at ≡ at + e .header .length
+    pub some : 1 ≤ e .header .length
+    pub inside : e .payload .at ≤ length s
+    pub sized : e .header .size < 2 ^ 56
 
-  pub header-there : (h : Header) (next : Cursor) → headerAt s at ≡ Read h next → HeaderThere h next
-  header-there h next q =
-      let (e, n) = header-read h next q in
-      let i = header-inside h e in
-      let b = ap (λ (x : Cursor). x .at) n in
-      record { head = e; behind = b; some = i .0; inside = omega arith; sized = heading-sized (drop at s) h e }
+  pub header-there : (e : Headed) → headerAt s at ≡ Read e → HeaderThere e
+  header-there e q =
+      let (h, n) = header-read e q in
+      let i = header-inside (e .header) h in
+      let b = ap (λ (x : Headed). x .payload .at) n in
+      record {
+        head = h;
+        is = n;
+        begins = ap (λ (x : Headed). x .place .at) n;
+        behind = b;
+        some = i .0;
+        inside = omega arith;
+        sized = heading-sized (drop at s) (e .header) h;
+      }
 
-  pub header-refused : (e : Refusal) → headerAt s at ≡ Refused e → headerOf (drop at s) ≡ refused e
+  pub header-refused : (e : Refusal) → headerAt s at ≡ Refused e → headerOf (drop at s) ≡ refused (e .cause)
   unfolding headerAt headerRead
   header-refused e = go (headerOf (drop at s))
     where
-      go : (x : Heading) → headerRead at x ≡ Refused e → x ≡ refused e
+      go : (x : Heading) → headerRead at x ≡ Refused e → x ≡ refused (e .cause)
       go (heading h) w = let x : _≡_ {A = ℕ} 0 1 = cc in absurd (omega arith)
-      go (refused e′) w = cc
+      go (refused c) w = let q : because c ≡ e = cc in ap refused (ap (λ (x : Refusal). x .cause) q)

@@ -6,6 +6,9 @@ use lib.ListN.{length, take, drop}
 use lib.Dec.{leb}
 use Rattle.header.specs.Vint.{Width, unmarked, zeros, widthOf, bits, Vint, vint, ends, long, vintOf, bigEndian}
 use Rattle.header.specs.Header.{Heading, heading, refused, headerOf}
+use Rattle.refusals.specs.Refusals.{because}
+use Rattle.header.specs.declared.cursor.Header.{Header}
+use Rattle.header.specs.declared.cursor.Headed.{Headed}
 use Rattle.header.specs.declared.cursor.NumberRead.{NumberRead}
 use Rattle.header.specs.declared.cursor.NumberRead.the-variants.{Number, Ends as NumberEnds}
 use Rattle.header.specs.declared.cursor.VintRead.{VintRead}
@@ -39,9 +42,13 @@ vintRead at long = VintLong
 unfoldable pub vintAt : List ℕ → ℕ → ℕ → VintRead
 vintAt s at most = vintRead at (vintOf most (drop at s))
 
+-- The element whose header is at a place: its payload begins behind the header.
+abbrev pub headedAt : ℕ → Header → Headed
+headedAt at h = record { place = record { at = at }; payload = record { at = at + h .length }; header = h }
+
 unfoldable pub headerRead : ℕ → Heading → HeaderRead
-headerRead at (heading h) = Read h (record { at = at + h .length })
-headerRead at (refused e) = Refused e
+headerRead at (heading h) = Read (headedAt at h)
+headerRead at (refused cause) = Refused (because cause)
 
 unfoldable pub headerAt : List ℕ → ℕ → HeaderRead
 headerAt s at = headerRead at (headerOf (drop at s))

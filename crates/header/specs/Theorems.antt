@@ -3,16 +3,22 @@ use Prim.Native.Nat.{ℕ, _<_}
 use mathlib.Core.Path.{_≡_}
 use mathlib.Core.List.{List}
 use lib.ListN.{take, drop, getD}
-use Rattle.header.specs.Reads.{headerAt}
+use Rattle.refusals.specs.Theorems.{Listed}
+use Rattle.refusals.specs.declared.refusal.Refusal.{Refusal}
+use Rattle.header.specs.Reads.{headedAt, headerAt}
 use Rattle.header.specs.Promise.{HeaderPromise}
-use Rattle.header.specs.declared.cursor.Cursor.{Cursor}
 use Rattle.header.specs.declared.cursor.Header.{Header}
 use Rattle.header.specs.declared.cursor.HeaderRead.the-variants.{Read}
 use Rattle.header.specs.declared.reply.HeaderReply.{HeaderReply}
+use Rattle.header.specs.declared.reply.HeaderReply.the-variants.{Refused}
 
 -- Any two replies that the promise permits to one question are equal (document 01, Strength of the promises).
 abbrev pub OneReply : Type 0
 OneReply = (s : List ℕ) (at : ℕ) (r r′ : HeaderReply) → HeaderPromise s at r → HeaderPromise s at r′ → r ≡ r′
+
+-- A refusal that the promise permits is one of document 01's list.
+abbrev pub RefusesListed : Type 0
+RefusesListed = (s : List ℕ) (at : ℕ) (e : Refusal) → HeaderPromise s at (Refused e) → Listed e
 
 -- Each number of the list is an octet, as in every recording.
 abbrev pub Octets : List ℕ → Type 0
@@ -22,6 +28,6 @@ Octets s = (i : ℕ) → getD s i 0 < 256
 -- any two recordings, are equal octet for octet.
 abbrev pub Determined : Type 0
 Determined =
-    (s t : List ℕ) → Octets s → Octets t → (a b : ℕ) (h : Header) (next next′ : Cursor)
-    → headerAt s a ≡ Read h next → headerAt t b ≡ Read h next′
+    (s t : List ℕ) → Octets s → Octets t → (a b : ℕ) (h : Header)
+    → headerAt s a ≡ Read (headedAt a h) → headerAt t b ≡ Read (headedAt b h)
     → take (h .length) (drop a s) ≡ take (h .length) (drop b t)

@@ -5,7 +5,8 @@ ghost use Prim.Native.Nat.{_+_, _*_, _%_, _^_, _≤_, _<_};
 ghost use lib.ListN.{length, take, drop};
 ghost use Rattle.header.specs.Vint.{bigEndian};
 ghost use Rattle.header.specs.Reads.{widthAt, numberAt, vintAt, headerAt, octetsOf, marked, NumberFits, VintFits};
-use crate::refusal::Refusal;
+use refusals::Cause;
+use refusals::Refusal;
 
 // A place: how many bytes stand before it. It may lie past the recording's end.
 pub struct Cursor {
@@ -17,6 +18,13 @@ pub struct Header {
     pub id: u32,
     pub size: u64,
     pub length: u64,
+}
+
+// An element whose header was read: where its header is, where its payload begins, and the header.
+pub struct Headed {
+    pub place: Cursor,
+    pub payload: Cursor,
+    pub header: Header,
 }
 
 // A big-endian number, or the end of the recording before its last byte.
@@ -38,9 +46,9 @@ pub enum VintRead {
     Long,
 }
 
-// A header with the place after it, or a refusal.
+// The element that a header tells, or a refusal.
 pub enum HeaderRead {
-    Read(Header, Cursor),
+    Read(Headed),
     Refused(Refusal),
 }
 
@@ -155,15 +163,23 @@ impl Cursor {
         ensures { λ r. ⌜ r ≡ headerAt (now (recording .entry)) (self .at) ⌝ }
     {
         match self.vint(recording, 4) {
-            VintRead::Ends => HeaderRead::Refused(Refusal::past_end()),
-            VintRead::Long => HeaderRead::Refused(Refusal::invalid_id()),
+            VintRead::Ends => HeaderRead::Refused(Refusal {
+                cause: Cause::PastEnd,
+            }),
+            VintRead::Long => HeaderRead::Refused(Refusal {
+                cause: Cause::InvalidId,
+            }),
             VintRead::Vint {
                 octets: id_octets,
                 value: id_value,
                 next: after_id,
             } => match after_id.vint(recording, 8) {
-                VintRead::Ends => HeaderRead::Refused(Refusal::past_end()),
-                VintRead::Long => HeaderRead::Refused(Refusal::invalid_size()),
+                VintRead::Ends => HeaderRead::Refused(Refusal {
+                    cause: Cause::PastEnd,
+                }),
+                VintRead::Long => HeaderRead::Refused(Refusal {
+                    cause: Cause::InvalidSize,
+                }),
                 VintRead::Vint {
                     octets: size_octets,
                     value: size_value,
@@ -172,7 +188,11 @@ impl Cursor {
                     let id = id_value as u32;
                     let size = vint_data(size_octets, size_value);
                     let length = id_octets + size_octets;
-                    HeaderRead::Read(Header { id, size, length }, after_size)
+                    HeaderRead::Read(Headed {
+                        place: self,
+                        payload: after_size,
+                        header: Header { id, size, length },
+                    })
                 }
             },
         }

@@ -3,7 +3,8 @@ ghost use Rattle.header.specs.Promise.{HeaderPromise};
 use crate::cursor::Cursor;
 use crate::cursor::Header;
 use crate::cursor::HeaderRead;
-use crate::refusal::Refusal;
+use refusals::Cause;
+use refusals::Refusal;
 
 // The longest recording that a call takes, in bytes.
 pub const MOST_BYTES: u64 = 4_294_967_295;
@@ -20,14 +21,21 @@ pub fn header_at(recording: &[u8], at: u64) -> HeaderReply
 {
     let length = recording.len() as u64;
     if MOST_BYTES < length {
-        return HeaderReply::Refused(Refusal::bad_argument());
+        return HeaderReply::Refused(Refusal {
+            cause: Cause::BadArgument,
+        });
     }
     if length < at {
-        return HeaderReply::Refused(Refusal::bad_argument());
+        return HeaderReply::Refused(Refusal {
+            cause: Cause::BadArgument,
+        });
     }
     let cursor = Cursor { at };
     match cursor.header(recording) {
-        HeaderRead::Read(header, _) => HeaderReply::Header(header),
+        HeaderRead::Read(element) => {
+            let header = element.header;
+            HeaderReply::Header(header)
+        }
         HeaderRead::Refused(refusal) => HeaderReply::Refused(refusal),
     }
 }

@@ -7,8 +7,8 @@ use native.Mathlib.Omega.{arith}
 use lib.ListN.{length, take, drop}
 use lib.Dec.{eqb}
 use borrow.Author.Tests.{eq-eqb, ne-eqb}
-use Rattle.header.specs.Refusals.{badArgument}
-use Rattle.header.specs.declared.refusal.Refusal.{Refusal}
+use Rattle.refusals.specs.Refusals.{badArgument}
+use Rattle.refusals.specs.declared.refusal.Refusal.{Refusal}
 use Rattle.bodies_rules.specs.declared.body.Range.{Range}
 use Rattle.elements_rules.specs.Rows.{width, rowAt}
 use Rattle.elements_rules.specs.declared.row.Row.{Row}

@@ -4,7 +4,7 @@ use mathlib.Core.List.{List}
 use mathlib.Core.Bool.{Bool, cond, _||_}
 use lib.ListN.{length, take, drop}
 use lib.Dec.{leb, eqb}
-use Rattle.header.specs.Refusals.{badArgument}
+use Rattle.refusals.specs.Refusals.{badArgument}
 use Rattle.kinds.specs.Kinds.{numberOf}
 use Rattle.kinds.specs.declared.kind.Kind.the-variants.{String, Utf8}
 use Rattle.elements_rules.specs.Rows.{rowAt}

@@ -3,9 +3,10 @@ ghost use mathlib.Core.Path.{_≡_};
 ghost use Rattle.labels.specs.Shown.{isText};
 ghost use Rattle.labels.specs.Promise.{TextPromise, ShownPromise};
 use bodies_rules::Range;
-use header::Refusal;
 use payloads::payload_range;
 use places_rules::RangeReply;
+use refusals::Cause;
+use refusals::Refusal;
 use rowstore::row_at;
 
 // The numbers of the two kinds of text.
@@ -34,7 +35,9 @@ pub fn text_range(recording: &[u8], table: &[u64], row: u64) -> RangeReply
             if is_text(found.kind) {
                 return RangeReply::Range(range);
             }
-            RangeReply::Refused(Refusal::bad_argument())
+            RangeReply::Refused(Refusal {
+                cause: Cause::BadArgument,
+            })
         }
     }
 }

@@ -6,8 +6,8 @@ use native.Mathlib.Omega.{arith}
 use native.Mathlib.Nat.{zero-add}
 use borrow.Author.Tests.{lt-ltb, le-ltb}
 use lib.ListN.{length}
-use Rattle.header.specs.Reply.{accepted, refusalOf}
-use Rattle.header.specs.declared.refusal.Refusal.{Refusal}
+use Rattle.refusals.specs.Reply.{accepted, refusal}
+use Rattle.refusals.specs.declared.refusal.Refusal.{Refusal}
 use Rattle.elements_rules.specs.Rows.{rows, rowsOf}
 use Rattle.elements_rules.specs.declared.row.Row.{Row}
 use Rattle.search_rules.specs.Part.{Search, found, absent, refused, searchOf, replyOf, PartPromise}
@@ -31,7 +31,7 @@ told-absent heads (absent hs) e = refl
 told-absent heads (refused r) e = let z : _≡_ {A = ℕ} 0 1 = cc in absurd (omega arith)
 
 told-refused :
-    (r : Refusal) (y : Search) → refusalOf r ≡ replyOf y
+    (r : Refusal) (y : Search) → refusal r ≡ replyOf y
     → searchText y ≡ ascii " refused " ++ decimal (r .number) ++ ascii "\n"
 unfolding searchText
 told-refused r (found at size hs f) e = let z : _≡_ {A = ℕ} 0 1 = cc in absurd (omega arith)

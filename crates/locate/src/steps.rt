@@ -13,11 +13,12 @@ use children::rows_below;
 use elements::read;
 use elements_rules::ReadReply;
 use fields_rules::Child;
-use header::Refusal;
 use kinds::Kind;
 use locate_rules::Located;
 use locate_rules::Spot;
 use locate_rules::Step;
+use refusals::Cause;
+use refusals::Refusal;
 use rowstore::clear;
 
 fn spot_of(child: Child) -> Spot
@@ -89,7 +90,9 @@ pub fn locate(
             match find(table, rows, first, second, third) {
                 Spot::Absent => {
                     clear(table);
-                    Located::Refused(Refusal::no_record())
+                    Located::Refused(Refusal {
+                        cause: Cause::Outside,
+                    })
                 }
                 Spot::At(number) => Located::At {
                     master: rows_below(table, rows, number),

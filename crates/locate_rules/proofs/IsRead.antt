@@ -4,7 +4,7 @@ use mathlib.Core.Path.{_≡_, refl, sym, ap, _∙_}
 use mathlib.Core.List.{List, [], _∷_}
 use native.Mathlib.Omega.{arith}
 use lib.ListN.{length}
-use Rattle.header.specs.Reply.{accepted}
+use Rattle.refusals.specs.Reply.{accepted}
 use Rattle.elements_rules.specs.Promise.{ReadPromise}
 use Rattle.elements_rules.specs.declared.row.Row.{Row}
 use Rattle.elements_rules.specs.declared.reply.ReadReply.the-variants.{Rows}

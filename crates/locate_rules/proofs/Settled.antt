@@ -5,10 +5,10 @@ use mathlib.Core.List.{List, [], _∷_, _++_}
 use native.Mathlib.Omega.{arith}
 use lib.ListN.{length}
 use borrow.Author.Tests.{not-false}
-use Rattle.header.specs.Refusals.{noRecord}
-use Rattle.header.specs.Reply.{accepted, refusalOf}
+use Rattle.refusals.specs.Refusals.{noRecord}
+use Rattle.refusals.specs.Reply.{accepted, refusal}
 use Rattle.header.specs.Promise.{mostBytes}
-use Rattle.header.specs.declared.refusal.Refusal.{Refusal}
+use Rattle.refusals.specs.declared.refusal.Refusal.{Refusal}
 use Rattle.header.proofs.Unique.{same-refusal}
 use Rattle.elements_rules.specs.Forest.{count}
 use Rattle.elements_rules.specs.Reading.{Outcome, done, refused}
@@ -38,7 +38,7 @@ use Rattle.locate_rules.specs.declared.steps.Located.the-variants.{At, R
 -- ---- the reading
 
 -- What a reply that refuses says of the outcome.
-told-refused : (e : Refusal) (o : Outcome) → refusalOf e ≡ replyOf o → o ≡ refused e
+told-refused : (e : Refusal) (o : Outcome) → refusal e ≡ replyOf o → o ≡ refused e
 told-refused e (done f) q = let z : _≡_ {A = ℕ} 0 1 = cc in absurd (omega arith)
 told-refused e (refused g) q = ap refused (sym (same-refusal e g (cc) (cc)))
 

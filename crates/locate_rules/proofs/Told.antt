@@ -3,7 +3,7 @@
 use Prim.Native.Nat.{ℕ}
 use mathlib.Core.Path.{_≡_, sym, ap, _∙_}
 use mathlib.Core.List.{List}
-use Rattle.header.specs.declared.refusal.Refusal.{Refusal}
+use Rattle.refusals.specs.declared.refusal.Refusal.{Refusal}
 use Rattle.elements_rules.specs.Rows.{rowsOf}
 use Rattle.elements_rules.specs.declared.row.Row.{Row}
 use Rattle.elements_rules.proofs.Numbered.{length-rows-of}

@@ -1,7 +1,7 @@
 -- Any two answers and tables that the promise permits to one question are equal. Assumes nothing.
 use Prim.Native.Nat.{ℕ}
 use mathlib.Core.Path.{_≡_, sym, ap, _∙_}
-use Rattle.header.specs.declared.refusal.Refusal.{Refusal}
+use Rattle.refusals.specs.declared.refusal.Refusal.{Refusal}
 use Rattle.header.proofs.Unique.{same-refusal}
 use Rattle.locate_rules.specs.Asked.{tableAfter}
 use Rattle.locate_rules.specs.Told.{refuses}

@@ -3,8 +3,8 @@
 use Prim.Native.Nat.{ℕ, _-_, _*_}
 use mathlib.Core.List.{List, _++_}
 use lib.ListN.{length}
-use Rattle.header.specs.Refusals.{noRecord}
-use Rattle.header.specs.declared.refusal.Refusal.{Refusal}
+use Rattle.refusals.specs.Refusals.{noRecord}
+use Rattle.refusals.specs.declared.refusal.Refusal.{Refusal}
 use Rattle.elements_rules.specs.Reading.{Outcome, done, refused}
 use Rattle.elements_rules.specs.Rows.{rows, width, flatten}
 use Rattle.elements_rules.specs.Promise.{readOf, zeros}

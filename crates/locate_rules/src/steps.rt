@@ -1,6 +1,6 @@
 // The steps to a record, and where they lead.
 use fields_rules::Below;
-use header::Refusal;
+use refusals::Refusal;
 
 // How to go on from a master.
 pub enum Step {

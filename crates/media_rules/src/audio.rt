@@ -1,7 +1,7 @@
 // The settings of an audio track, and the reply of `audio_at`.
 use fields_rules::Number;
 use fields_rules::Real;
-use header::Refusal;
+use refusals::Refusal;
 
 // By value; the sample rate in Hz is a 64-bit float.
 pub struct Audio {

@@ -6,9 +6,10 @@ ghost use Rattle.kinds.specs.declared.kind.Kind.the-variants.{Float};
 ghost use Rattle.bodies_rules.specs.Reads.{bodyRead};
 use bodies_rules::Body;
 use bodies_rules::BodyRead;
+use bodies_rules::Value;
 use header::Cursor;
 use header::NumberRead;
-use header::Refusal;
+use refusals::Cause;
 
 // The float that a pattern of 32 bits is, widened exactly.
 pub fn float_of_4(pattern: u64) -> f64
@@ -38,18 +39,21 @@ pub fn read_float(place: Cursor, recording: &[u8], size: u64) -> BodyRead
 {
     if size == 4 {
         return match place.number(recording, 4) {
-            NumberRead::Ends => BodyRead::Refused(Refusal::past_end()),
+            NumberRead::Ends => BodyRead::Refused(Cause::PastEnd),
             NumberRead::Number(pattern, next) => BodyRead::Read(
-                Body::Float(float_of_4(pattern)),
+                Body::Value(Value::Float(float_of_4(pattern))),
                 next,
             ),
         };
     }
     if size != 8 {
-        return BodyRead::Refused(Refusal::invalid_float());
+        return BodyRead::Refused(Cause::InvalidFloat);
     }
     match place.number(recording, 8) {
-        NumberRead::Ends => BodyRead::Refused(Refusal::past_end()),
-        NumberRead::Number(pattern, next) => BodyRead::Read(Body::Float(float_of_8(pattern)), next),
+        NumberRead::Ends => BodyRead::Refused(Cause::PastEnd),
+        NumberRead::Number(pattern, next) => BodyRead::Read(
+            Body::Value(Value::Float(float_of_8(pattern))),
+            next,
+        ),
     }
 }

@@ -6,9 +6,10 @@ ghost use Rattle.bodies_rules.specs.Numbers.{signedOf};
 ghost use Rattle.bodies_rules.specs.Reads.{bodyRead};
 use bodies_rules::Body;
 use bodies_rules::BodyRead;
+use bodies_rules::Value;
 use header::Cursor;
 use header::NumberRead;
-use header::Refusal;
+use refusals::Cause;
 
 // The number that v is as two's complement of n bytes.
 fn signed(v: u64, n: u64) -> i64
@@ -32,11 +33,14 @@ pub fn read_int(place: Cursor, recording: &[u8], size: u64) -> BodyRead
     ensures { λ r. ⌜ r ≡ bodyRead Int (now (recording .entry)) (place .at) size ⌝ }
 {
     if 8 < size {
-        return BodyRead::Refused(Refusal::invalid_uint());
+        return BodyRead::Refused(Cause::InvalidUint);
     }
     match place.number(recording, size) {
-        NumberRead::Ends => BodyRead::Refused(Refusal::past_end()),
-        NumberRead::Number(value, next) => BodyRead::Read(Body::Integer(signed(value, size)), next),
+        NumberRead::Ends => BodyRead::Refused(Cause::PastEnd),
+        NumberRead::Number(value, next) => BodyRead::Read(
+            Body::Value(Value::Integer(signed(value, size))),
+            next,
+        ),
     }
 }
 
@@ -45,11 +49,14 @@ pub fn read_uint(place: Cursor, recording: &[u8], size: u64) -> BodyRead
     ensures { λ r. ⌜ r ≡ bodyRead Uint (now (recording .entry)) (place .at) size ⌝ }
 {
     if 8 < size {
-        return BodyRead::Refused(Refusal::invalid_uint());
+        return BodyRead::Refused(Cause::InvalidUint);
     }
     match place.number(recording, size) {
-        NumberRead::Ends => BodyRead::Refused(Refusal::past_end()),
-        NumberRead::Number(value, next) => BodyRead::Read(Body::Unsigned(value), next),
+        NumberRead::Ends => BodyRead::Refused(Cause::PastEnd),
+        NumberRead::Number(value, next) => BodyRead::Read(
+            Body::Value(Value::Unsigned(value)),
+            next,
+        ),
     }
 }
 
@@ -58,10 +65,13 @@ pub fn read_date(place: Cursor, recording: &[u8], size: u64) -> BodyRead
     ensures { λ r. ⌜ r ≡ bodyRead Date (now (recording .entry)) (place .at) size ⌝ }
 {
     if size != 8 {
-        return BodyRead::Refused(Refusal::invalid_date());
+        return BodyRead::Refused(Cause::InvalidDate);
     }
     match place.number(recording, size) {
-        NumberRead::Ends => BodyRead::Refused(Refusal::past_end()),
-        NumberRead::Number(value, next) => BodyRead::Read(Body::Date(signed(value, size)), next),
+        NumberRead::Ends => BodyRead::Refused(Cause::PastEnd),
+        NumberRead::Number(value, next) => BodyRead::Read(
+            Body::Value(Value::Date(signed(value, size))),
+            next,
+        ),
     }
 }

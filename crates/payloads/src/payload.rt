@@ -1,8 +1,9 @@
 // The payload of a row: its range as numbers, and the very part of the recording. The table is only read.
 ghost use Rattle.places_rules.specs.Promise.{RangePromise, PayloadPromise};
 use bodies_rules::Range;
-use header::Refusal;
 use places_rules::RangeReply;
+use refusals::Cause;
+use refusals::Refusal;
 use rowstore::WIDTH;
 use rowstore::is_allowed;
 use rowstore::row_at;
@@ -13,11 +14,15 @@ pub fn payload_range(recording: &[u8], table: &[u64], row: u64) -> RangeReply
     ensures { λ r. ⌜ RangePromise (now (recording .entry)) (now (table .entry)) row r ⌝ }
 {
     if !is_allowed(recording, 0, table) {
-        return RangeReply::Refused(Refusal::bad_argument());
+        return RangeReply::Refused(Refusal {
+            cause: Cause::BadArgument,
+        });
     }
     let rows = table.len() / WIDTH;
     if rows as u64 <= row {
-        return RangeReply::Refused(Refusal::bad_argument());
+        return RangeReply::Refused(Refusal {
+            cause: Cause::BadArgument,
+        });
     }
     let found = row_at(table, row as usize);
     let address = found.address;
@@ -26,15 +31,21 @@ pub fn payload_range(recording: &[u8], table: &[u64], row: u64) -> RangeReply
     // What is left is told by differences, so that no sum can pass 2^64.
     let end = recording.len() as u64;
     if end < address {
-        return RangeReply::Refused(Refusal::bad_argument());
+        return RangeReply::Refused(Refusal {
+            cause: Cause::BadArgument,
+        });
     }
     let behind_address = end - address;
     if behind_address < header {
-        return RangeReply::Refused(Refusal::bad_argument());
+        return RangeReply::Refused(Refusal {
+            cause: Cause::BadArgument,
+        });
     }
     let behind_header = behind_address - header;
     if behind_header < length {
-        return RangeReply::Refused(Refusal::bad_argument());
+        return RangeReply::Refused(Refusal {
+            cause: Cause::BadArgument,
+        });
     }
     let at = address + header;
     RangeReply::Range(Range { at, length })

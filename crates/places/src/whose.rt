@@ -9,10 +9,11 @@ ghost use Rattle.places_rules.specs.Promise.{whoseTold, WhosePromise};
 use elements::fill;
 use elements_rules::ReadReply;
 use elements_rules::Row;
-use header::Refusal;
 use kinds::MASTER;
 use places_rules::Holder;
 use places_rules::WhoseReply;
+use refusals::Cause;
+use refusals::Refusal;
 use rowstore::clear;
 use rowstore::is_allowed;
 use rowstore::row_at;
@@ -73,7 +74,9 @@ fn find(table: &[u64], rows: usize, address: u64) -> WhoseReply
             }
         }
     }
-    WhoseReply::Refused(Refusal::outside())
+    WhoseReply::Refused(Refusal {
+        cause: Cause::Outside,
+    })
 }
 
 // Reads the payload of `size` bytes from `start` on into the table, and names the row that holds the address. 14: a
@@ -91,10 +94,14 @@ pub fn whose_byte(
 {
     clear(table);
     if !is_allowed(recording, start, table) {
-        return WhoseReply::Refused(Refusal::bad_argument());
+        return WhoseReply::Refused(Refusal {
+            cause: Cause::BadArgument,
+        });
     }
     if !is_within(start, size, address) {
-        return WhoseReply::Refused(Refusal::outside());
+        return WhoseReply::Refused(Refusal {
+            cause: Cause::Outside,
+        });
     }
     match fill(recording, start, size, parent, table) {
         ReadReply::Refused(refusal) => WhoseReply::Refused(refusal),

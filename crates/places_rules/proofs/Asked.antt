@@ -5,9 +5,9 @@ use mathlib.Core.List.{List}
 use mathlib.Core.Bool.{true, false, not}
 use native.Mathlib.Omega.{arith}
 use lib.ListN.{length}
-use Rattle.header.specs.Refusals.{badArgument, outside}
-use Rattle.header.specs.Reply.{refusalOf}
-use Rattle.header.specs.declared.refusal.Refusal.{Refusal}
+use Rattle.refusals.specs.Refusals.{badArgument, outside}
+use Rattle.refusals.specs.Reply.{refusal}
+use Rattle.refusals.specs.declared.refusal.Refusal.{Refusal}
 use Rattle.elements_rules.specs.Reading.{Outcome, done, refused}
 use Rattle.elements_rules.specs.Rows.{rows, width, rowsOf}
 use Rattle.elements_rules.specs.Holds.{within}
@@ -22,7 +22,7 @@ use Rattle.places_rules.specs.declared.whose.WhoseReply.{WhoseReply}
 use Rattle.places_rules.specs.declared.whose.WhoseReply.the-variants.{Refused}
 
 -- A refusal that the reading tells is told of the question.
-refusal-told : (start x : ℕ) (o : Outcome) (e : Refusal) → refusalOf e ≡ replyOf o → refusalOf e ≡ whoseOf start x o
+refusal-told : (start x : ℕ) (o : Outcome) (e : Refusal) → refusal e ≡ replyOf o → refusal e ≡ whoseOf start x o
 refusal-told start x (done f) e q = let z : _≡_ {A = ℕ} 0 1 = cc in absurd (omega arith)
 refusal-told start x (refused e′) e q = q
 

@@ -8,7 +8,7 @@ use native.Mathlib.Nat.{zero-add}
 use native.Mathlib.Omega.{arith}
 use lib.ListN.{length}
 use borrow.Author.Tests.{not-false}
-use Rattle.header.specs.Reply.{accepted}
+use Rattle.refusals.specs.Reply.{accepted}
 use Rattle.elements_rules.specs.Forest.{Forest, count}
 use Rattle.elements_rules.specs.Reading.{done}
 use Rattle.elements_rules.specs.Rows.{rows, width, flatten, rowsOf, nth}

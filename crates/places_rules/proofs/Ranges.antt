@@ -8,8 +8,8 @@ use lib.ListN.{length, take, drop}
 use lib.Dec.{ltb, leb}
 use borrow.Author.Tests.{ltb-true, leb-true, le-leb, lt-leb, lt-ltb, le-ltb}
 use Rattle.header.specs.Promise.{mostBytes}
-use Rattle.header.specs.Refusals.{badArgument}
-use Rattle.header.specs.declared.refusal.Refusal.{Refusal}
+use Rattle.refusals.specs.Refusals.{badArgument}
+use Rattle.refusals.specs.declared.refusal.Refusal.{Refusal}
 use Rattle.bodies_rules.specs.declared.body.Range.{Range}
 use Rattle.elements_rules.specs.Rows.{width, rowAt}
 use Rattle.elements_rules.specs.Promise.{allowed}

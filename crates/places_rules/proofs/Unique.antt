@@ -4,7 +4,7 @@ use mathlib.Core.Path.{_≡_, refl, sym, ap, _∙_}
 use mathlib.Core.Bool.{cond}
 use lib.ListN.{getD}
 use lib.Dec.{eqb}
-use Rattle.header.specs.Reply.{Reply, accepted, refusal}
+use Rattle.refusals.specs.Reply.{Reply, accepted, refusal}
 use Rattle.elements_rules.specs.Reading.{Outcome}
 use Rattle.elements_rules.specs.Promise.{tableOf}
 use Rattle.places_rules.specs.Whose.{askedOf, whoseOf}

@@ -3,7 +3,7 @@ use Prim.Native.Nat.{ℕ}
 use mathlib.Core.Path.{_≡_}
 use mathlib.Core.List.{List, [], _∷_}
 use lib.ListN.{length}
-use Rattle.header.specs.Reply.{Reply, accepted, refusalOf}
+use Rattle.refusals.specs.Reply.{Reply, accepted, refusal}
 use Rattle.elements_rules.specs.Promise.{tableOf}
 use Rattle.places_rules.specs.Payload.{PayloadRange, range, refused, payloadRange, bytesOf}
 use Rattle.places_rules.specs.Whose.{askedOf, whoseOf}
@@ -15,11 +15,11 @@ use Rattle.places_rules.specs.declared.whose.WhoseReply.the-variants.{He
 -- Document 01's values for a range, and number for a refusal.
 abbrev pub valuesOf : PayloadRange → Reply
 valuesOf (range at n) = accepted (at ∷ n ∷ [])
-valuesOf (refused e) = refusalOf e
+valuesOf (refused e) = refusal e
 
 abbrev pub rangeTold : RangeReply → Reply
 rangeTold (Range r) = accepted (r .at ∷ r .length ∷ [])
-rangeTold (RangeRefused e) = refusalOf e
+rangeTold (RangeRefused e) = refusal e
 
 pub record RangePromise (s t : List ℕ) (row : ℕ) (r : RangeReply) : Type 0 where
   pub reply : rangeTold r ≡ valuesOf (payloadRange s t row)
@@ -32,7 +32,7 @@ pub record PayloadPromise (s t : List ℕ) (row : ℕ) (part : List ℕ) : Type 
 abbrev pub whoseTold : WhoseReply → Reply
 whoseTold (Header row rows) = accepted (row ∷ 0 ∷ rows ∷ [])
 whoseTold (Payload row rows) = accepted (row ∷ 1 ∷ rows ∷ [])
-whoseTold (Refused e) = refusalOf e
+whoseTold (Refused e) = refusal e
 
 pub record WhosePromise
     (s : List ℕ) (start size parent x : ℕ) (t : List ℕ) (r : WhoseReply) (t′ : List ℕ) : Type 0 where

@@ -2,8 +2,8 @@
 use Prim.Native.Nat.{ℕ, _+_}
 use mathlib.Core.List.{List, [], _∷_}
 use mathlib.Core.Bool.{cond, not}
-use Rattle.header.specs.Refusals.{badArgument, outside}
-use Rattle.header.specs.Reply.{Reply, accepted, refusalOf}
+use Rattle.refusals.specs.Refusals.{badArgument, outside}
+use Rattle.refusals.specs.Reply.{Reply, accepted, refusal}
 use Rattle.elements_rules.specs.Forest.{count}
 use Rattle.elements_rules.specs.Reading.{Outcome, done, refused, refuseIf}
 use Rattle.elements_rules.specs.Rows.{rows}
@@ -26,7 +26,7 @@ named Neither row total others = others
 -- The first row that holds the address, the rows counted from `row` on. Where none does the answer would be 15; that
 -- one always does is a theorem (`OneRowOwns`).
 unfoldable pub whoseIn : List Row → ℕ → ℕ → ℕ → Reply
-whoseIn [] row total x = refusalOf outside
+whoseIn [] row total x = refusal outside
 whoseIn (r ∷ rs) row total x = named (holderIn r x) row total (whoseIn rs (row + 1) total x)
 
 -- 14; then 15 for an address outside the payload that the caller named; then the reading.
@@ -38,4 +38,4 @@ askedOf s start size parent x numbers =
 
 abbrev pub whoseOf : ℕ → ℕ → Outcome → Reply
 whoseOf start x (done f) = whoseIn (rows 0 0 start 0 f) 0 (count f) x
-whoseOf start x (refused e) = refusalOf e
+whoseOf start x (refused e) = refusal e

@@ -1,6 +1,6 @@
 // The reply of `payload_range`.
 use bodies_rules::Range;
-use header::Refusal;
+use refusals::Refusal;
 
 // Where a row's payload is, or a refusal.
 pub enum RangeReply {

@@ -3,9 +3,10 @@ ghost use mathlib.Core.Path.{_≡_};
 ghost use Rattle.search_rules.specs.Part.{parentOf, PartPromise};
 use elements::fill;
 use elements_rules::ReadReply;
-use header::Refusal;
 use kinds::TABLE;
 use kinds::ids;
+use refusals::Cause;
+use refusals::Refusal;
 use rowstore::clear;
 use rowstore::is_allowed;
 use search_rules::Parent;
@@ -33,10 +34,14 @@ pub fn find_part(recording: &[u8], part: u32, table: &mut [u64]) -> PartReply
 {
     clear(table);
     if !is_allowed(recording, 0, table) {
-        return PartReply::Refused(Refusal::bad_argument());
+        return PartReply::Refused(Refusal {
+            cause: Cause::BadArgument,
+        });
     }
     match parent_of(part) {
-        Parent::NoPart => PartReply::Refused(Refusal::bad_argument()),
+        Parent::NoPart => PartReply::Refused(Refusal {
+            cause: Cause::BadArgument,
+        }),
         Parent::Id(parent) => {
             let kinds = TABLE;
             match look_up(recording, &kinds, part) {

@@ -6,8 +6,8 @@ use mathlib.Core.Bool.{true, false, not}
 use native.Mathlib.Omega.{arith}
 use lib.ListN.{length}
 use borrow.Author.Tests.{le-leb}
-use Rattle.header.specs.Refusals.{badArgument}
-use Rattle.header.specs.declared.refusal.Refusal.{Refusal}
+use Rattle.refusals.specs.Refusals.{badArgument}
+use Rattle.refusals.specs.declared.refusal.Refusal.{Refusal}
 use Rattle.elements_rules.specs.Reading.{Outcome, done}
 use Rattle.elements_rules.specs.Reading.{refused as unread}
 use Rattle.elements_rules.specs.Promise.{allowed, filled, readOf, zeros, ReadPromise}

@@ -6,8 +6,8 @@ use mathlib.Core.List.{List, [], _∷_}
 use mathlib.Core.Bool.{Bool, true, false, cond, not}
 use native.Mathlib.Omega.{arith}
 use lib.ListN.{length}
-use Rattle.header.specs.Refusals.{badArgument}
-use Rattle.header.specs.Reply.{accepted}
+use Rattle.refusals.specs.Refusals.{badArgument}
+use Rattle.refusals.specs.Reply.{accepted}
 use Rattle.elements_rules.specs.Forest.{Forest, count}
 use Rattle.elements_rules.specs.Reading.{Outcome, done}
 use Rattle.elements_rules.specs.Reading.{refused as unread}

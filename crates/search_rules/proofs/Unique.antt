@@ -4,7 +4,7 @@ use mathlib.Core.Path.{_≡_, refl, ap, sym, _∙_}
 use mathlib.Core.Bool.{cond}
 use lib.ListN.{getD}
 use lib.Dec.{eqb}
-use Rattle.header.specs.Reply.{Reply, accepted, refusal}
+use Rattle.refusals.specs.Reply.{Reply, accepted, refusal}
 use Rattle.search_rules.specs.Part.{searchOf, replyOf, tableOf, partTold}
 use Rattle.search_rules.specs.Theorems.{OnePart}
 use Rattle.search_rules.specs.declared.part.PartReply.{PartReply}

@@ -8,8 +8,8 @@ use lib.ListN.{length}
 use Rattle.header.specs.Vint.{octetBits, bits, oneMore, widthOf, bigEndianFrom, bigEndian, ofWidth, vintOf}
 use Rattle.header.specs.Header.{sized, named, headerOf}
 use Rattle.header.specs.Reads.{headerRead, headerAt}
-use Rattle.header.specs.Reply.{accepted}
-use Rattle.header.specs.declared.refusal.Refusal.{Refusal}
+use Rattle.refusals.specs.Reply.{accepted}
+use Rattle.refusals.specs.declared.refusal.Refusal.{Refusal}
 use Rattle.elements_rules.specs.Forest.{count}
 use Rattle.elements_rules.specs.Reading.{siblings, masterBody}
 use Rattle.elements_rules.specs.Promise.{isTable, allowed, filled, zeros}

@@ -4,7 +4,7 @@ use Prim.Native.Nat.{ℕ, _*_}
 use mathlib.Core.Path.{_≡_}
 use mathlib.Core.List.{List, [], _∷_, _++_}
 use Rattle.elements_rules.specs.Rows.{width}
-use Rattle.header.specs.Reply.{Reply, accepted, refusal}
+use Rattle.refusals.specs.Reply.{Reply, accepted, refusal}
 use Rattle.search_rules.specs.Part.{searchOf, replyOf}
 
 pub data Case : Type 0 where

@@ -5,9 +5,9 @@ use mathlib.Core.List.{List, [], _∷_}
 use mathlib.Core.Bool.{cond, not}
 use lib.ListN.{length}
 use lib.Dec.{eqb}
-use Rattle.header.specs.Refusals.{badArgument}
-use Rattle.header.specs.Reply.{Reply, accepted, refusalOf}
-use Rattle.header.specs.declared.refusal.Refusal.{Refusal}
+use Rattle.refusals.specs.Refusals.{badArgument}
+use Rattle.refusals.specs.Reply.{Reply, accepted, refusal}
+use Rattle.refusals.specs.declared.refusal.Refusal.{Refusal}
 use Rattle.elements_rules.specs.Forest.{Forest, count}
 use Rattle.elements_rules.specs.Reading.{done}
 use Rattle.elements_rules.specs.Promise.{allowed, filled, zeros}
@@ -67,7 +67,7 @@ headsOf (refused e) = []
 abbrev pub replyOf : Search → Reply
 replyOf (found at size heads f) = accepted (1 ∷ at ∷ size ∷ count f ∷ length heads ∷ [])
 replyOf (absent heads) = accepted (0 ∷ 0 ∷ 0 ∷ 0 ∷ length heads ∷ [])
-replyOf (refused e) = refusalOf e
+replyOf (refused e) = refusal e
 
 -- The table: as the public read leaves it; zeros for an absent part and after a refusal.
 unfoldable pub tableOf : ℕ → Search → List ℕ
@@ -79,7 +79,7 @@ tableOf numbers (refused e) = zeros numbers
 abbrev pub partTold : PartReply → Reply
 partTold (Found at size rows heads) = accepted (1 ∷ at ∷ size ∷ rows ∷ heads ∷ [])
 partTold (Absent heads) = accepted (0 ∷ 0 ∷ 0 ∷ 0 ∷ heads ∷ [])
-partTold (Refused e) = refusalOf e
+partTold (Refused e) = refusal e
 
 pub record PartPromise (s : List ℕ) (part : ℕ) (t : List ℕ) (r : PartReply) (t′ : List ℕ) : Type 0 where
   pub reply : partTold r ≡ replyOf (searchOf s part (length t))

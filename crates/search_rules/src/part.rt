@@ -1,5 +1,5 @@
 // The reply of `find_part`.
-use header::Refusal;
+use refusals::Refusal;
 
 // The payload's address and size, how many rows it has, and how many seek heads were read; or that the part is absent;
 // or a refusal.

@@ -9,8 +9,9 @@ ghost use Rattle.seekchain_rules.specs.Heads.{lastAddress, mostHeads, sought as
 ghost use Rattle.seekchain_rules.specs.Contract.{headsTold};
 use header::Cursor;
 use header::HeaderRead;
-use header::Refusal;
 use kinds::ids;
+use refusals::Cause;
+use refusals::Refusal;
 use seekchain_rules::Head;
 use seekchain_rules::HeadsRead;
 use seekhead::head_body;
@@ -55,7 +56,9 @@ pub fn sought(recording: &[u8], address: u64, id: u32) -> HeaderRead
         HeaderRead::Refused(refusal) => HeaderRead::Refused(refusal),
         HeaderRead::Read(header, payload) => {
             if header.id != id {
-                return HeaderRead::Refused(Refusal::stale_entry());
+                return HeaderRead::Refused(Refusal {
+                    cause: Cause::StaleEntry,
+                });
             }
             HeaderRead::Read(header, payload)
         }
@@ -101,14 +104,20 @@ pub fn linked_heads(
                     }
                     Latest::At(position) => {
                         if is_too_far(start, position) {
-                            return HeadsRead::Refused(Refusal::invalid_seek_head(ids::SEEKHEAD));
+                            return HeadsRead::Refused(Refusal {
+                                cause: Cause::InvalidSeekHead(ids::SEEKHEAD),
+                            });
                         }
                         let address = start + position;
                         if contains(seen, read, address) {
-                            return HeadsRead::Refused(Refusal::head_again());
+                            return HeadsRead::Refused(Refusal {
+                                cause: Cause::HeadAgain,
+                            });
                         }
                         if read >= MOST_HEADS {
-                            return HeadsRead::Refused(Refusal::too_many_heads());
+                            return HeadsRead::Refused(Refusal {
+                                cause: Cause::TooManyHeads,
+                            });
                         }
                         match sought(recording, address, ids::SEEKHEAD) {
                             HeaderRead::Refused(refusal) => {

@@ -8,7 +8,8 @@ use crate::heads::is_too_far;
 use crate::heads::linked_heads;
 use crate::heads::sought;
 use header::HeaderRead;
-use header::Refusal;
+use refusals::Cause;
+use refusals::Refusal;
 use seekchain_rules::Head;
 use seekchain_rules::HeadsRead;
 use seekchain_rules::PartPlace;
@@ -27,7 +28,9 @@ pub fn by_heads(recording: &[u8], kinds: &[u64], wanted: u32, start: u64, first:
             Latest::Nowhere => PartPlace::Absent { heads },
             Latest::At(position) => {
                 if is_too_far(start, position) {
-                    return PartPlace::Refused(Refusal::invalid_seek_head(wanted));
+                    return PartPlace::Refused(Refusal {
+                        cause: Cause::InvalidSeekHead(wanted),
+                    });
                 }
                 let address = start + position;
                 match sought(recording, address, wanted) {

@@ -5,11 +5,11 @@ use mathlib.Core.List.{List}
 use mathlib.Core.Bool.{true, false, cond}
 use native.Mathlib.Omega.{arith}
 use lib.ListN.{length}
-use Rattle.header.specs.Refusals.{invalidSeekHead}
+use Rattle.refusals.specs.Refusals.{invalidSeekHead}
 use Rattle.header.specs.declared.cursor.Cursor.{Cursor}
 use Rattle.header.specs.declared.cursor.Header.{Header}
 use Rattle.header.specs.declared.cursor.HeaderRead.the-variants.{Read, Refused}
-use Rattle.header.specs.declared.refusal.Refusal.{Refusal}
+use Rattle.refusals.specs.declared.refusal.Refusal.{Refusal}
 use Rattle.seekhead_rules.specs.Table.{latest}
 use Rattle.seekhead_rules.specs.declared.seek.Seek.{Seek}
 use Rattle.seekhead_rules.specs.declared.head.Latest.{Latest}

@@ -4,11 +4,11 @@ use Prim.Native.Nat.{ℕ, zero, suc, _+_, _-_}
 use mathlib.Core.List.{List, [], _∷_, _++_}
 use mathlib.Core.Bool.{Bool, cond}
 use lib.Dec.{ltb, eqb}
-use Rattle.header.specs.Refusals.{invalidSeekHead, staleEntry, headAgain, tooManyHeads}
+use Rattle.refusals.specs.Refusals.{invalidSeekHead, staleEntry, headAgain, tooManyHeads}
 use Rattle.header.specs.Reads.{headerAt}
 use Rattle.header.specs.declared.cursor.HeaderRead.{HeaderRead}
 use Rattle.header.specs.declared.cursor.HeaderRead.the-variants.{Read, Refused}
-use Rattle.header.specs.declared.refusal.Refusal.{Refusal}
+use Rattle.refusals.specs.declared.refusal.Refusal.{Refusal}
 use Rattle.kinds.specs.Kinds.{member}
 use Rattle.seekhead_rules.specs.Seeks.{seekHeadId, headOf, entries}
 use Rattle.seekhead_rules.specs.Table.{onLatest, latest}

@@ -2,8 +2,8 @@
 use Prim.Native.Nat.{ℕ, _+_}
 use mathlib.Core.List.{List}
 use mathlib.Core.Bool.{cond}
-use Rattle.header.specs.Refusals.{invalidSeekHead}
-use Rattle.header.specs.declared.refusal.Refusal.{Refusal}
+use Rattle.refusals.specs.Refusals.{invalidSeekHead}
+use Rattle.refusals.specs.declared.refusal.Refusal.{Refusal}
 use Rattle.seekhead_rules.specs.Table.{onLatest, latest}
 use Rattle.seekhead_rules.specs.declared.seek.Seek.{Seek}
 use Rattle.seekchain_rules.specs.Answers.{onHeader}

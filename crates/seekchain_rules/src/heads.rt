@@ -1,6 +1,6 @@
 // A seek head, and what the reader of the chain gives.
 use header::Cursor;
-use header::Refusal;
+use refusals::Refusal;
 use seekhead_rules::Latest;
 
 // A seek head: the address of its header, and its payload's place and size.

@@ -1,5 +1,5 @@
 // Where a part is.
-use header::Refusal;
+use refusals::Refusal;
 
 // Where a part's payload is and its size, or that the part is absent, with how many heads were read; or a refusal.
 pub enum PartPlace {

@@ -9,8 +9,9 @@ use bodies_rules::BodyRead;
 use header::Cursor;
 use header::Header;
 use header::HeaderRead;
-use header::Refusal;
 use kinds::ids;
+use refusals::Cause;
+use refusals::Refusal;
 use seekhead_rules::HeadRead;
 use seekhead_rules::Latest;
 use seekhead_rules::Seek;
@@ -91,7 +92,9 @@ pub fn head_body(
                     HeadRead::Read(more) => {
                         let used = header.length + header.size;
                         if left < used {
-                            return HeadRead::Refused(Refusal::overrun());
+                            return HeadRead::Refused(Refusal {
+                                cause: Cause::Overrun,
+                            });
                         }
                         left -= used;
                         let next = payload.at + header.size;

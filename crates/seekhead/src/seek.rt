@@ -12,9 +12,10 @@ use bodies_rules::Range;
 use header::Cursor;
 use header::Header;
 use header::HeaderRead;
-use header::Refusal;
 use header::big_endian;
 use kinds::ids;
+use refusals::Cause;
+use refusals::Refusal;
 use seekhead_rules::Seek;
 use seekhead_rules::SeekRead;
 
@@ -114,7 +115,9 @@ pub fn seek_body(recording: &[u8], kinds: &[u64], from: Cursor, size: u64) -> Se
                 SeekRead::Read(more) => {
                     let used = header.length + header.size;
                     if left < used {
-                        return SeekRead::Refused(Refusal::overrun());
+                        return SeekRead::Refused(Refusal {
+                            cause: Cause::Overrun,
+                        });
                     }
                     left -= used;
                     let next = payload.at + header.size;

@@ -6,11 +6,11 @@ use native.Mathlib.Nat.{add-zero}
 use native.Mathlib.Omega.{arith}
 use lib.ListN.{length}
 use Rattle.header.specs.Reads.{headerAt}
-use Rattle.header.specs.Refusals.{overrun}
+use Rattle.refusals.specs.Refusals.{overrun}
 use Rattle.header.specs.declared.cursor.Cursor.{Cursor}
 use Rattle.header.specs.declared.cursor.Header.{Header}
 use Rattle.header.specs.declared.cursor.HeaderRead.the-variants.{Read, Refused}
-use Rattle.header.specs.declared.refusal.Refusal.{Refusal}
+use Rattle.refusals.specs.declared.refusal.Refusal.{Refusal}
 use Rattle.header.proofs.Inside.{header-there}
 use Rattle.elements_rules.specs.Forest.{Forest, none, node, whole, span, join}
 use Rattle.elements_rules.specs.Reading.{refused, elementOf}

@@ -6,7 +6,7 @@ use native.Mathlib.Omega.{arith}
 use lib.ListN.{length}
 use Rattle.header.specs.declared.cursor.Cursor.{Cursor}
 use Rattle.header.specs.declared.cursor.Header.{Header}
-use Rattle.header.specs.declared.refusal.Refusal.{Refusal}
+use Rattle.refusals.specs.declared.refusal.Refusal.{Refusal}
 use Rattle.kinds.specs.Kinds.{numberOf, kindUnder}
 use Rattle.bodies_rules.specs.Bodies.{Told, integer, unsigned, float, date, text, bytes, master, refusal, bodyOf}
 use Rattle.bodies_rules.specs.Promise.{valuesOf}

@@ -7,7 +7,7 @@ use lib.ListN.{drop}
 use lib.Dec.{ltb, eqb}
 use Rattle.header.specs.Header.{Heading, heading, headerOf}
 use Rattle.header.specs.Header.{refused as refusedHeader}
-use Rattle.header.specs.Refusals.{overrun, noFreeRow}
+use Rattle.refusals.specs.Refusals.{overrun, noFreeRow}
 use Rattle.header.specs.declared.cursor.Header.{Header}
 use Rattle.kinds.specs.Kinds.{kindUnder}
 use Rattle.bodies_rules.specs.Bodies.{bodyOf}

@@ -6,7 +6,7 @@ use lib.ListN.{length}
 use Rattle.header.specs.Promise.{mostBytes}
 use Rattle.header.specs.declared.cursor.Cursor.{Cursor}
 use Rattle.header.specs.declared.cursor.Header.{Header}
-use Rattle.header.specs.declared.refusal.Refusal.{Refusal}
+use Rattle.refusals.specs.declared.refusal.Refusal.{Refusal}
 use Rattle.kinds.specs.Elements.{elements}
 use Rattle.kinds.specs.Entries.{entries as entriesOfKinds}
 use Rattle.kinds.specs.Kinds.{kindUnder}

@@ -1,5 +1,5 @@
 // The table of a search, and what the reader of a head gives.
-use header::Refusal;
+use refusals::Refusal;
 
 // The latest position of an id, if there is one.
 pub enum Latest {

@@ -1,5 +1,5 @@
 // An entry of a seek head.
-use header::Refusal;
+use refusals::Refusal;
 
 // An id, and its position counted from the segment's start. Without its members they are 0.
 pub struct Seek {

@@ -8,8 +8,9 @@ use crate::segment::segment_of;
 use header::Cursor;
 use header::Header;
 use header::HeaderRead;
-use header::Refusal;
 use kinds::ids;
+use refusals::Cause;
+use refusals::Refusal;
 use seekchain::by_heads;
 use seekchain_rules::Head;
 use seekchain_rules::PartPlace;
@@ -69,7 +70,9 @@ fn walk(recording: &[u8], kinds: &[u64], wanted: u32, start: Cursor, size: u64) 
                     Visit::Over => {
                         let next = payload.at + header.size;
                         if end < next {
-                            return PartPlace::Refused(Refusal::overrun());
+                            return PartPlace::Refused(Refusal {
+                                cause: Cause::Overrun,
+                            });
                         }
                         place = Cursor { at: next };
                     }

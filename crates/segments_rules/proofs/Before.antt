@@ -10,13 +10,13 @@ use borrow.Author.Tests.{eq-eqb, ne-eqb}
 use Rattle.header.specs.Vint.{ofWidth, vintOf}
 use Rattle.header.specs.Header.{named, headerOf}
 use Rattle.header.specs.Promise.{mostBytes}
-use Rattle.header.specs.Refusals.{pastEnd}
+use Rattle.refusals.specs.Refusals.{pastEnd}
 use Rattle.header.specs.Reads.{headerRead, headerAt}
 use Rattle.header.specs.declared.cursor.Cursor.{Cursor}
 use Rattle.header.specs.declared.cursor.Header.{Header}
 use Rattle.header.specs.declared.cursor.HeaderRead.{HeaderRead}
 use Rattle.header.specs.declared.cursor.HeaderRead.the-variants.{Read, Refused}
-use Rattle.header.specs.declared.refusal.Refusal.{Refusal}
+use Rattle.refusals.specs.declared.refusal.Refusal.{Refusal}
 use Rattle.header.proofs.Widths.{width-end}
 use Rattle.header.proofs.Inside.{header-there}
 use Rattle.seekhead_rules.specs.Seeks.{segmentId}

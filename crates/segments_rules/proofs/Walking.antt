@@ -4,12 +4,12 @@ use mathlib.Core.Path.{_≡_, refl, sym, ap, _∙_}
 use mathlib.Core.List.{List, []}
 use native.Mathlib.Omega.{arith}
 use borrow.Author.Tests.{lt-ltb, le-ltb, le-leb, lt-leb, eq-eqb, ne-eqb}
-use Rattle.header.specs.Refusals.{overrun}
+use Rattle.refusals.specs.Refusals.{overrun}
 use Rattle.header.specs.Reads.{headerAt}
 use Rattle.header.specs.declared.cursor.Cursor.{Cursor}
 use Rattle.header.specs.declared.cursor.Header.{Header}
 use Rattle.header.specs.declared.cursor.HeaderRead.the-variants.{Read, Refused as HeaderRefused}
-use Rattle.header.specs.declared.refusal.Refusal.{Refusal}
+use Rattle.refusals.specs.declared.refusal.Refusal.{Refusal}
 use Rattle.header.proofs.Inside.{header-there}
 use Rattle.seekhead_rules.specs.Seeks.{seekHeadId}
 use Rattle.seekchain_rules.specs.Lookup.{Lookup, absent, stopped, byHeads}

@@ -5,7 +5,7 @@ use mathlib.Core.List.{List, []}
 use mathlib.Core.Bool.{cond}
 use lib.ListN.{length}
 use lib.Dec.{ltb, leb, eqb}
-use Rattle.header.specs.Refusals.{pastEnd, overrun}
+use Rattle.refusals.specs.Refusals.{pastEnd, overrun}
 use Rattle.header.specs.Reads.{headerAt}
 use Rattle.header.specs.declared.cursor.Cursor.{Cursor}
 use Rattle.header.specs.declared.cursor.Header.{Header}

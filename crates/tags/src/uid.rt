@@ -5,12 +5,13 @@ ghost use Rattle.tags_rules.specs.Promise.{UidPromise};
 use children::nth_child;
 use fields::uint_in;
 use fields_rules::Child;
-use header::Refusal;
 use kinds::Kind;
 use kinds::ids;
 use locate::locate;
 use locate_rules::Located;
 use locate_rules::Step;
+use refusals::Cause;
+use refusals::Refusal;
 use rowstore::clear;
 use tags_rules::UidList;
 use tags_rules::UidReply;
@@ -58,7 +59,9 @@ pub fn uid_at(
             match nth_child(table, master, member_id(list), Kind::Uint, i) {
                 Child::Absent => {
                     clear(table);
-                    UidReply::Refused(Refusal::no_record())
+                    UidReply::Refused(Refusal {
+                        cause: Cause::Outside,
+                    })
                 }
                 Child::At { number: _, row } => UidReply::Uid {
                     uid: uint_in(recording, row),

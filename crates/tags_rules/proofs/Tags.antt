@@ -4,8 +4,8 @@ use mathlib.Core.Path.{_≡_, sym, ap, _∙_}
 use mathlib.Core.List.{List, [], _∷_, _++_}
 use mathlib.Core.Bool.{true, false}
 use lib.ListN.{length}
-use Rattle.header.specs.Refusals.{noRecord}
-use Rattle.header.specs.declared.refusal.Refusal.{Refusal}
+use Rattle.refusals.specs.Refusals.{noRecord}
+use Rattle.refusals.specs.declared.refusal.Refusal.{Refusal}
 use Rattle.kinds.specs.declared.kind.Kind.the-variants.{Master, Uint}
 use Rattle.elements_rules.specs.Rows.{rowsOf}
 use Rattle.elements_rules.specs.Promise.{zeros}

@@ -3,7 +3,7 @@ use fields_rules::Content;
 use fields_rules::Flag;
 use fields_rules::Language;
 use fields_rules::TagValue;
-use header::Refusal;
+use refusals::Refusal;
 
 pub struct SimpleTag {
     pub name: Content,

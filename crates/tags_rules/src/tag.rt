@@ -1,7 +1,7 @@
 // A tag, what it applies to, and the reply of `tag_at`.
 use fields_rules::Content;
 use fields_rules::Number;
-use header::Refusal;
+use refusals::Refusal;
 
 // What a tag applies to: the target number as it stands, and how many uids each list has.
 pub struct Target {

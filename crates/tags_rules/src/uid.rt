@@ -1,5 +1,5 @@
 // The lists of uids of a tag's target, and the reply of `uid_at`.
-use header::Refusal;
+use refusals::Refusal;
 
 pub enum UidList {
     Track,

@@ -5,7 +5,7 @@ use fields_rules::Content;
 use fields_rules::Flag;
 use fields_rules::Language;
 use fields_rules::Number;
-use header::Refusal;
+use refusals::Refusal;
 
 pub struct Track {
     pub number: Number,

@@ -8,14 +8,14 @@ use lib.Dec.{ltb, leb, eqb}
 use Rattle.header.specs.Vint.{Vint, vint, ends, long, vintOf}
 use Rattle.header.specs.Header.{Heading, heading, refused as refusedHeader, sized, named, headerOf}
 use Rattle.header.specs.Reads.{headerRead, headerAt}
-use Rattle.header.specs.Reply.{Reply, accepted, refusal}
-use Rattle.header.specs.Refusals.{notUtf8, invalidSeekHead, staleEntry, headAgain, tooManyHeads}
-use Rattle.header.specs.Refusals.{overrun, noFreeRow, badArgument, outside}
+use Rattle.refusals.specs.Reply.{Reply, accepted, refusal}
+use Rattle.refusals.specs.Refusals.{notUtf8, invalidSeekHead, staleEntry, headAgain, tooManyHeads}
+use Rattle.refusals.specs.Refusals.{overrun, noFreeRow, badArgument, outside}
 use Rattle.header.specs.declared.cursor.Cursor.{Cursor}
 use Rattle.header.specs.declared.cursor.Header.{Header}
 use Rattle.header.specs.declared.cursor.HeaderRead.{HeaderRead}
 use Rattle.header.specs.declared.cursor.HeaderRead.the-variants.{Read, Refused}
-use Rattle.header.specs.declared.refusal.Refusal.{Refusal}
+use Rattle.refusals.specs.declared.refusal.Refusal.{Refusal}
 use Rattle.kinds.specs.Kinds.{kindUnder}
 use Rattle.kinds.specs.declared.kind.Kind.{Kind}
 use Rattle.kinds.specs.declared.kind.Kind.the-variants.{Master, Int, Uint, String, Utf8, Binary, Float, Date}

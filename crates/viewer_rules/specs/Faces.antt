@@ -1,7 +1,7 @@
 -- How a reply crosses to C: `refused` is 0 and the values follow in document 01's order; or it is the number, with the
 -- id that 8 carries, and every other number is 0.
 use lib.ListN.{getD}
-use Rattle.header.specs.Reply.{Reply, accepted, refusal}
+use Rattle.refusals.specs.Reply.{Reply, accepted, refusal}
 use Rattle.viewer_rules.specs.declared.part.UzPart.{UzPart}
 use Rattle.viewer_rules.specs.declared.payload.UzRange.{UzRange}
 use Rattle.viewer_rules.specs.declared.whose.UzPlace.{UzPlace}

@@ -3,7 +3,6 @@ use borrow.Author.Needs.{needs}
 use mathlib.Core.Path.{ap, _∙_}
 use native.Mathlib.Omega.{arith}
 use borrow.Author.Tests.{leb-true}
-use Rattle.bodies_rules.specs.declared.body.BodyRead.the-variants.{Refused}
 use Rattle.booleans.proofs.Turned.{failed, passed}
 use Rattle.bodies_rules.proofs.ByKind.{bytes-ends, bytes-there}
 use Prim.Native.Nat.{_+_}
@@ -12,8 +11,8 @@ use Rattle.bodies.proofs.range.read_bytes.Tie as tie
 
 returns : tie.Need-returns
 returns c =
-    let missing = failed _ _ (c .before .before .is-there .ensures) (c .before .if1 .taken) in
-    ap Refused (c .past-end .ensures) ∙ bytes-ends _ _ _ missing
+    let missing = failed _ _ (c .before .is-there .ensures) (c .if1 .taken) in
+    bytes-ends _ _ _ missing
 
 add-end : tie.Need-add-end
 add-end c =
@@ -25,4 +24,4 @@ returns-2 : tie.Need-returns-2
 returns-2 c = bytes-there _ _ _ (passed _ _ (c .before .is-there .ensures) (c .if1 .left))
 
 pub read-bytes-spec : {M : Type 1} → statement M
-read-bytes-spec = tie.close (tie.spec (λ c κs. search needs) (λ c κs. search needs) returns add-end returns-2)
+read-bytes-spec = tie.close (tie.spec (λ c κs. search needs) returns add-end returns-2)

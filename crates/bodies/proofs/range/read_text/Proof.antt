@@ -4,7 +4,6 @@ use mathlib.Core.Path.{ap, sym, _∙_}
 use native.Mathlib.Omega.{arith}
 use native.Mathlib.Nat.{add-sub-cancel-left}
 use borrow.Author.Tests.{leb-true}
-use Rattle.bodies_rules.specs.declared.body.BodyRead.the-variants.{Refused}
 use Rattle.booleans.proofs.Turned.{failed, passed}
 use Rattle.bodies_rules.proofs.ByKind.{text-ends, text-bad, text-there}
 use Prim.Native.Nat.{_+_}
@@ -13,8 +12,8 @@ use Rattle.bodies.proofs.range.read_text.Tie as tie
 
 returns : tie.Need-returns
 returns c =
-    let missing = failed _ _ (c .before .before .is-there .ensures) (c .before .if1 .taken) in
-    ap Refused (c .past-end .ensures) ∙ text-ends _ _ _ missing
+    let missing = failed _ _ (c .before .is-there .ensures) (c .if1 .taken) in
+    text-ends _ _ _ missing
 
 add-end : tie.Need-add-end
 add-end c =
@@ -30,10 +29,10 @@ part-is-utf8-end c =
 
 returns-2 : tie.Need-returns-2
 returns-2 c =
-    let d = c .before .before .before .before in
+    let d = c .before .before .before in
     let there = passed _ _ (d .before .is-there .ensures) (d .if1 .left) in
-    let bad = failed _ _ (c .before .before .is-utf8 .ensures .answer) (c .before .if2 .taken) in
-    ap Refused (c .not-utf8 .ensures) ∙ text-bad _ _ _ there (sym (simp add-sub-cancel-left) ∙ bad)
+    let bad = failed _ _ (c .before .is-utf8 .ensures .answer) (c .if2 .taken) in
+    text-bad _ _ _ there (sym (simp add-sub-cancel-left) ∙ bad)
 
 returns-3 : tie.Need-returns-3
 returns-3 c =
@@ -44,5 +43,5 @@ returns-3 c =
 
 pub read-text-spec : {M : Type 1} → statement M
 read-text-spec =
-    tie.close (tie.spec (λ c κs. search needs) (λ c κs. search needs) returns add-end (λ c. search needs)
-    (λ c. search needs) part-is-utf8-end (λ c κs. search needs) (λ c κs. search needs) returns-2 returns-3)
+    tie.close (tie.spec (λ c κs. search needs) returns add-end (λ c. search needs) (λ c. search needs) part-is-utf8-end
+    (λ c κs. search needs) returns-2 returns-3)

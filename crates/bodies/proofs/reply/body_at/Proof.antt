@@ -2,7 +2,6 @@
 use borrow.Author.Needs.{needs}
 use mathlib.Core.Path.{_≡_, ap, sym, _∙_}
 use native.Mathlib.Omega.{arith}
-use Rattle.bodies_rules.specs.Bodies.{refuses}
 use Rattle.bodies_rules.specs.Promise.{bodyReply}
 use Rattle.bodies_rules.proofs.Replies.{readReply, reply-too-long, reply-past-end, reply-read}
 use Rattle.bodies.proofs.reply.body_at.Statement.{statement}
@@ -19,15 +18,15 @@ as-replied c =
 
 returns : tie.Need-returns
 returns c =
-    let a = c .before .before .before .args in
+    let a = c .before .before .args in
     let long = reply-too-long (a .recording .now) (a .id) (a .parent) (a .at) (a .size) (omega arith) in
-    record { reply = ap refuses (c .bad-argument .ensures) ∙ long }
+    record { reply = long }
 
 returns-2 : tie.Need-returns-2
 returns-2 c =
-    let a = c .before .before .before .before .args in
+    let a = c .before .before .before .args in
     let past = reply-past-end (a .recording .now) (a .id) (a .parent) (a .at) (a .size) (omega arith) (omega arith) in
-    record { reply = ap refuses (c .bad-argument2 .ensures) ∙ past }
+    record { reply = past }
 
 returns-3 : tie.Need-returns-3
 returns-3 c =
@@ -37,9 +36,9 @@ returns-3 c =
 returns-4 : tie.Need-returns-4
 returns-4 c =
     let d = c .before .before .before in
-    record { reply = ap readReply (sym (c .before .refusal .given .1)) ∙ as-replied d }
+    record { reply = ap readReply (sym (c .before .cause .given .1)) ∙ as-replied d }
 
 pub body-at-spec : {M : Type 1} → statement M
 body-at-spec =
-    tie.close (tie.spec (λ c κs. search needs) returns (λ c κs. search needs) returns-2 (λ c κs. search needs)
-    (λ c κs. search needs) (λ c. search needs) (λ c. search needs) returns-3 returns-4)
+    tie.close (tie.spec returns returns-2 (λ c κs. search needs) (λ c κs. search needs) (λ c. search needs)
+    (λ c. search needs) returns-3 returns-4)

@@ -8,10 +8,10 @@ use Rattle.elements.proofs.reply.read.Tie as tie
 
 returns : tie.Need-returns
 returns c =
-    let k = c .before .before .before .before .before .before .clear in
-    let i = c .before .before .is-allowed in
-    not-allowed _ _ _ _ _ _ _ (failed _ _ (i .ensures ∙ allowed-as _ _ (k .kept .0)) (c .before .if1 .taken))
-    (c .bad-argument .ensures) (k .ensures)
+    let k = c .before .before .before .before .before .clear in
+    let i = c .before .is-allowed in
+    not-allowed _ _ _ _ _ _ (failed _ _ (i .ensures ∙ allowed-as _ _ (k .kept .0)) (c .if1 .taken))
+    (k .ensures)
 
 fill-requires : tie.Need-fill-requires
 fill-requires c κs =
@@ -26,5 +26,5 @@ returns-2 c =
 
 pub read-spec : {M : Type 1} → statement M
 read-spec =
-    tie.close (tie.spec (λ c κs. search needs) (λ c κs. search needs) (λ c κs. search needs) (λ c. search needs) returns
-    fill-requires (λ c. search needs) returns-2)
+    tie.close (tie.spec (λ c κs. search needs) (λ c κs. search needs) (λ c. search needs) returns fill-requires
+    (λ c. search needs) returns-2)

@@ -3,44 +3,39 @@
 use borrow.Author.Needs.{needs}
 use mathlib.Core.Path.{ap, _∙_, sym}
 use native.Mathlib.Omega.{arith}
-use Rattle.header.specs.Reply.{refusalOf}
 use Rattle.header.proofs.Replies.{readReply, reply-too-long, reply-past-end, reply-read}
 use Rattle.header.proofs.reply.header_at.Statement.{statement}
 use Rattle.header.proofs.reply.header_at.Tie as tie
 
 returns : tie.Need-returns
 returns c =
-    let a = c .before .before .before .args in
-    let long = reply-too-long (a .recording .now) (a .at) (omega arith) in
-    record { reply = ap refusalOf (c .bad-argument .ensures) ∙ long }
+    let a = c .before .before .args in
+    record { reply = reply-too-long (a .recording .now) (a .at) (omega arith) }
 
 returns-2 : tie.Need-returns-2
 returns-2 c =
-    let a = c .before .before .before .before .args in
-    let past = reply-past-end (a .recording .now) (a .at) (omega arith) (omega arith) in
-    record { reply = ap refusalOf (c .bad-argument2 .ensures) ∙ past }
+    let a = c .before .before .before .args in
+    record { reply = reply-past-end (a .recording .now) (a .at) (omega arith) (omega arith) }
 
 returns-3 : tie.Need-returns-3
 returns-3 c =
-    let d = c .before .before .before in
-    let a = d .before .before .before .before .args in
+    let a = c .before .before .before .before .before .before .before .before .args in
     record {
       reply =
-          ap readReply (sym (c .before .header2 .given .1) ∙ d .header .ensures)
+          ap readReply (sym (c .before .before .element .given .1) ∙ c .before .before .before .before .header .ensures)
           ∙ reply-read (a .recording .now) (a .at) (omega arith) (omega arith);
     }
 
 returns-4 : tie.Need-returns-4
 returns-4 c =
-    let d = c .before .before .before in
-    let a = d .before .before .before .before .args in
+    let a = c .before .before .before .before .before .before .before .args in
     record {
       reply =
-          ap readReply (sym (c .before .refusal .given .1) ∙ d .header .ensures)
+          ap readReply (sym (c .before .refusal .given .1) ∙ c .before .before .before .header .ensures)
           ∙ reply-read (a .recording .now) (a .at) (omega arith) (omega arith);
     }
 
 pub header-at-spec : {M : Type 1} → statement M
 header-at-spec =
-    tie.close (tie.spec (λ c κs. search needs) returns (λ c κs. search needs) returns-2 (λ c κs. search needs)
-    (λ c. search needs) (λ c. search needs) returns-3 returns-4)
+    tie.close (tie.spec returns returns-2 (λ c κs. search needs) (λ c. search needs) (λ c. search needs) returns-3
+    returns-4)

@@ -5,15 +5,16 @@ use native.Mathlib.Omega.{arith}
 use lib.IntN.{ℤ}
 use mir.Syntax.{w64}
 use mir.Facts.{toZ-ofZ}
-use Rattle.bodies_rules.specs.declared.body.BodyRead.the-variants.{Read, Refused}
-use Rattle.bodies_rules.specs.declared.body.Body.the-variants.{Integer}
+use Rattle.bodies_rules.specs.declared.body.BodyRead.the-variants.{Read}
+use Rattle.bodies_rules.specs.declared.body.Body.the-variants.{Value}
+use Rattle.bodies_rules.specs.declared.body.Value.the-variants.{Integer}
 use Rattle.bodies_rules.proofs.Found.{found, ended}
 use Rattle.bodies_rules.proofs.ByKind.{int-long, int-ends, int-there}
 use Rattle.number_bodies.proofs.integer.read_int.Statement.{statement}
 use Rattle.number_bodies.proofs.integer.read_int.Tie as tie
 
 returns : tie.Need-returns
-returns c = ap Refused (c .invalid-uint .ensures) ∙ int-long _ _ _ (c .before .if1 .taken)
+returns c = int-long _ _ _ (c .if1 .taken)
 
 signed-requires : tie.Need-signed-requires
 signed-requires c κs =
@@ -22,9 +23,9 @@ signed-requires c κs =
 
 returns-2 : tie.Need-returns-2
 returns-2 c =
-    let read = c .before .before .before .number .ensures .0 in
-    let missing = ended _ _ _ (sym read ∙ c .before .enum-told .given .1) in
-    ap Refused (c .past-end .ensures) ∙ int-ends _ _ _ missing (omega arith)
+    let read = c .before .before .number .ensures .0 in
+    let missing = ended _ _ _ (sym read ∙ c .enum-told .given .1) in
+    int-ends _ _ _ missing (omega arith)
 
 returns-3 : tie.Need-returns-3
 returns-3 c =
@@ -33,9 +34,9 @@ returns-3 c =
     let next = c .before .before .value .given .0 .1 .0 in
     let value = toZ-ofZ {w = w64} (record { sfits = c .signed .ok }) ∙ c .signed .ensures in
     let there = found _ _ _ _ _ (sym read ∙ told) in
-    ap (λ (z : ℤ). Read (Integer z) next) value ∙ int-there _ _ _ _ _ there (omega arith)
+    ap (λ (z : ℤ). Read (Value (Integer z)) next) value ∙ int-there _ _ _ _ _ there (omega arith)
 
 pub read-int-spec : {M : Type 1} → statement M
 read-int-spec =
-    tie.close (tie.spec (λ c κs. search needs) returns (λ c κs. search needs) (λ c. search needs) (λ c κs. search needs)
-    (λ c. search needs) signed-requires returns-2 returns-3)
+    tie.close (tie.spec returns (λ c κs. search needs) (λ c. search needs) (λ c. search needs) signed-requires returns-2
+    returns-3)

@@ -2,20 +2,19 @@
 use borrow.Author.Needs.{needs}
 use mathlib.Core.Path.{ap, sym, _∙_}
 use native.Mathlib.Omega.{arith}
-use Rattle.bodies_rules.specs.declared.body.BodyRead.the-variants.{Refused}
 use Rattle.bodies_rules.proofs.Found.{found, ended}
 use Rattle.bodies_rules.proofs.ByKind.{uint-long, uint-ends, uint-there}
 use Rattle.number_bodies.proofs.integer.read_uint.Statement.{statement}
 use Rattle.number_bodies.proofs.integer.read_uint.Tie as tie
 
 returns : tie.Need-returns
-returns c = ap Refused (c .invalid-uint .ensures) ∙ uint-long _ _ _ (c .before .if1 .taken)
+returns c = uint-long _ _ _ (c .if1 .taken)
 
 returns-2 : tie.Need-returns-2
 returns-2 c =
-    let read = c .before .before .before .number .ensures .0 in
-    let missing = ended _ _ _ (sym read ∙ c .before .enum-told .given .1) in
-    ap Refused (c .past-end .ensures) ∙ uint-ends _ _ _ missing (omega arith)
+    let read = c .before .before .number .ensures .0 in
+    let missing = ended _ _ _ (sym read ∙ c .enum-told .given .1) in
+    uint-ends _ _ _ missing (omega arith)
 
 returns-3 : tie.Need-returns-3
 returns-3 c =
@@ -25,5 +24,4 @@ returns-3 c =
 
 pub read-uint-spec : {M : Type 1} → statement M
 read-uint-spec =
-    tie.close (tie.spec (λ c κs. search needs) returns (λ c κs. search needs) (λ c. search needs) (λ c κs. search needs)
-    (λ c. search needs) returns-2 returns-3)
+    tie.close (tie.spec returns (λ c κs. search needs) (λ c. search needs) (λ c. search needs) returns-2 returns-3)

@@ -4,7 +4,7 @@ use Rattle.seekhead.proofs.seek.seek_body.Statement.{statement}
 use Rattle.seekhead.proofs.seek.seek_body.Tie as tie
 use mathlib.Core.Path.{sym, _∙_}
 use native.Mathlib.Omega.{arith}
-use Rattle.header.specs.Refusals.{overrun}
+use Rattle.refusals.specs.Refusals.{overrun}
 use Rattle.header.proofs.Inside.{header-there}
 use Rattle.seekhead_rules.proofs.Entries.{Members, members-hold, members-end, member-unread, member-refused}
 use Rattle.seekhead_rules.proofs.Entries.{member-overruns, members-again}

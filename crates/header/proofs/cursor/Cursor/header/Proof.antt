@@ -8,7 +8,7 @@ use Rattle.header.specs.Reads.{vintAt, headerAt, VintFits}
 use Rattle.header.specs.declared.cursor.Cursor.{Cursor}
 use Rattle.header.specs.declared.cursor.VintRead.{VintRead}
 use Rattle.header.specs.declared.cursor.VintRead.the-variants.{Vint}
-use Rattle.header.specs.declared.cursor.HeaderRead.the-variants.{Read, Refused}
+use Rattle.header.specs.declared.cursor.HeaderRead.the-variants.{Read}
 use Rattle.header.proofs.BigEndian.{fits-in}
 use Rattle.header.proofs.Headers.{withSize, by-id, by-size}
 use Rattle.header.proofs.cursor.Cursor.header.Statement.{statement}
@@ -34,14 +34,14 @@ module _ (c : tie.After-known-told) where
   id-fits : VintFits 4 (Vint octets id after)
   id-fits = rw (c .before .id-octets .given .1) at (c .before .before .before .vint .ensures .1)
 
-  id-told : headerAt bytes place ≡ withSize id octets (vintAt bytes (after .at) 8)
+  id-told : headerAt bytes place ≡ withSize place id octets (vintAt bytes (after .at) 8)
   id-told = by-id bytes place (c .before .before .before .vint .ensures .0) (c .before .id-octets .given .1)
 
 -- where the size's VINT was read: what it is decides the rest of the header
 sized : (c : tie.After-vint2) {x : VintRead} → c .vint2 .result ≡ x →
     let i = c .before in
-    withSize (id i) (octets i) (vintAt (bytes i) (after i .at) 8) ≡ withSize (id i) (octets i) x
-sized c q = let i = c .before in by-size (bytes i) (after i .at) (id i) (octets i) (c .vint2 .ensures .0) q
+    withSize (place i) (id i) (octets i) (vintAt (bytes i) (after i .at) 8) ≡ withSize (place i) (id i) (octets i) x
+sized c q = let i = c .before in by-size (bytes i) (after i .at) (place i) (id i) (octets i) (c .vint2 .ensures .0) q
 
 -- where the size is known too: its octets, its value, and the place after it
 module _ (c : tie.After-known-told2) where
@@ -70,31 +70,25 @@ add-length c = omega (arith, size-fits (c .before), id-fits (c .before .before .
 
 returns : tie.Need-returns
 returns c =
-    let d = c .before .before .before in
+    let d = c .before .before in
     let a = d .before .before .args in
-    ap Refused (c .past-end .ensures)
-    ∙ sym (by-id (a .recording .now) (a .self .at) (d .vint .ensures .0) (c .before .enum-told .given .1))
+    sym (by-id (a .recording .now) (a .self .at) (d .vint .ensures .0) (c .enum-told .given .1))
 
 returns-2 : tie.Need-returns-2
 returns-2 c =
-    let d = c .before .before .before in
+    let d = c .before .before in
     let a = d .before .before .args in
-    ap Refused (c .invalid-id .ensures)
-    ∙ sym (by-id (a .recording .now) (a .self .at) (d .vint .ensures .0) (c .before .enum-told2 .given .1))
+    sym (by-id (a .recording .now) (a .self .at) (d .vint .ensures .0) (c .enum-told2 .given .1))
 
 returns-3 : tie.Need-returns-3
 returns-3 c =
-    let d = c .before .before .before in
-    let i = d .before in
-    ap Refused (c .past-end2 .ensures)
-    ∙ sym (id-told i ∙ sized d (c .before .enum-told3 .given .1))
+    let d = c .before .before in
+    sym (id-told (d .before) ∙ sized d (c .enum-told3 .given .1))
 
 returns-4 : tie.Need-returns-4
 returns-4 c =
-    let d = c .before .before .before in
-    let i = d .before in
-    ap Refused (c .invalid-size .ensures)
-    ∙ sym (id-told i ∙ sized d (c .before .enum-told4 .given .1))
+    let d = c .before .before in
+    sym (id-told (d .before) ∙ sized d (c .enum-told4 .given .1))
 
 returns-5 : tie.Need-returns-5
 returns-5 c =
@@ -102,13 +96,17 @@ returns-5 c =
     let d = z .before .before .before in
     let i = d .before in
     ap
-    (λ (v : ℕ). Read (record { id = id i; size = v; length = octets i + size-octets z }) (after-size z))
+    (λ (v : ℕ).
+    Read (record {
+      place = record { at = place i };
+      payload = after-size z;
+      header = record { id = id i; size = v; length = octets i + size-octets z };
+    }))
     (c .vint-data .ensures)
     ∙ sym (id-told i ∙ sized d (z .before .size-octets .given .1))
 
 pub header-spec : {M : Type 1} → statement M
 header-spec =
-    tie.close (tie.spec (λ c κs. search needs) (λ c. search needs) (λ c κs. search needs) (λ c. search needs)
-    (λ c κs. search needs) (λ c. search needs) (λ c κs. search needs) (λ c. search needs) (λ c κs. search needs)
-    (λ c. search needs) (λ c κs. search needs) (λ c. search needs) cast-id vint-data-requires add-length returns
-    returns-2 returns-3 returns-4 returns-5)
+    tie.close (tie.spec (λ c κs. search needs) (λ c. search needs) (λ c. search needs) (λ c. search needs)
+    (λ c κs. search needs) (λ c. search needs) (λ c. search needs) (λ c. search needs) cast-id vint-data-requires
+    add-length returns returns-2 returns-3 returns-4 returns-5)

@@ -1,0 +1,2 @@
+-- The theorems of `refusals`.
+pub mod Listed

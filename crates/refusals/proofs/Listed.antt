@@ -1,0 +1,97 @@
+-- Every refusal is one of document 01's list (`AllListed`), and number and id tell the causes apart (`ToldApart`).
+-- Assumes nothing.
+use Prim.Native.Nat.{ℕ, _≤_}
+use mathlib.Core.Path.{_≡_, refl, sym, ap, _∙_}
+use mathlib.Core.List.{List, [], _∷_}
+use mathlib.Core.Bool.{cond}
+use mathlib.Core.Logic.{_⊎_, inl, inr}
+use native.Mathlib.Omega.{arith}
+use lib.Dec.{eqb}
+use Rattle.refusals.specs.Causes.{numberOf, idOf}
+use Rattle.refusals.specs.Refusals.{because}
+use Rattle.refusals.specs.Theorems.{Listed, AllListed, ToldApart}
+use Rattle.refusals.specs.declared.refusal.Cause.{Cause}
+use Rattle.refusals.specs.declared.refusal.Cause.the-variants.{PastEnd, InvalidId, InvalidSize, Overrun}
+use Rattle.refusals.specs.declared.refusal.Cause.the-variants.{InvalidUint, InvalidFloat, InvalidDate, NotUtf8}
+use Rattle.refusals.specs.declared.refusal.Cause.the-variants.{InvalidSeekHead, StaleEntry, HeadAgain}
+use Rattle.refusals.specs.declared.refusal.Cause.the-variants.{TooManyHeads, TooDeep, NoFreeRow}
+use Rattle.refusals.specs.declared.refusal.Cause.the-variants.{BadArgument, Outside}
+
+-- A cause without an id.
+plain : (c : Cause) → 1 ≤ numberOf c → numberOf c ≤ 15 → idOf c ≡ 0 → Listed (because c)
+plain c least most z = record { least = least; most = most; alone = λ some. absurd (some z) }
+
+of-cause : (c : Cause) → Listed (because c)
+of-cause PastEnd = plain PastEnd (omega arith) (omega arith) refl
+of-cause InvalidId = plain InvalidId (omega arith) (omega arith) refl
+of-cause InvalidSize = plain InvalidSize (omega arith) (omega arith) refl
+of-cause Overrun = plain Overrun (omega arith) (omega arith) refl
+of-cause InvalidUint = plain InvalidUint (omega arith) (omega arith) refl
+of-cause InvalidFloat = plain InvalidFloat (omega arith) (omega arith) refl
+of-cause InvalidDate = plain InvalidDate (omega arith) (omega arith) refl
+of-cause NotUtf8 = plain NotUtf8 (omega arith) (omega arith) refl
+of-cause (InvalidSeekHead id) = record { least = omega arith; most = omega arith; alone = λ some. refl }
+of-cause StaleEntry = plain StaleEntry (omega arith) (omega arith) refl
+of-cause HeadAgain = plain HeadAgain (omega arith) (omega arith) refl
+of-cause TooManyHeads = plain TooManyHeads (omega arith) (omega arith) refl
+of-cause TooDeep = plain TooDeep (omega arith) (omega arith) refl
+of-cause NoFreeRow = plain NoFreeRow (omega arith) (omega arith) refl
+of-cause BadArgument = plain BadArgument (omega arith) (omega arith) refl
+of-cause Outside = plain Outside (omega arith) (omega arith) refl
+
+pub listed : AllListed
+listed e = of-cause (e .cause)
+
+-- The causes with an id for 8, and the first of them that has a number.
+abbrev causes : ℕ → List Cause
+causes id =
+    PastEnd
+    ∷ InvalidId
+    ∷ InvalidSize
+    ∷ InvalidUint
+    ∷ InvalidFloat
+    ∷ InvalidDate
+    ∷ NotUtf8
+    ∷ InvalidSeekHead id
+    ∷ StaleEntry
+    ∷ HeadAgain
+    ∷ TooManyHeads
+    ∷ TooDeep
+    ∷ NoFreeRow
+    ∷ BadArgument
+    ∷ Outside
+    ∷ []
+
+abbrev causeIn : List Cause → ℕ → Cause
+causeIn [] n = Outside
+causeIn (c ∷ cs) n = cond (eqb n (numberOf c)) c (causeIn cs n)
+
+back : (c : Cause) → (causeIn (causes (idOf c)) (numberOf c) ≡ c) ⊎ (numberOf c ≡ 3)
+back PastEnd = inl refl
+back InvalidId = inl refl
+back InvalidSize = inl refl
+back Overrun = inr refl
+back InvalidUint = inl refl
+back InvalidFloat = inl refl
+back InvalidDate = inl refl
+back NotUtf8 = inl refl
+back (InvalidSeekHead id) = inl refl
+back StaleEntry = inl refl
+back HeadAgain = inl refl
+back TooManyHeads = inl refl
+back TooDeep = inl refl
+back NoFreeRow = inl refl
+back BadArgument = inl refl
+back Outside = inl refl
+
+pub told-apart : ToldApart
+told-apart c d n i = go (back c) (back d)
+  where
+    same : causeIn (causes (idOf c)) (numberOf c) ≡ causeIn (causes (idOf d)) (numberOf d)
+    same = ap (λ (x : ℕ). causeIn (causes x) (numberOf c)) i ∙ ap (causeIn (causes (idOf d))) n
+
+    go : (causeIn (causes (idOf c)) (numberOf c) ≡ c) ⊎ (numberOf c ≡ 3)
+        → (causeIn (causes (idOf d)) (numberOf d) ≡ d) ⊎ (numberOf d ≡ 3) → (c ≡ d) ⊎ (numberOf c ≡ 3)
+    go (inr x) y = inr x
+    go (inl x) (inr y) = inr (n ∙ y)
+    go (inl x) (inl y) = inl (sym x ∙ same ∙ y)
