@@ -8,3 +8,4 @@ pub mod Replies
 pub mod Unique
 pub mod Inside
 pub mod Determined
+pub mod Moves

@@ -1,5 +1,5 @@
 -- What is proved of the definitions beside the contracts: the statements of the theorems.
-use Prim.Native.Nat.{ℕ, _<_}
+use Prim.Native.Nat.{ℕ, _+_, _<_}
 use mathlib.Core.Path.{_≡_}
 use mathlib.Core.List.{List}
 use lib.ListN.{take, drop, getD}
@@ -31,3 +31,10 @@ Determined =
     (s t : List ℕ) → Octets s → Octets t → (a b : ℕ) (h : Header)
     → headerAt s a ≡ Read (headedAt a h) → headerAt t b ≡ Read (headedAt b h)
     → take (h .length) (drop a s) ≡ take (h .length) (drop b t)
+
+-- A header depends on its own octets alone: where they stand at another place or in another recording, the same header
+-- is read there. Not by a reader that looks at a byte behind the header, or at the address.
+abbrev pub HeaderMoves : Type 0
+HeaderMoves =
+    (s t : List ℕ) (a b : ℕ) (h : Header) (next : Cursor) → headerAt s a ≡ Read h next
+    → take (h .length) (drop a s) ≡ take (h .length) (drop b t) → headerAt t b ≡ Read h (record { at = b + h .length })
