@@ -21,3 +21,4 @@ pub mod Cases
 pub mod Useless
 pub mod Jumps
 pub mod Depths
+pub mod Accepting

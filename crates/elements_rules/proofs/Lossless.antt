@@ -25,7 +25,7 @@ use Rattle.elements_rules.specs.Theorems.{Each, SameLeaf, Sound, Lossles
 use Rattle.elements_rules.specs.declared.row.Row.{Row}
 use Rattle.elements_rules.proofs.Tables.{zeros-at}
 use Rattle.elements_rules.proofs.Standing.{read-stands}
-use Rattle.elements_rules.proofs.Readback.{accepted-read}
+use Rattle.elements_rules.proofs.Readback.{table-is, accepted-read}
 use Rattle.elements_rules.proofs.Sound.{header-there, rows-sound}
 
 -- ---- parts of two recordings
@@ -117,11 +117,6 @@ with-headers s (r ∷ rs) a =
     (header-inside s (r .address) _ q .0, with-headers s rs (a .1))
 
 -- ---- the theorem
-
-table-is : (start numbers : ℕ) (f : Forest) → tableOf start numbers (done f)
-    ≡ flatten (rows 0 0 start 0 f) ++ zeros (numbers - count f * width)
-unfolding tableOf
-table-is start numbers f = refl
 
 pub lossless : Lossless
 lossless s s′ o o′ start size parent t u n m t′ p q leaves =

@@ -20,6 +20,12 @@ unfolding rowsOf flatten flat firstRow
 rows-back [] rest = refl
 rows-back (r ∷ rs) rest = ap (λ (x : List Row). r ∷ x) (rows-back rs rest)
 
+-- The table of a forest that was read.
+pub table-is : (start numbers : ℕ) (f : Forest) → tableOf start numbers (done f)
+    ≡ flatten (rows 0 0 start 0 f) ++ zeros (numbers - count f * width)
+unfolding tableOf
+table-is start numbers f = refl
+
 -- What an accepted promise says: a forest was read, and the table holds its rows.
 pub record Accepted (s : List ℕ) (start size parent numbers n : ℕ) (t′ : List ℕ) : Type 0 where
   pub forest : Forest

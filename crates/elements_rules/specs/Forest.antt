@@ -1,5 +1,5 @@
 -- Elements one after another, each with its children: what a read is read into. It holds no address and no row number.
-use Prim.Native.Nat.{ℕ, suc, _+_}
+use Prim.Native.Nat.{ℕ, suc, _+_, max}
 use Rattle.header.specs.declared.cursor.Header.{Header}
 use Rattle.kinds.specs.declared.kind.Kind.{Kind}
 
@@ -26,6 +26,11 @@ span (node e kids rest) = whole e + span rest
 unfoldable pub count : Forest → ℕ
 count none = 0
 count (node e kids rest) = suc (count kids + count rest)
+
+-- How many depths they have: none without an element, one without a child.
+unfoldable pub deep : Forest → ℕ
+deep none = 0
+deep (node e kids rest) = max (suc (deep kids)) (deep rest)
 
 -- Elements, and then others.
 unfoldable pub join : Forest → Forest → Forest

@@ -10,3 +10,4 @@ pub mod Theorems
 pub mod Cases
 pub mod Useless
 pub mod Jumps
+pub mod Acceptance

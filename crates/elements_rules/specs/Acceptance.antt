@@ -1,0 +1,98 @@
+-- When a read is accepted, and what that depends on: the statements of theorems, each with a wrong reader that it shuts
+-- out.
+use Prim.Native.Nat.{ℕ, _+_, _-_, _*_, _/_, _≤_}
+use mathlib.Core.Path.{_≡_}
+use mathlib.Core.List.{List, _++_, map}
+use mathlib.Core.Bool.{true}
+use lib.ListN.{length, take, drop}
+use Rattle.elements_rules.specs.Forest.{Forest, span, count, deep}
+use Rattle.elements_rules.specs.Reading.{done, depths, masterBody}
+use Rattle.elements_rules.specs.Rows.{rows, width, flatten, rowsOf}
+use Rattle.elements_rules.specs.Stands.{Stands}
+use Rattle.elements_rules.specs.Promise.{allowed, zeros, ReadPromise}
+use Rattle.elements_rules.specs.declared.row.Row.{Row}
+use Rattle.elements_rules.specs.declared.row.Mode.{Mode}
+use Rattle.elements_rules.specs.declared.reply.ReadReply.{ReadReply}
+use Rattle.elements_rules.specs.declared.reply.ReadReply.the-variants.{Rows}
+
+-- ---- accepted exactly if
+
+-- The arguments are allowed. A tree stands in the payload, takes it up, has at most 16 depths and finds rows enough;
+-- n is how many it has, and t′ is those rows and zeros beyond them.
+pub record Acceptable (s : List ℕ) (start size parent : ℕ) (t : List ℕ) (n : ℕ) (t′ : List ℕ) : Type 0 where
+  pub arguments : allowed s start (length t) ≡ true
+  pub forest : Forest
+  pub stands : Stands s parent start forest
+  pub taken : span forest ≡ size
+  pub low : deep forest ≤ depths
+  pub number : n ≡ count forest
+  pub fits : n ≤ length t / width
+  pub table : t′ ≡ flatten (rows 0 0 start 0 forest) ++ zeros (length t - n * width)
+
+-- A read is accepted exactly if it is so, and then with just these rows. Not by a reader that refuses an element of
+-- depth 15, the table's last row, or a master without children.
+abbrev pub AcceptedExactly : Type 0
+AcceptedExactly =
+    (s : List ℕ) (start size parent : ℕ) (t : List ℕ) (n : ℕ) (t′ : List ℕ)
+    → (ReadPromise s start size parent t (Rows n) t′ → Acceptable s start size parent t n t′)
+    × (Acceptable s start size parent t n t′ → ReadPromise s start size parent t (Rows n) t′)
+
+-- The same of a master's body, read with rows or without: a tree for its reader at a depth, with n of `cap` rows taken.
+pub record Readable (s : List ℕ) (mode : Mode) (cap depth parent at size n : ℕ) (f : Forest) : Type 0 where
+  pub stands : Stands s parent at f
+  pub taken : span f ≡ size
+  pub low : deep f ≤ depths - depth
+  pub free : mode .keep ≡ true → n + count f ≤ cap
+
+-- Not by a reader without rows that still counts them, and refuses the head of a table that is full.
+abbrev pub BodyExactly : Type 0
+BodyExactly =
+    (s : List ℕ) (mode : Mode) (cap depth parent at size n : ℕ) (f : Forest) → at ≤ length s
+    → (mode .keep ≡ true → n ≤ cap)
+    → (masterBody s mode cap depth parent at size n ≡ done f → Readable s mode cap depth parent at size n f)
+    × (Readable s mode cap depth parent at size n f → masterBody s mode cap depth parent at size n ≡ done f)
+
+-- ---- a payload's own bytes
+
+-- A read of s′ has the same bytes as an accepted one of s, at the same start, under the same parent id and into as many
+-- rows; the recordings may differ in every other byte. It is accepted too, with the same reply and the same table.
+-- Not by a reader that looks at a byte behind the payload, as one whose last child may overrun it.
+abbrev pub OwnBytes : Type 0
+OwnBytes =
+    (s s′ : List ℕ) (start size parent : ℕ) (t u : List ℕ) (n : ℕ) (t′ : List ℕ) (r : ReadReply) (u′ : List ℕ)
+    → take size (drop start s) ≡ take size (drop start s′) → allowed s′ start (length u) ≡ true → length t ≡ length u
+    → ReadPromise s start size parent t (Rows n) t′ → ReadPromise s′ start size parent u r u′
+    → (r ≡ Rows n) × (u′ ≡ t′)
+
+-- The row of the same element where the payload begins at start′, not at start: its address is as far behind that.
+abbrev pub elsewhere : ℕ → ℕ → Row → Row
+elsewhere start start′ r =
+    record {
+      id = r .id;
+      parent = r .parent;
+      address = start′ + (r .address - start);
+      header = r .header;
+      payload = r .payload;
+      kind = r .kind;
+      depth = r .depth;
+      after = r .after;
+    }
+
+-- Two reads of n rows are of one tree: the rows of each table are that tree's, so that they are equal but for the
+-- addresses.
+pub record OneTree (start start′ n : ℕ) (t′ u′ : List ℕ) : Type 0 where
+  pub forest : Forest
+  pub here : rowsOf t′ n ≡ rows 0 0 start 0 forest
+  pub there : rowsOf u′ n ≡ rows 0 0 start′ 0 forest
+  pub moved : rowsOf u′ n ≡ map (elsewhere start start′) (rowsOf t′ n)
+
+-- The bytes of an accepted read stand at another place of another recording. Their read there, under the same parent id
+-- and into a table with rows enough, is accepted too, and is of the same tree. Not by a reader that aligns elements, or
+-- takes an address for one from the start of the payload.
+abbrev pub Moves : Type 0
+Moves =
+    (s s′ : List ℕ) (start start′ size parent : ℕ) (t u : List ℕ) (n : ℕ) (t′ : List ℕ) (r : ReadReply) (u′ : List ℕ)
+    → take size (drop start s) ≡ take size (drop start′ s′) → allowed s′ start′ (length u) ≡ true
+    → n ≤ length u / width
+    → ReadPromise s start size parent t (Rows n) t′ → ReadPromise s′ start′ size parent u r u′
+    → (r ≡ Rows n) × OneTree start start′ n t′ u′
