@@ -1,11 +1,11 @@
 -- What stands, takes up its size, is not too deep and finds rows enough is read (`BodyExactly`); so a read is accepted
 -- exactly if its payload is such a tree (`AcceptedExactly`). Assumes nothing.
 use Prim.Native.Nat.{ℕ, zero, suc, _+_, _-_, _*_, _/_, _≤_, _<_}
-use mathlib.Core.Path.{_≡_, refl, sym, ap, _∙_, subst}
+use mathlib.Core.Path.{_≡_, refl, sym, ap, _∙_}
 use mathlib.Core.List.{List, _++_}
 use mathlib.Core.Bool.{Bool, true, false, not}
 use native.Mathlib.Omega.{arith}
-use lib.ListN.{length, drop}
+use lib.ListN.{length}
 use lib.Dec.{eqb}
 use borrow.Author.Tests.{eqb-true, eqb-false, not-false}
 use Rattle.header.proofs.Inside.{header-inside}
@@ -18,7 +18,7 @@ use Rattle.elements_rules.specs.Reading.{prepend, masterBody}
 use Rattle.elements_rules.specs.Rows.{rows, width, flatten}
 use Rattle.elements_rules.specs.Stands.{IsValue, IsMaster, StandsAt, Stands}
 use Rattle.elements_rules.specs.Promise.{keeping, allowed, filled, readOf, replyOf, zeros, tableOf, ReadPromise}
-use Rattle.elements_rules.specs.Acceptance.{Acceptable, AcceptedExactly, Readable, BodyExactly}
+use Rattle.elements_rules.specs.Acceptance.{AcceptedExactly, Readable, BodyExactly}
 use Rattle.elements_rules.specs.declared.row.Mode.{Mode}
 use Rattle.elements_rules.specs.declared.reply.ReadReply.the-variants.{Rows}
 use Rattle.elements_rules.proofs.Outcomes.{passes, of-refuse}
@@ -81,14 +81,15 @@ module _ (s : List ℕ) (mode : Mode) (cap : ℕ) where
 
   -- Elements that stand are read one after another.
   stands-read : (levels parent most at n : ℕ) (f : Forest) → Stands s parent at f → deep f ≤ levels → span f ≤ most
-      → (mode .keep ≡ true → n + count f ≤ cap) → siblings (element s mode cap levels parent) most at (span f) n ≡ done f
+      → (mode .keep ≡ true → n + count f ≤ cap)
+      → siblings (element s mode cap levels parent) most at (span f) n ≡ done f
   unfolding Stands deep span count join
   stands-read levels parent most at n none i d l c = stops (element s mode cap levels parent) most at n
   stands-read zero parent most at n (node e kids rest) i d l c = absurd (omega arith)
   stands-read (suc levels) parent most at n (node e kids rest) i d l c =
       let h = header-inside s at (e .header) (i .0 .head) in
-      let below = stands-read levels (e .header .id) (span kids) (at + e .header .length) (n + 1) kids (i .1) (omega arith)
-      (omega arith) (λ k. let m = c k in omega arith) in
+      let below = stands-read levels (e .header .id) (span kids) (at + e .header .length) (n + 1) kids (i .1)
+      (omega arith) (omega arith) (λ k. let m = c k in omega arith) in
       let one = element-read levels parent at n e kids (i .0) (λ k. let m = c k in omega arith) below in
       let (fewer, z, q) = child-more (element s mode cap (suc levels) parent) most at (whole e + span rest) n
       (node e kids none) (omega arith) l one (omega arith) in
@@ -143,12 +144,13 @@ accepted-exactly s start size parent t n t′ = (
   λ p.
       let a = accepted-read s start size parent t n t′ p in
       let (taken, stands) = read-stands s start size parent (length t) (a .forest) (a .outcome) in
+      let low = read-low s start size parent (length t) (a .forest) (a .outcome) in
       record {
         arguments = not-false _ (of-refuse _ _ _ (a .outcome) .0);
         forest = a .forest;
         stands = stands;
         taken = taken;
-        low = read-low s start size parent (length t) (a .forest) (a .outcome);
+        low = omega arith;
         number = a .number;
         fits = a .fits;
         table =
@@ -161,5 +163,8 @@ accepted-exactly s start size parent t n t′ = (
       let q = read-done s start size parent (length t) (a .forest) (a .arguments) (a .stands) (a .taken) (a .low)
       (omega arith) in
       let p = promised-rows s start size parent t (a .forest) q in
-      record { reply = rw n-is (p .reply); table = a .table ∙ rw n-is (sym (table-is start (length t) (a .forest)) ∙ p .table) },
+      record {
+        reply = rw n-is (p .reply);
+        table = a .table ∙ rw n-is (sym (table-is start (length t) (a .forest)) ∙ p .table);
+      },
 )

@@ -22,3 +22,4 @@ pub mod Useless
 pub mod Jumps
 pub mod Depths
 pub mod Accepting
+pub mod Moves

@@ -17,7 +17,6 @@ use Rattle.header.proofs.Inside.{header-read, header-inside}
 use Rattle.header.proofs.Determined.{header-determined}
 use Rattle.kinds.specs.Kinds.{numberOf}
 use Rattle.elements_rules.specs.Forest.{Element, Forest, none, node, whole, span, count}
-use Rattle.elements_rules.specs.Reading.{done}
 use Rattle.elements_rules.specs.Rows.{rowOf, rows, width, flat, flatten, firstRow}
 use Rattle.elements_rules.specs.Stands.{StandsAt, Stands}
 use Rattle.elements_rules.specs.Promise.{zeros, tableOf}

@@ -40,7 +40,7 @@ told-rows n (done f) q = (f, refl, cc)
 told-rows n (refused e) q = let z : _≡_ {A = ℕ} 0 1 = cc in absurd (omega arith)
 
 module _ (s : List ℕ) (start size parent : ℕ) (t : List ℕ) (n : ℕ) (t′ : List ℕ) where
-  table-rows : (f : Forest) → n ≡ count f → t′ ≡ tableOf start (length t) (done f)
+  pub table-rows : (f : Forest) → n ≡ count f → t′ ≡ tableOf start (length t) (done f)
       → rowsOf t′ n ≡ rows 0 0 start 0 f
   unfolding tableOf
   table-rows f k w =

@@ -29,22 +29,24 @@ pub record Acceptable (s : List ℕ) (start size parent : ℕ) (t : List ℕ) (n
   pub fits : n ≤ length t / width
   pub table : t′ ≡ flatten (rows 0 0 start 0 forest) ++ zeros (length t - n * width)
 
--- A read is accepted exactly if it is so, and then with just these rows. Not by a reader that refuses an element of
--- depth 15, the table's last row, or a master without children.
+-- A read is accepted exactly if that holds, and then with just these rows. It shuts out a reader that refuses more than
+-- it has to: an element of depth 15, the last row of the table, a master without children.
 abbrev pub AcceptedExactly : Type 0
 AcceptedExactly =
     (s : List ℕ) (start size parent : ℕ) (t : List ℕ) (n : ℕ) (t′ : List ℕ)
     → (ReadPromise s start size parent t (Rows n) t′ → Acceptable s start size parent t n t′)
     × (Acceptable s start size parent t n t′ → ReadPromise s start size parent t (Rows n) t′)
 
--- The same of a master's body, read with rows or without: a tree for its reader at a depth, with n of `cap` rows taken.
+-- A tree for the reader of a master's body, whose elements have that depth, with n of `cap` rows taken: it stands there,
+-- takes up the size, has no more depths than are left and, where rows are kept, finds them free.
 pub record Readable (s : List ℕ) (mode : Mode) (cap depth parent at size n : ℕ) (f : Forest) : Type 0 where
   pub stands : Stands s parent at f
   pub taken : span f ≡ size
   pub low : deep f ≤ depths - depth
   pub free : mode .keep ≡ true → n + count f ≤ cap
 
--- Not by a reader without rows that still counts them, and refuses the head of a table that is full.
+-- The same of a master's body, with rows or without. It shuts out a reader that keeps no rows and still counts them: a
+-- seek head with many entries would be refused.
 abbrev pub BodyExactly : Type 0
 BodyExactly =
     (s : List ℕ) (mode : Mode) (cap depth parent at size n : ℕ) (f : Forest) → at ≤ length s
@@ -54,9 +56,9 @@ BodyExactly =
 
 -- ---- a payload's own bytes
 
--- A read of s′ has the same bytes as an accepted one of s, at the same start, under the same parent id and into as many
--- rows; the recordings may differ in every other byte. It is accepted too, with the same reply and the same table.
--- Not by a reader that looks at a byte behind the payload, as one whose last child may overrun it.
+-- Two recordings have the same bytes in a payload, and may differ in every other. If it is accepted in the one, it is in
+-- the other, under the same parent id and into a table of the same length: with the same reply and the same table. It
+-- shuts out a reader that looks behind the payload, as one that tests whether a byte follows the last child.
 abbrev pub OwnBytes : Type 0
 OwnBytes =
     (s s′ : List ℕ) (start size parent : ℕ) (t u : List ℕ) (n : ℕ) (t′ : List ℕ) (r : ReadReply) (u′ : List ℕ)
@@ -78,17 +80,16 @@ elsewhere start start′ r =
       after = r .after;
     }
 
--- Two reads of n rows are of one tree: the rows of each table are that tree's, so that they are equal but for the
--- addresses.
+-- The n rows of two tables are those of one tree, so that they are equal but for the addresses.
 pub record OneTree (start start′ n : ℕ) (t′ u′ : List ℕ) : Type 0 where
   pub forest : Forest
   pub here : rowsOf t′ n ≡ rows 0 0 start 0 forest
   pub there : rowsOf u′ n ≡ rows 0 0 start′ 0 forest
   pub moved : rowsOf u′ n ≡ map (elsewhere start start′) (rowsOf t′ n)
 
--- The bytes of an accepted read stand at another place of another recording. Their read there, under the same parent id
--- and into a table with rows enough, is accepted too, and is of the same tree. Not by a reader that aligns elements, or
--- takes an address for one from the start of the payload.
+-- An accepted payload's bytes stand at another place, of this or another recording. There they are accepted too, under
+-- the same parent id and into any table with rows enough, and are the same tree. It shuts out a reader that asks where an
+-- element stands, as one that takes even addresses alone, and one whose addresses count from the start of the payload.
 abbrev pub Moves : Type 0
 Moves =
     (s s′ : List ℕ) (start start′ size parent : ℕ) (t u : List ℕ) (n : ℕ) (t′ : List ℕ) (r : ReadReply) (u′ : List ℕ)

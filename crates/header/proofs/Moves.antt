@@ -100,4 +100,4 @@ heading-alike s t h q k = by-name (vintOf 4 s) refl q
 
 pub header-moves : HeaderMoves
 unfolding headerAt headerRead
-header-moves s t a b h next q k = rw (heading-alike (drop a s) (drop b t) h (header-read s a h next q .0) k)
+header-moves s t at at′ h next q k = rw (heading-alike (drop at s) (drop at′ t) h (header-read s at h next q .0) k)

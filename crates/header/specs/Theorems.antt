@@ -32,9 +32,10 @@ Determined =
     → headerAt s a ≡ Read (headedAt a h) → headerAt t b ≡ Read (headedAt b h)
     → take (h .length) (drop a s) ≡ take (h .length) (drop b t)
 
--- A header depends on its own octets alone: where they stand at another place or in another recording, the same header
--- is read there. Not by a reader that looks at a byte behind the header, or at the address.
+-- A header depends on its own octets alone: where they stand at another place, of this or another recording, the same
+-- header is read. It shuts out a reader that looks at a byte behind the header, or asks where it stands.
 abbrev pub HeaderMoves : Type 0
 HeaderMoves =
-    (s t : List ℕ) (a b : ℕ) (h : Header) (next : Cursor) → headerAt s a ≡ Read h next
-    → take (h .length) (drop a s) ≡ take (h .length) (drop b t) → headerAt t b ≡ Read h (record { at = b + h .length })
+    (s t : List ℕ) (at at′ : ℕ) (h : Header) (next : Cursor) → headerAt s at ≡ Read h next
+    → take (h .length) (drop at s) ≡ take (h .length) (drop at′ t)
+    → headerAt t at′ ≡ Read h (record { at = at′ + h .length })
