@@ -1,5 +1,6 @@
 // What elements are as rows of a table (document 01, Element table; document 02, C-15): the types, the definitions, the
-// theorems that the table loses nothing and what a row's `after` means, and document 01's table of cases.
+// theorems (the table loses nothing, when a read is accepted, what a row's `after` means), and document 01's table of
+// cases.
 mod element;
 mod reply;
 mod row;
