@@ -11,7 +11,8 @@ use borrow.Author.Tests.{eqb-true, eqb-false, not-false}
 use Rattle.header.proofs.Inside.{header-inside}
 use Rattle.kinds.specs.Kinds.{numberOf, kindUnder}
 use Rattle.kinds.specs.declared.kind.Kind.{Kind}
-use Rattle.bodies_rules.specs.Bodies.{Told, integer, unsigned, float, date, text, bytes, master, refusal, bodyOf}
+use Rattle.bodies_rules.specs.Bodies.{Told, body, refused, bodyOf}
+use Rattle.bodies_rules.specs.declared.body.Body.the-variants.{Value, Master}
 use Rattle.elements_rules.specs.Forest.{Element, Forest, none, node, whole, span, count, deep, join}
 use Rattle.elements_rules.specs.Reading.{Outcome, done, held, full, siblings, element, elementOf, depths}
 use Rattle.elements_rules.specs.Reading.{prepend, masterBody}
@@ -31,14 +32,9 @@ use Rattle.elements_rules.proofs.Readback.{table-is, accepted-read}
 use Rattle.elements_rules.proofs.Depths.{body-low, read-low}
 
 held-value : (t : Told) (o : Outcome) → IsValue t → held t o ≡ done none
-held-value (integer z) o v = refl
-held-value (unsigned u) o v = refl
-held-value (float x) o v = refl
-held-value (date z) o v = refl
-held-value (text a l) o v = refl
-held-value (bytes a l) o v = refl
-held-value master o v = absurd v
-held-value (refusal number id) o v = absurd v
+held-value (body (Value v)) o i = refl
+held-value (body Master) o i = absurd i
+held-value (refused c) o i = absurd i
 
 module _ (s : List ℕ) (mode : Mode) (cap : ℕ) where
   row-free : (n : ℕ) → (mode .keep ≡ true → n < cap) → full mode cap n ≡ false

@@ -11,12 +11,14 @@ use lib.Seq.{drop-drop}
 use lib.Dec.{leb, eqb}
 use borrow.Author.Tests.{le-leb, eqb-true, eqb-false}
 use Rattle.header.proofs.Moves.{fewer-alike, later-alike, heading-alike}
-use Rattle.header.specs.Refusals.{invalidUint, invalidFloat, invalidDate, notUtf8}
+use Rattle.refusals.specs.declared.refusal.Cause.{Cause}
+use Rattle.refusals.specs.declared.refusal.Cause.the-variants as C
 use Rattle.kinds.specs.Kinds.{numberOf}
 use Rattle.kinds.specs.declared.kind.Kind.{Kind}
 use Rattle.kinds.specs.declared.kind.Kind.the-variants as K
 use Rattle.utf8.specs.Utf8.{utf8}
-use Rattle.bodies_rules.specs.Bodies.{Told, text, bytes, refuses, payload, ifThere, bodyOf}
+use Rattle.bodies_rules.specs.Bodies.{Told, refused, value, payload, ifThere, bodyOf}
+use Rattle.bodies_rules.specs.declared.body.Value.the-variants.{Text, Bytes}
 use Rattle.elements_rules.specs.Forest.{Element, Forest, none, node, whole, span, count}
 use Rattle.elements_rules.specs.Reading.{done, masterBody}
 use Rattle.elements_rules.specs.Rows.{rows, width}
@@ -78,27 +80,29 @@ module _ (s s′ : List ℕ) where
     present v i = rw (le-leb (at′ + n) (length s′) (k .there)) i
 
     -- What is told under a test and is a value is so under the same test.
-    tested : (b : Bool) (u v e : Told) → (IsValue e → ⊥) → IsValue v → IsValue (cond b u e) → IsValue (cond b v e)
-    tested true u v e never i j = i
-    tested false u v e never i j = absurd (never j)
+    tested : (b : Bool) (u v : Told) (c : Cause) → IsValue v → IsValue (cond b u (refused c))
+        → IsValue (cond b v (refused c))
+    tested true u v c i j = i
+    tested false u v c i j = j
 
     text-moves : IsValue (bodyOf s at n K.Utf8) → IsValue (bodyOf s′ at′ n K.Utf8)
     unfolding bodyOf
     text-moves i =
         rw (le-leb (at′ + n) (length s′) (k .there), ← k .octets)
-        (tested (utf8 (payload s at n)) (text at n) (text at′ n) (refuses notUtf8) (λ x. x) tt
+        (tested (utf8 (payload s at n)) (value (Text (record { at = at; length = n })))
+        (value (Text (record { at = at′; length = n }))) C.NotUtf8 tt
         (rw (le-leb (at + n) (length s) (k .here)) at i))
 
     value-moves : (kind : Kind) → IsValue (bodyOf s at n kind) → IsValue (bodyOf s′ at′ n kind)
     unfolding bodyOf
     value-moves K.Master i = i
-    value-moves K.Int i = tested (leb n 8) _ _ (refuses invalidUint) (λ x. x) (present _ tt) i
-    value-moves K.Uint i = tested (leb n 8) _ _ (refuses invalidUint) (λ x. x) (present _ tt) i
+    value-moves K.Int i = tested (leb n 8) _ _ C.InvalidUint (present _ tt) i
+    value-moves K.Uint i = tested (leb n 8) _ _ C.InvalidUint (present _ tt) i
     value-moves K.String i = text-moves i
     value-moves K.Utf8 i = text-moves i
-    value-moves K.Binary i = present (bytes at′ n) tt
-    value-moves K.Float i = tested (eqb n 4 || eqb n 8) _ _ (refuses invalidFloat) (λ x. x) (present _ tt) i
-    value-moves K.Date i = tested (eqb n 8) _ _ (refuses invalidDate) (λ x. x) (present _ tt) i
+    value-moves K.Binary i = present (value (Bytes (record { at = at′; length = n }))) tt
+    value-moves K.Float i = tested (eqb n 4 || eqb n 8) _ _ C.InvalidFloat (present _ tt) i
+    value-moves K.Date i = tested (eqb n 8) _ _ C.InvalidDate (present _ tt) i
 
   -- ---- elements
 

@@ -11,7 +11,7 @@ use borrow.Author.Tests.{lt-ltb, le-leb}
 use Rattle.header.specs.Vint.{Width, unmarked, zeros, oneMore, widthOf, octetBits, bits}
 use Rattle.header.specs.Vint.{Vint, vint, ends, long, ofWidth, vintOf}
 use Rattle.header.specs.Header.{heading, sized, named, headerOf}
-use Rattle.header.specs.Reads.{headerRead, headerAt}
+use Rattle.header.specs.Reads.{headedAt, headerRead, headerAt}
 use Rattle.header.specs.Theorems.{HeaderMoves}
 use Rattle.header.specs.declared.cursor.Header.{Header}
 use Rattle.header.proofs.Inside.{made, header-read}
@@ -100,4 +100,5 @@ heading-alike s t h q k = by-name (vintOf 4 s) refl q
 
 pub header-moves : HeaderMoves
 unfolding headerAt headerRead
-header-moves s t at at′ h next q k = rw (heading-alike (drop at s) (drop at′ t) h (header-read s at h next q .0) k)
+header-moves s t at at′ h q k =
+    rw (heading-alike (drop at s) (drop at′ t) h (header-read s at (headedAt at h) q .0) k)

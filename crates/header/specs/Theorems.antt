@@ -1,5 +1,5 @@
 -- What is proved of the definitions beside the contracts: the statements of the theorems.
-use Prim.Native.Nat.{ℕ, _+_, _<_}
+use Prim.Native.Nat.{ℕ, _<_}
 use mathlib.Core.Path.{_≡_}
 use mathlib.Core.List.{List}
 use lib.ListN.{take, drop, getD}
@@ -36,6 +36,5 @@ Determined =
 -- header is read. It shuts out a reader that looks at a byte behind the header, or asks where it stands.
 abbrev pub HeaderMoves : Type 0
 HeaderMoves =
-    (s t : List ℕ) (at at′ : ℕ) (h : Header) (next : Cursor) → headerAt s at ≡ Read h next
-    → take (h .length) (drop at s) ≡ take (h .length) (drop at′ t)
-    → headerAt t at′ ≡ Read h (record { at = at′ + h .length })
+    (s t : List ℕ) (at at′ : ℕ) (h : Header) → headerAt s at ≡ Read (headedAt at h)
+    → take (h .length) (drop at s) ≡ take (h .length) (drop at′ t) → headerAt t at′ ≡ Read (headedAt at′ h)
