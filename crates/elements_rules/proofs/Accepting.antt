@@ -6,24 +6,21 @@ use mathlib.Core.List.{List, _++_}
 use mathlib.Core.Bool.{Bool, true, false, not}
 use native.Mathlib.Omega.{arith}
 use lib.ListN.{length}
-use lib.Dec.{eqb}
-use borrow.Author.Tests.{eqb-true, eqb-false, not-false}
+use borrow.Author.Tests.{not-false}
 use Rattle.header.proofs.Inside.{header-inside}
-use Rattle.kinds.specs.Kinds.{numberOf, kindUnder}
-use Rattle.kinds.specs.declared.kind.Kind.{Kind}
 use Rattle.bodies_rules.specs.Bodies.{Told, body, refused, bodyOf}
 use Rattle.bodies_rules.specs.declared.body.Body.the-variants.{Value, Master}
 use Rattle.elements_rules.specs.Forest.{Element, Forest, none, node, whole, span, count, deep, join}
-use Rattle.elements_rules.specs.Reading.{Outcome, done, held, full, siblings, element, elementOf, depths}
+use Rattle.elements_rules.specs.Reading.{Outcome, done, held, full, siblings, element, depths}
 use Rattle.elements_rules.specs.Reading.{prepend, masterBody}
 use Rattle.elements_rules.specs.Rows.{rows, width, flatten}
-use Rattle.elements_rules.specs.Stands.{IsValue, IsMaster, StandsAt, Stands}
+use Rattle.elements_rules.specs.Stands.{IsValue, StandsAt, Stands}
 use Rattle.elements_rules.specs.Promise.{keeping, allowed, filled, readOf, replyOf, zeros, tableOf, ReadPromise}
 use Rattle.elements_rules.specs.Acceptance.{AcceptedExactly, Readable, BodyExactly}
 use Rattle.elements_rules.specs.declared.row.Mode.{Mode}
 use Rattle.elements_rules.specs.declared.reply.ReadReply.the-variants.{Rows}
 use Rattle.elements_rules.proofs.Outcomes.{passes, of-refuse}
-use Rattle.elements_rules.proofs.Bodies.{master-body}
+use Rattle.elements_rules.proofs.Bodies.{by-kind, master-body}
 use Rattle.elements_rules.proofs.Tables.{full-free, full-unkept}
 use Rattle.elements_rules.proofs.Standing.{body-stands, read-stands}
 use Rattle.elements_rules.proofs.Reading.{stops, child-more}
@@ -52,28 +49,11 @@ module _ (s : List ℕ) (mode : Mode) (cap : ℕ) where
       → element s mode cap (suc levels) parent at n ≡ done (node e kids none)
   unfolding element
   element-read levels parent at n e kids i l q =
-      rw (i .head) (passes _ _ _ (row-free n l) ∙ rw (inner (eqb (numberOf kind) 1) refl, same))
-    where
-      kind : Kind
-      kind = kindUnder (e .header .id) parent
-
-      same : elementOf parent (e .header) ≡ e
-      same = ap (λ (k : Kind). record { header = e .header; kind = k }) (sym (i .kind))
-
-      below : ℕ → Outcome
-      below size =
-          siblings (element s mode cap levels (e .header .id)) size (at + e .header .length) size (n + 1)
-
-      inner : (b : Bool) → eqb (numberOf kind) 1 ≡ b
-          → held (bodyOf s (at + e .header .length) (e .header .size) kind) (below (e .header .size)) ≡ done kids
-      inner true d =
-          let m = eqb-true (numberOf kind) 1 d in
-          rw (master-body s (at + e .header .length) (e .header .size) kind m, ← i .taken (rw (i .kind) m)) q
-      inner false d =
-          let no : IsMaster e → ⊥ = λ m. eqb-false (numberOf kind) 1 d (rw (i .kind) at m) in
-          held-value (bodyOf s (at + e .header .length) (e .header .size) kind) (below (e .header .size))
-          (rw (i .kind) at (i .value no))
-          ∙ ap done (sym (i .childless no))
+      let from = at + e .header .length in
+      rw (i .head) (passes _ _ _ (row-free n l) ∙ rw (← i .kind)
+      (by-kind (e .kind)
+      (λ m. rw (master-body s from (e .header .size) (e .kind) m, ← i .taken m, q))
+      (λ m. rw (held-value (bodyOf s from (e .header .size) (e .kind)) _ (i .value m), i .childless m))))
 
   -- Elements that stand are read one after another.
   stands-read : (levels parent most at n : ℕ) (f : Forest) → Stands s parent at f → deep f ≤ levels → span f ≤ most

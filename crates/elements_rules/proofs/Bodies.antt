@@ -1,12 +1,12 @@
 -- The body that an element holds: a master's elements, or a value, whose octets are in the recording. Assumes nothing.
 use Prim.Native.Nat.{ℕ, _+_, _≤_}
-use mathlib.Core.Path.{_≡_, refl, sym, ap, _∙_}
+use mathlib.Core.Path.{_≡_, refl, ap}
 use mathlib.Core.List.{List}
 use mathlib.Core.Bool.{Bool, true, false, cond, _||_}
 use native.Mathlib.Omega.{arith}
 use lib.ListN.{length}
 use lib.Dec.{leb, eqb}
-use borrow.Author.Tests.{leb-true}
+use borrow.Author.Tests.{leb-true, eqb-true, eqb-false}
 use Rattle.header.specs.declared.cursor.Cursor.{Cursor}
 use Rattle.refusals.specs.Refusals.{because}
 use Rattle.refusals.specs.declared.refusal.Cause.{Cause}
@@ -27,6 +27,14 @@ use Rattle.utf8.specs.Utf8.{utf8}
 use Rattle.elements_rules.specs.Forest.{Forest, none}
 use Rattle.elements_rules.specs.Reading.{Outcome, done, refused, held}
 use Rattle.elements_rules.specs.Stands.{IsValue}
+
+-- A kind is a master's, or a leaf's.
+pub by-kind : {C : Type 0} (k : Kind) → (numberOf k ≡ 1 → C) → ((numberOf k ≡ 1 → ⊥) → C) → C
+by-kind {C} k here there = go (eqb (numberOf k) 1) refl
+  where
+    go : (b : Bool) → eqb (numberOf k) 1 ≡ b → C
+    go true q = here (eqb-true (numberOf k) 1 q)
+    go false q = there (eqb-false (numberOf k) 1 q)
 
 -- What the body of a leaf is: a refusal, or a value whose octets are there.
 pub data Leaf (s : List ℕ) (at n : ℕ) (t : Told) : Type 0 where

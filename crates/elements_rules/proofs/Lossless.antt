@@ -2,12 +2,11 @@
 use Prim.Native.Nat.{ℕ, _+_, _-_, _*_, _≤_}
 use mathlib.Core.Path.{_≡_, refl, sym, ap, _∙_, subst}
 use mathlib.Core.List.{List, [], _∷_, _++_}
-use mathlib.Core.Bool.{Bool, true, false, not}
+use mathlib.Core.Bool.{not}
 use native.Mathlib.Omega.{arith}
 use lib.ListN.{length, getD, take, drop}
 use lib.Seq.{take-add, drop-drop}
-use lib.Dec.{eqb}
-use borrow.Author.Tests.{eqb-true}
+use borrow.Author.Tests.{ne-eqb}
 use Rattle.header.specs.Header.{heading, headerOf}
 use Rattle.header.specs.Reads.{headedAt, headerAt}
 use Rattle.header.specs.Theorems.{Octets}
@@ -22,6 +21,7 @@ use Rattle.elements_rules.specs.Stands.{StandsAt, Stands}
 use Rattle.elements_rules.specs.Promise.{zeros, tableOf}
 use Rattle.elements_rules.specs.Theorems.{Each, SameLeaf, Sound, Lossless}
 use Rattle.elements_rules.specs.declared.row.Row.{Row}
+use Rattle.elements_rules.proofs.Bodies.{by-kind}
 use Rattle.elements_rules.proofs.Tables.{zeros-at}
 use Rattle.elements_rules.proofs.Standing.{read-stands}
 use Rattle.elements_rules.proofs.Readback.{table-is, accepted-read}
@@ -64,12 +64,8 @@ module _ (s s′ : List ℕ) (o : Octets s) (o′ : Octets s′) where
       → SameLeaf s s′ (rowOf e parent depth at after)
       → part s (at + e .header .length) (span kids) ≡ part s′ (at + e .header .length) (span kids)
       → part s (at + e .header .length) (e .header .size) ≡ part s′ (at + e .header .length) (e .header .size)
-  same-payload id parent depth at after e kids i leaf k = go (eqb (numberOf (e .kind)) 1) refl
-    where
-      go : (b : Bool) → eqb (numberOf (e .kind)) 1 ≡ b
-          → part s (at + e .header .length) (e .header .size) ≡ part s′ (at + e .header .length) (e .header .size)
-      go true m = rw (i .taken (eqb-true _ _ m)) at k
-      go false m = leaf (ap not m)
+  same-payload id parent depth at after e kids i leaf k =
+      by-kind (e .kind) (λ m. rw (i .taken m) at k) (λ m. leaf (ap not (ne-eqb (numberOf (e .kind)) 1 m)))
 
   same-span : (id parent depth at n : ℕ) (f : Forest) → Stands s id at f
       → Each (Sound s′) (rows parent depth at n f) → Each (SameLeaf s s′) (rows parent depth at n f)

@@ -9,11 +9,10 @@ use native.Mathlib.Omega.{arith}
 use lib.ListN.{length, take, drop, length-take, length-drop}
 use lib.Seq.{drop-drop}
 use lib.Dec.{leb, eqb}
-use borrow.Author.Tests.{le-leb, eqb-true, eqb-false}
+use borrow.Author.Tests.{le-leb}
 use Rattle.header.proofs.Moves.{fewer-alike, later-alike, heading-alike}
 use Rattle.refusals.specs.declared.refusal.Cause.{Cause}
 use Rattle.refusals.specs.declared.refusal.Cause.the-variants as C
-use Rattle.kinds.specs.Kinds.{numberOf}
 use Rattle.kinds.specs.declared.kind.Kind.{Kind}
 use Rattle.kinds.specs.declared.kind.Kind.the-variants as K
 use Rattle.utf8.specs.Utf8.{utf8}
@@ -29,6 +28,7 @@ use Rattle.elements_rules.specs.declared.row.Mode.{Mode}
 use Rattle.elements_rules.specs.declared.reply.ReadReply.{ReadReply}
 use Rattle.elements_rules.specs.declared.reply.ReadReply.the-variants.{Rows}
 use Rattle.elements_rules.proofs.Limits.{within}
+use Rattle.elements_rules.proofs.Bodies.{by-kind}
 use Rattle.elements_rules.proofs.Standing.{stands-inside, read-stands}
 use Rattle.elements_rules.proofs.Readback.{table-rows, accepted-read}
 use Rattle.elements_rules.proofs.Unique.{read-unique}
@@ -109,11 +109,8 @@ module _ (s s′ : List ℕ) where
   children-fit : (parent at : ℕ) (e : Element) (kids : Forest) → StandsAt s parent at e kids
       → span kids ≤ e .header .size
   unfolding span
-  children-fit parent at e kids i = go (eqb (numberOf (e .kind)) 1) refl
-    where
-      go : (b : Bool) → eqb (numberOf (e .kind)) 1 ≡ b → span kids ≤ e .header .size
-      go true q = let x = i .taken (eqb-true (numberOf (e .kind)) 1 q) in omega arith
-      go false q = rw (i .childless (eqb-false (numberOf (e .kind)) 1 q)) (omega arith)
+  children-fit parent at e kids i =
+      by-kind (e .kind) (λ m. let x = i .taken m in omega arith) (λ m. rw (i .childless m) (omega arith))
 
   moves : (parent at at′ : ℕ) (f : Forest) → Stands s parent at f → Same at at′ (span f) → Stands s′ parent at′ f
   unfolding Stands span

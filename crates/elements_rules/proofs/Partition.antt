@@ -7,9 +7,8 @@ use mathlib.Core.Bool.{Bool, true, false, _&&_}
 use native.Mathlib.Nat.{zero-add, add-zero}
 use native.Mathlib.Omega.{arith}
 use lib.ListN.{length}
-use lib.Dec.{ltb, leb, eqb}
+use lib.Dec.{ltb, leb}
 use borrow.Author.Tests.{leb-true, leb-false, ltb-true, ltb-false, le-leb, lt-leb, le-ltb, lt-ltb, eq-eqb, ne-eqb}
-use borrow.Author.Tests.{eqb-true, eqb-false}
 use Rattle.kinds.specs.Kinds.{numberOf}
 use Rattle.elements_rules.specs.Forest.{Element, Forest, none, node, whole, span, count}
 use Rattle.elements_rules.specs.Reading.{done}
@@ -19,6 +18,7 @@ use Rattle.elements_rules.specs.Holds.{within, inHeader, inLeaf, one, ho
 use Rattle.elements_rules.specs.Promise.{readOf}
 use Rattle.elements_rules.specs.Theorems.{Partition}
 use Rattle.elements_rules.specs.declared.row.Row.{Row}
+use Rattle.elements_rules.proofs.Bodies.{by-kind}
 use Rattle.elements_rules.proofs.Standing.{read-stands}
 use Rattle.elements_rules.proofs.Readback.{accepted-read}
 
@@ -81,31 +81,23 @@ unfolding Stands rows span holders
 covers s id parent depth at n none i x = sym (span-none at x)
 covers s id parent depth at n (node e kids rest) i x =
     let h = e .header .length in
+    let c = n + 1 + count kids in
     let inner = rows (n + 1) (depth + 1) (at + h) (n + 1) kids in
     let k = covers s (e .header .id) (n + 1) (depth + 1) (at + h) (n + 1) kids (i .1) x in
-    let r = covers s id parent depth (at + whole e) _ rest (i .2) x in
+    let r = covers s id parent depth (at + whole e) c rest (i .2) x in
     let j = span-join at (whole e) (span rest) x in
-    let a = holders-append inner (rows parent depth (at + whole e) _ rest) x in
-    go (eqb (numberOf (e .kind)) 1) refl k r j a
-  where
-    go : (b : Bool) → eqb (numberOf (e .kind)) 1 ≡ b
-        → {inner others both : ℕ} → inner ≡ one (within (at + e .header .length) (span kids) x)
-        → others ≡ one (within (at + whole e) (span rest) x)
-        → one (within at (whole e) x) + one (within (at + whole e) (span rest) x)
-        ≡ one (within at (whole e + span rest) x)
-        → both ≡ inner + others
-        → row-holds parent depth at (n + 1 + count kids) x e + both ≡ one (within at (whole e + span rest) x)
-    go true m k r j a =
-        let w = master-holds parent depth at (n + 1 + count kids) x e (eqb-true _ _ m) in
-        let v = ap (λ (z : ℕ). one (within (at + e .header .length) z x)) (i .0 .taken (eqb-true _ _ m)) in
-        let u = span-join at (e .header .length) (e .header .size) x in
-        omega arith
-    go false m k r j a =
-        let w = leaf-holds parent depth at (n + 1 + count kids) x e (eqb-false _ _ m) in
-        let c = i .0 .childless (eqb-false _ _ m) in
-        let v = ap (λ (f : Forest). one (within (at + e .header .length) (span f) x)) c in
-        let u = span-none (at + e .header .length) x in
-        omega arith
+    let a = holders-append inner (rows parent depth (at + whole e) c rest) x in
+    by-kind (e .kind)
+    (λ m.
+    let w = master-holds parent depth at c x e m in
+    let v = ap (λ (z : ℕ). one (within (at + h) z x)) (i .0 .taken m) in
+    let u = span-join at h (e .header .size) x in
+    omega arith)
+    (λ m.
+    let w = leaf-holds parent depth at c x e m in
+    let v = ap (λ (f : Forest). one (within (at + h) (span f) x)) (i .0 .childless m) in
+    let u = span-none (at + h) x in
+    omega arith)
 
 pub covered : (s : List ℕ) (start size parent numbers : ℕ) (f : Forest)
     → readOf s start size parent numbers ≡ done f

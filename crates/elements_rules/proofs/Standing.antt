@@ -2,11 +2,8 @@
 use Prim.Native.Nat.{ℕ, zero, suc, _+_, _-_, _/_, _≤_}
 use mathlib.Core.Path.{_≡_, refl, subst}
 use mathlib.Core.List.{List}
-use mathlib.Core.Bool.{Bool, true, false}
 use native.Mathlib.Omega.{arith}
 use lib.ListN.{length}
-use lib.Dec.{eqb}
-use borrow.Author.Tests.{eqb-true, eqb-false}
 use Rattle.header.proofs.Inside.{header-inside}
 use Rattle.kinds.specs.Kinds.{numberOf, kindUnder}
 use Rattle.kinds.specs.declared.kind.Kind.{Kind}
@@ -20,7 +17,7 @@ use Rattle.elements_rules.specs.declared.row.Mode.{Mode}
 use Rattle.elements_rules.proofs.Limits.{start-inside}
 use Rattle.elements_rules.proofs.Outcomes.{of-refuse}
 use Rattle.elements_rules.proofs.Parts.{of-siblings, of-none, no-depth, of-element}
-use Rattle.elements_rules.proofs.Bodies.{Leaf, a-refusal, a-value, leaf-body, master-body, of-held}
+use Rattle.elements_rules.proofs.Bodies.{by-kind, Leaf, a-refusal, a-value, leaf-body, master-body, of-held}
 use Rattle.elements_rules.proofs.Forests.{span-join}
 
 module _ (s : List ℕ) where
@@ -70,15 +67,11 @@ module _ (s : List ℕ) where
   not-master at n k v m = subst IsValue (master-body s at n k m) v
 
   is-master : (at n : ℕ) (k : Kind) → bodyOf s at n k ≡ master → numberOf k ≡ 1
-  is-master at n k e = go (eqb (numberOf k) 1) refl
+  is-master at n k e = by-kind k (λ m. m) (λ m. by (leaf-body s at n k m))
     where
-      go : (b : Bool) → eqb (numberOf k) 1 ≡ b → numberOf k ≡ 1
-      go true d = eqb-true (numberOf k) 1 d
-      go false d = by (leaf-body s at n k (eqb-false (numberOf k) 1 d))
-        where
-          by : Leaf s at n (bodyOf s at n k) → numberOf k ≡ 1
-          by (a-refusal c r) = let z : _≡_ {A = ℕ} 0 1 = cc in absurd (omega arith)
-          by (a-value i v) = absurd (subst IsValue e v)
+      by : Leaf s at n (bodyOf s at n k) → numberOf k ≡ 1
+      by (a-refusal c r) = let z : _≡_ {A = ℕ} 0 1 = cc in absurd (omega arith)
+      by (a-value i v) = absurd (subst IsValue e v)
 
   -- One element over its children.
   stands-node : (parent at : ℕ) (e : Element) (kids : Forest) → StandsAt s parent at e kids

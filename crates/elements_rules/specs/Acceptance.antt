@@ -37,8 +37,8 @@ AcceptedExactly =
     → (ReadPromise s start size parent t (Rows n) t′ → Acceptable s start size parent t n t′)
     × (Acceptable s start size parent t n t′ → ReadPromise s start size parent t (Rows n) t′)
 
--- A tree for the reader of a master's body, whose elements have that depth, with n of `cap` rows taken: it stands there,
--- takes up the size, has no more depths than are left and, where rows are kept, finds them free.
+-- A tree for the reader of a master's body, whose elements have that depth, with n of `cap` rows taken: it stands
+-- there, takes up the size, has no more depths than are left and, where rows are kept, finds them free.
 pub record Readable (s : List ℕ) (mode : Mode) (cap depth parent at size n : ℕ) (f : Forest) : Type 0 where
   pub stands : Stands s parent at f
   pub taken : span f ≡ size
@@ -56,9 +56,10 @@ BodyExactly =
 
 -- ---- a payload's own bytes
 
--- Two recordings have the same bytes in a payload, and may differ in every other. If it is accepted in the one, it is in
--- the other, under the same parent id and into a table of the same length: with the same reply and the same table. It
--- shuts out a reader that looks behind the payload, as one that tests whether a byte follows the last child.
+-- Two recordings have the same bytes in a payload, and may differ in every other. If it is accepted in the one, it is
+-- in the other, under the same parent id and into a table of the same length: with the same reply and the same table.
+-- It shuts out a reader that accepts by what stands behind the payload. Of a refusal it says nothing: a child that
+-- overruns the payload is 1, 3 or 7 by the bytes behind it (P11).
 abbrev pub OwnBytes : Type 0
 OwnBytes =
     (s s′ : List ℕ) (start size parent : ℕ) (t u : List ℕ) (n : ℕ) (t′ : List ℕ) (r : ReadReply) (u′ : List ℕ)
@@ -88,8 +89,8 @@ pub record OneTree (start start′ n : ℕ) (t′ u′ : List ℕ) : Type 0 wher
   pub moved : rowsOf u′ n ≡ map (elsewhere start start′) (rowsOf t′ n)
 
 -- An accepted payload's bytes stand at another place, of this or another recording. There they are accepted too, under
--- the same parent id and into any table with rows enough, and are the same tree. It shuts out a reader that asks where an
--- element stands, as one that takes even addresses alone, and one whose addresses count from the start of the payload.
+-- the same parent id and into any table with rows enough, and are the same tree. It shuts out a reader that asks where
+-- an element stands, as one that takes even addresses alone, and one whose addresses count from the payload's start.
 abbrev pub Moves : Type 0
 Moves =
     (s s′ : List ℕ) (start start′ size parent : ℕ) (t u : List ℕ) (n : ℕ) (t′ : List ℕ) (r : ReadReply) (u′ : List ℕ)
