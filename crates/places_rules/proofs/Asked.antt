@@ -24,7 +24,7 @@ use Rattle.places_rules.specs.declared.whose.WhoseReply.the-variants.{Re
 -- A refusal that the reading tells is told of the question.
 refusal-told : (start x : ℕ) (o : Outcome) (e : Refusal) → refusal e ≡ replyOf o → refusal e ≡ whoseOf start x o
 refusal-told start x (done f) e q = let z : _≡_ {A = ℕ} 0 1 = cc in absurd (omega arith)
-refusal-told start x (refused e′) e q = q
+refusal-told start x (refused e′) e q = let w : e ≡ e′ = cc in ap refusal w
 
 -- The rows that were read are rows of the table.
 pub asked-rows :
@@ -48,17 +48,16 @@ module _ (s : List ℕ) (start size parent x : ℕ) (t t′ : List ℕ) where
   refusal-is e q z = outcome-told (Refused e) (refused e) q refl z
 
   pub asked-broken :
-      (e : Refusal) → allowed s start (length t) ≡ false → e ≡ badArgument → t′ ≡ zeros (length t)
-      → WhosePromise s start size parent x t (Refused e) t′
+      allowed s start (length t) ≡ false → t′ ≡ zeros (length t)
+      → WhosePromise s start size parent x t (Refused badArgument) t′
   unfolding askedOf
-  asked-broken e a b z = refusal-is e (refuses _ _ _ (ap not a) ∙ rw b) z
+  asked-broken a z = refusal-is badArgument (refuses _ _ _ (ap not a)) z
 
   module _ (a : allowed s start (length t) ≡ true) where
     pub asked-outside :
-        (e : Refusal) → within start size x ≡ false → e ≡ outside → t′ ≡ zeros (length t)
-        → WhosePromise s start size parent x t (Refused e) t′
+        within start size x ≡ false → t′ ≡ zeros (length t) → WhosePromise s start size parent x t (Refused outside) t′
     unfolding askedOf
-    asked-outside e w b z = refusal-is e (passes _ _ _ (ap not a) ∙ refuses _ _ _ (ap not w) ∙ rw b) z
+    asked-outside w z = refusal-is outside (passes _ _ _ (ap not a) ∙ refuses _ _ _ (ap not w)) z
 
     module _ (w : within start size x ≡ true) where
       -- Past 14 and 15 the question's outcome is the reading's.

@@ -19,7 +19,7 @@ use Rattle.elements_rules.proofs.Forests.{length-rows}
 use Rattle.elements_rules.proofs.Outcomes.{passes, of-refuse}
 use Rattle.elements_rules.proofs.Partition.{covered}
 use Rattle.elements_rules.proofs.Readback.{rows-back}
-use Rattle.places_rules.specs.Whose.{holderIn, whoseIn, askedOf, whoseOf}
+use Rattle.places_rules.specs.Whose.{Whose, byHeader, byPayload, holderIn, whoseIn, askedOf, whoseOf}
 use Rattle.places_rules.specs.Promise.{whoseTold, WhosePromise}
 use Rattle.places_rules.specs.Theorems.{Owner, OneRowOwns}
 use Rattle.places_rules.specs.declared.whose.WhoseReply.{WhoseReply}
@@ -49,8 +49,8 @@ record Found (rs : List Row) (k total x : ℕ) : Type 0 where
   there : n < length rs
   only : (m : ℕ) → m < length rs → holds (nth rs m) x ≡ true → m ≡ n
   which :
-      ((whoseIn rs k total x ≡ accepted ((k + n) ∷ 0 ∷ total ∷ [])) × (inHeader (nth rs n) x ≡ true))
-      ⊎ ((whoseIn rs k total x ≡ accepted ((k + n) ∷ 1 ∷ total ∷ [])) × (inLeaf (nth rs n) x ≡ true))
+      ((whoseIn rs k total x ≡ accepted (byHeader (k + n) total)) × (inHeader (nth rs n) x ≡ true))
+      ⊎ ((whoseIn rs k total x ≡ accepted (byPayload (k + n) total)) × (inLeaf (nth rs n) x ≡ true))
 
 -- The first row holds it, and no row behind does.
 only-first : (r : Row) (rs : List Row) (x : ℕ) → holders rs x ≡ 0
@@ -75,7 +75,7 @@ module _ (r : Row) (rs : List Row) (k total x : ℕ) where
         n = 0;
         there = omega arith;
         only = only-first r rs x z;
-        which = inl (rw e (ap (λ (m : ℕ). accepted (m ∷ 0 ∷ total ∷ [])) first), e);
+        which = inl (rw e (ap (λ (m : ℕ). accepted (byHeader m total)) first), e);
       }
 
   by-payload : inHeader r x ≡ false → inLeaf r x ≡ true → holders rs x ≡ 0 → Found (r ∷ rs) k total x
@@ -86,7 +86,7 @@ module _ (r : Row) (rs : List Row) (k total x : ℕ) where
         n = 0;
         there = omega arith;
         only = only-first r rs x z;
-        which = inr (rw (d, e) (ap (λ (m : ℕ). accepted (m ∷ 1 ∷ total ∷ [])) first), e);
+        which = inr (rw (d, e) (ap (λ (m : ℕ). accepted (byPayload m total)) first), e);
       }
 
   by-later : inHeader r x ≡ false → inLeaf r x ≡ false → Found rs (k + 1) total x → Found (r ∷ rs) k total x
@@ -99,10 +99,14 @@ module _ (r : Row) (rs : List Row) (k total x : ℕ) where
         only = only-later r rs x (f .n) (rw (d, e)) (f .only);
         which =
             ⊎-elim
-            (λ h. inl (rw (d, e) (h .0 ∙ ap (λ (m : ℕ). accepted (m ∷ 0 ∷ total ∷ [])) next), h .1))
-            (λ h. inr (rw (d, e) (h .0 ∙ ap (λ (m : ℕ). accepted (m ∷ 1 ∷ total ∷ [])) next), h .1))
+            (λ (h : By byHeader inHeader). inl (rw (d, e) (h .0 ∙ ap (λ (m : ℕ). accepted (byHeader m total)) next), h .1))
+            (λ (h : By byPayload inLeaf). inr (rw (d, e) (h .0 ∙ ap (λ (m : ℕ). accepted (byPayload m total)) next), h .1))
             (f .which);
       }
+    where
+      By : (ℕ → ℕ → Whose) → (Row → ℕ → Bool) → Type 0
+      By by holds-it =
+          (whoseIn rs (k + 1) total x ≡ accepted (by (k + 1 + f .n) total)) × (holds-it (nth rs (f .n)) x ≡ true)
 
   -- One of the ways, since the row and the rows behind it are counted once together.
   by-cases :

@@ -22,24 +22,21 @@ use Rattle.places_rules.specs.declared.payload.RangeReply.the-variants.{
 -- ---- the limits, one after another
 
 module _ (s t : List ℕ) (k : ℕ) where
-  pub not-allowed : (e : Refusal) → allowed s 0 (length t) ≡ false → e ≡ badArgument
-      → RangePromise s t k (Refused e)
+  pub not-allowed : allowed s 0 (length t) ≡ false → RangePromise s t k (Refused badArgument)
   unfolding payloadRange
-  not-allowed e a b = record { reply = rw (a, b) }
+  not-allowed a = record { reply = rw a }
 
   module _ (a : allowed s 0 (length t) ≡ true) where
-    pub no-row : (e : Refusal) → length t / width ≤ k → e ≡ badArgument → RangePromise s t k (Refused e)
+    pub no-row : length t / width ≤ k → RangePromise s t k (Refused badArgument)
     unfolding payloadRange
-    no-row e l b = record { reply = rw (a, le-ltb k (length t / width) l, b) }
+    no-row l = record { reply = rw (a, le-ltb k (length t / width) l) }
 
     module _ (l : k < length t / width) (r : Row) (q : r ≡ rowAt t k) where
-      pub past-end :
-          (e : Refusal) → length s < r .address + r .header + r .payload → e ≡ badArgument
-          → RangePromise s t k (Refused e)
+      pub past-end : length s < r .address + r .header + r .payload → RangePromise s t k (Refused badArgument)
       unfolding payloadRange
-      past-end e h b =
+      past-end h =
           let z = lt-leb (r .address + r .header + r .payload) (length s) h in
-          record { reply = rw (a, lt-ltb k (length t / width) l, ← q, z, b) }
+          record { reply = rw (a, lt-ltb k (length t / width) l, ← q, z) }
 
       pub range-is :
           r .address + r .header + r .payload ≤ length s

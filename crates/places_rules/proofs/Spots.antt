@@ -11,7 +11,6 @@ use lib.Dec.{ltb}
 use borrow.Author.Tests.{ltb-true, ltb-false, le-leb, lt-leb, lt-ltb, le-ltb, eq-eqb, ne-eqb}
 use Rattle.refusals.specs.Refusals.{outside}
 use Rattle.refusals.specs.Reply.{refusal}
-use Rattle.refusals.specs.declared.refusal.Refusal.{Refusal}
 use Rattle.elements_rules.specs.Rows.{width, rowAt, rowsOf}
 use Rattle.elements_rules.specs.Holds.{within}
 use Rattle.elements_rules.specs.declared.row.Row.{Row}
@@ -93,9 +92,9 @@ pub walk-from : (t : List ℕ) (rows x : ℕ) → Walk t rows x 0
 walk-from t rows x = record { some = omega arith; rest = rw (sub-zero rows) }
 
 module _ (t : List ℕ) (rows x n : ℕ) (w : Walk t rows x n) where
-  pub walk-ends : (e : Refusal) → e ≡ outside → rows ≤ n → refusal e ≡ whoseIn (rowsOf t rows) 0 rows x
+  pub walk-ends : rows ≤ n → refusal outside ≡ whoseIn (rowsOf t rows) 0 rows x
   unfolding whoseIn rowsOf
-  walk-ends e q l = let z : rows - n ≡ 0 = omega arith in rw q (sym (w .rest ∙ rw z))
+  walk-ends l = let z : rows - n ≡ 0 = omega arith in sym (w .rest ∙ rw z)
 
   module _ (l : n < rows) (r : Row) (e : r ≡ rowAt t n) where
     pub walk-step :

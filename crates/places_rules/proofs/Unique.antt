@@ -1,36 +1,34 @@
--- Any two replies that a promise permits are equal (`OneRange`, `OnePayload`, `OneOwner`). Assumes nothing.
+-- Any two replies that a promise permits are equal (`OneRange`, `OnePayload`, `OneOwner`), and a refusal is one of
+-- document 01's list (`PlacesRefuseListed`). Assumes nothing.
 use Prim.Native.Nat.{ℕ}
 use mathlib.Core.Path.{_≡_, refl, sym, ap, _∙_}
-use mathlib.Core.Bool.{cond}
-use lib.ListN.{getD}
-use lib.Dec.{eqb}
 use Rattle.refusals.specs.Reply.{Reply, accepted, refusal}
+use Rattle.refusals.proofs.Listed.{listed}
+use Rattle.bodies_rules.specs.declared.body.Range.{Range}
 use Rattle.elements_rules.specs.Reading.{Outcome}
 use Rattle.elements_rules.specs.Promise.{tableOf}
-use Rattle.places_rules.specs.Whose.{askedOf, whoseOf}
+use Rattle.places_rules.specs.Whose.{Whose, byHeader, byPayload, askedOf, whoseOf}
 use Rattle.places_rules.specs.Promise.{rangeTold, whoseTold}
-use Rattle.places_rules.specs.Theorems.{OneRange, OnePayload, OneOwner}
+use Rattle.places_rules.specs.Theorems.{OneRange, OnePayload, OneOwner, PlacesRefuseListed}
 use Rattle.places_rules.specs.declared.payload.RangeReply.{RangeReply}
-use Rattle.places_rules.specs.declared.payload.RangeReply.the-variants.{Range, Refused as RangeRefused}
+use Rattle.places_rules.specs.declared.payload.RangeReply.the-variants.{Range as RangeIs, Refused as RangeRefused}
 use Rattle.places_rules.specs.declared.whose.WhoseReply.{WhoseReply}
 use Rattle.places_rules.specs.declared.whose.WhoseReply.the-variants.{Header, Payload, Refused}
 
 -- ---- what was told tells the reply
 
-abbrev pub rangeOf : Reply → RangeReply
-rangeOf (accepted values) = Range (record { at = getD values 0 0; length = getD values 1 0 })
-rangeOf (refusal number id) = RangeRefused (record { number = number; id = id })
+abbrev pub rangeOf : Reply Range → RangeReply
+rangeOf (accepted r) = RangeIs r
+rangeOf (refusal e) = RangeRefused e
 
 pub range-back : (r : RangeReply) → rangeOf (rangeTold r) ≡ r
-range-back (Range r) = refl
+range-back (RangeIs r) = refl
 range-back (RangeRefused e) = refl
 
-abbrev pub replied : Reply → WhoseReply
-replied (accepted values) =
-    cond (eqb (getD values 1 0) 0)
-    (Header (getD values 0 0) (getD values 2 0))
-    (Payload (getD values 0 0) (getD values 2 0))
-replied (refusal number id) = Refused (record { number = number; id = id })
+abbrev pub replied : Reply Whose → WhoseReply
+replied (accepted (byHeader row rows)) = Header row rows
+replied (accepted (byPayload row rows)) = Payload row rows
+replied (refusal e) = Refused e
 
 pub replied-back : (r : WhoseReply) → replied (whoseTold r) ≡ r
 replied-back (Header row rows) = refl
@@ -51,3 +49,7 @@ owner-unique s start size parent x t u r r′ t′ u′ l p q =
     let a = p .reply ∙ ap (λ (n : ℕ). whoseOf start x (asked n)) l ∙ sym (q .reply) in
     let b = p .table ∙ ap (λ (n : ℕ). tableOf start n (asked n)) l ∙ sym (q .table) in
     (sym (replied-back r) ∙ ap replied a ∙ replied-back r′, b)
+
+pub places-refuse-listed : PlacesRefuseListed
+places-refuse-listed =
+    record { range = λ s t row e p. listed e; owner = λ s start size parent x t e t′ p. listed e }

@@ -5,6 +5,8 @@ use mathlib.Core.List.{List}
 use mathlib.Core.Logic.{_⊎_}
 use mathlib.Core.Bool.{true, _||_}
 use lib.ListN.{length}
+use Rattle.refusals.specs.Theorems.{Listed}
+use Rattle.refusals.specs.declared.refusal.Refusal.{Refusal}
 use Rattle.elements_rules.specs.Forest.{Forest, count}
 use Rattle.elements_rules.specs.Reading.{done}
 use Rattle.elements_rules.specs.Rows.{rowAt, rowsOf, nth}
@@ -16,8 +18,9 @@ use Rattle.places_rules.specs.Payload.{range, payloadRange}
 use Rattle.places_rules.specs.Whose.{askedOf}
 use Rattle.places_rules.specs.Promise.{RangePromise, PayloadPromise, WhosePromise}
 use Rattle.places_rules.specs.declared.payload.RangeReply.{RangeReply}
+use Rattle.places_rules.specs.declared.payload.RangeReply.the-variants.{Refused as NoRange}
 use Rattle.places_rules.specs.declared.whose.WhoseReply.{WhoseReply}
-use Rattle.places_rules.specs.declared.whose.WhoseReply.the-variants.{Header, Payload}
+use Rattle.places_rules.specs.declared.whose.WhoseReply.the-variants.{Header, Payload, Refused}
 
 -- Any two replies that a promise permits to one question are equal (document 01, Strength of the promises).
 abbrev pub OneRange : Type 0
@@ -33,6 +36,13 @@ abbrev pub OneOwner : Type 0
 OneOwner =
     (s : List ℕ) (start size parent x : ℕ) (t u : List ℕ) (r r′ : WhoseReply) (t′ u′ : List ℕ) → length t ≡ length u
     → WhosePromise s start size parent x t r t′ → WhosePromise s start size parent x u r′ u′ → (r ≡ r′) × (t′ ≡ u′)
+
+-- A refusal that a promise permits is one of document 01's list.
+pub record PlacesRefuseListed : Type 0 where
+  pub range : (s t : List ℕ) (row : ℕ) (e : Refusal) → RangePromise s t row (NoRange e) → Listed e
+  pub owner :
+      (s : List ℕ) (start size parent x : ℕ) (t : List ℕ) (e : Refusal) (t′ : List ℕ)
+      → WhosePromise s start size parent x t (Refused e) t′ → Listed e
 
 -- The owner of an address among rows: one of them holds it, by its header or by its leaf payload as the reply says, and
 -- no other row holds it.

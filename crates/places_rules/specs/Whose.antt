@@ -17,25 +17,29 @@ use Rattle.places_rules.specs.declared.whose.Holder.the-variants.{Header
 unfoldable pub holderIn : Row → ℕ → Holder
 holderIn r x = cond (inHeader r x) Header (cond (inLeaf r x) Payload Neither)
 
--- The reply: the row, 0 for its header or 1 for its payload, and how many rows there are.
-abbrev pub named : Holder → ℕ → ℕ → Reply → Reply
-named Header row total others = accepted (row ∷ 0 ∷ total ∷ [])
-named Payload row total others = accepted (row ∷ 1 ∷ total ∷ [])
+-- The row that holds the address, by its header or by its payload, and how many rows there are.
+pub data Whose : Type 0 where
+  byHeader : (row rows : ℕ) → Whose
+  byPayload : (row rows : ℕ) → Whose
+
+abbrev pub named : Holder → ℕ → ℕ → Reply Whose → Reply Whose
+named Header row total others = accepted (byHeader row total)
+named Payload row total others = accepted (byPayload row total)
 named Neither row total others = others
 
 -- The first row that holds the address, the rows counted from `row` on. Where none does the answer would be 15; that
 -- one always does is a theorem (`OneRowOwns`).
-unfoldable pub whoseIn : List Row → ℕ → ℕ → ℕ → Reply
+unfoldable pub whoseIn : List Row → (row total x : ℕ) → Reply Whose
 whoseIn [] row total x = refusal outside
 whoseIn (r ∷ rs) row total x = named (holderIn r x) row total (whoseIn rs (row + 1) total x)
 
 -- 14; then 15 for an address outside the payload that the caller named; then the reading.
-unfoldable pub askedOf : List ℕ → ℕ → ℕ → ℕ → ℕ → ℕ → Outcome
+unfoldable pub askedOf : List ℕ → (start size parent x numbers : ℕ) → Outcome
 askedOf s start size parent x numbers =
     refuseIf (not (allowed s start numbers)) badArgument
     (refuseIf (not (within start size x)) outside
     (filled s start size parent numbers))
 
-abbrev pub whoseOf : ℕ → ℕ → Outcome → Reply
+abbrev pub whoseOf : (start x : ℕ) → Outcome → Reply Whose
 whoseOf start x (done f) = whoseIn (rows 0 0 start 0 f) 0 (count f) x
 whoseOf start x (refused e) = refusal e

@@ -48,9 +48,9 @@ loop-again c =
     walk-on _ _ _ _ (d .before .loop .inv) (d .loop-test .taken) (r .result) (r .ensures) q
 
 returns-3 : tie.Need-returns-3 Inv-loop μ-loop
-returns-3 c = walk-ends _ _ _ _ (c .before .before .loop .inv) _ (c .outside .ensures) (c .before .loop-test .left)
+returns-3 c = walk-ends _ _ _ _ (c .before .loop .inv) (c .loop-test .left)
 
 pub find-spec : {M : Type 1} → statement M
 find-spec =
     tie.close (tie.spec Inv-loop μ-loop loop-holds row-at-requires (λ c κs. search needs) (λ c. search needs) returns
-    (λ c. search needs) returns-2 (λ c. search needs) add-n loop-less loop-again (λ c κs. search needs) returns-3)
+    (λ c. search needs) returns-2 (λ c. search needs) add-n loop-less loop-again returns-3)

@@ -9,18 +9,18 @@ use Rattle.places.proofs.whose.whose_byte.Tie as tie
 
 returns : tie.Need-returns
 returns c =
-    let d = c .before .before in
+    let d = c .before in
     let k = d .before .before .before .before .clear in
-    let a = failed _ _ (d .is-allowed .ensures ∙ allowed-as _ _ (k .kept .0)) (c .before .if1 .taken) in
-    asked-broken _ _ _ _ _ _ _ _ a (c .bad-argument .ensures) (k .ensures)
+    let a = failed _ _ (d .is-allowed .ensures ∙ allowed-as _ _ (k .kept .0)) (c .if1 .taken) in
+    asked-broken _ _ _ _ _ _ _ a (k .ensures)
 
 returns-2 : tie.Need-returns-2
 returns-2 c =
-    let d = c .before .before .before in
+    let d = c .before .before in
     let k = d .before .before .before .before .before .clear in
     let a = passed _ _ (d .before .is-allowed .ensures ∙ allowed-as _ _ (k .kept .0)) (d .if1 .left) in
-    let w = failed _ _ (c .before .before .is-within .ensures) (c .before .if2 .taken) in
-    asked-outside _ _ _ _ _ _ _ a _ w (c .outside .ensures) (k .ensures)
+    let w = failed _ _ (c .before .is-within .ensures) (c .if2 .taken) in
+    asked-outside _ _ _ _ _ _ _ a w (k .ensures)
 
 fill-requires : tie.Need-fill-requires
 fill-requires c κs =
@@ -57,6 +57,6 @@ returns-4 c =
 
 pub whose-byte-spec : {M : Type 1} → statement M
 whose-byte-spec =
-    tie.close (tie.spec (λ c κs. search needs) (λ c κs. search needs) (λ c κs. search needs) (λ c. search needs) returns
-    (λ c κs. search needs) (λ c κs. search needs) (λ c. search needs) returns-2 fill-requires (λ c. search needs)
-    (λ c. search needs) find-requires (λ c. search needs) returns-3 (λ c. search needs) returns-4)
+    tie.close (tie.spec (λ c κs. search needs) (λ c κs. search needs) (λ c. search needs) returns (λ c κs. search needs)
+    (λ c. search needs) returns-2 fill-requires (λ c. search needs) (λ c. search needs) find-requires
+    (λ c. search needs) returns-3 (λ c. search needs) returns-4)
