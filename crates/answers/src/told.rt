@@ -74,10 +74,11 @@ pub fn before(ending: u64, rows: u64) -> Told {
 
 // A refusal alone, of one of its two kinds.
 pub fn refused(ending: u64, refusal: Refusal) -> Told {
+    let cause = refusal.cause;
     let mut told = [0u64; ROOM];
     told[1] = ending;
-    told[2] = refusal.number as u64;
-    told[3] = refusal.id as u64;
+    told[2] = cause.number();
+    told[3] = cause.id() as u64;
     told
 }
 

@@ -3,6 +3,7 @@ use answers::told;
 use answers::told::Told;
 use bodies_rules::Body;
 use bodies_rules::BodyReply;
+use bodies_rules::Value;
 use questions::asked::Asked;
 
 pub fn body(asked: Asked, recording: &[u8]) -> Told {
@@ -15,14 +16,20 @@ pub fn body(asked: Asked, recording: &[u8]) -> Told {
 
 // The case of a body, and its value.
 fn body_told(body: Body) -> Told {
-    let none = told::before(told::ENDED, 0);
     match body {
-        Body::Integer(value) => told::integer(none, 0, value),
-        Body::Unsigned(value) => told::count(none, 1, value),
-        Body::Float(value) => told::float(none, 2, value),
-        Body::Date(value) => told::integer(none, 3, value),
-        Body::Text(range) => told::range(none, 4, 0, range),
-        Body::Bytes(range) => told::range(none, 5, 0, range),
-        Body::Master => told::word(none, 6),
+        Body::Value(value) => value_told(value),
+        Body::Master => told::word(told::before(told::ENDED, 0), 6),
+    }
+}
+
+fn value_told(value: Value) -> Told {
+    let none = told::before(told::ENDED, 0);
+    match value {
+        Value::Integer(value) => told::integer(none, 0, value),
+        Value::Unsigned(value) => told::count(none, 1, value),
+        Value::Float(value) => told::float(none, 2, value),
+        Value::Date(value) => told::integer(none, 3, value),
+        Value::Text(range) => told::range(none, 4, 0, range),
+        Value::Bytes(range) => told::range(none, 5, 0, range),
     }
 }

@@ -48,7 +48,8 @@ fn part_lines(page: &mut [u8], held: usize, recording: &[u8], part: u32, table: 
     match find_part(recording, part, table) {
         PartReply::Absent { heads } => put(page, named, b" absent\n"),
         PartReply::Refused(refusal) => {
-            let number = put_decimal(page, named, b" refused ", refusal.number as u64);
+            let cause = refusal.cause;
+            let number = put_decimal(page, named, b" refused ", cause.number());
             put(page, number, b"\n")
         }
         PartReply::Found {

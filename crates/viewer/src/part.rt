@@ -32,14 +32,17 @@ pub extern "C" fn uz_find_part(recording: &[u8], part: u32, table: &mut [u64]) -
             rows: 0,
             heads,
         },
-        PartReply::Refused(refusal) => UzPart {
-            refused: refusal.number as u64,
-            id: refusal.id as u64,
-            found: 0,
-            at: 0,
-            size: 0,
-            rows: 0,
-            heads: 0,
-        },
+        PartReply::Refused(refusal) => {
+            let cause = refusal.cause;
+            UzPart {
+                refused: cause.number(),
+                id: cause.id() as u64,
+                found: 0,
+                at: 0,
+                size: 0,
+                rows: 0,
+                heads: 0,
+            }
+        }
     }
 }

@@ -14,10 +14,13 @@ pub extern "C" fn uz_row_payload(recording: &[u8], table: &[u64], row: u64) -> U
             at: range.at,
             length: range.length,
         },
-        RangeReply::Refused(refusal) => UzRange {
-            refused: refusal.number as u64,
-            at: 0,
-            length: 0,
-        },
+        RangeReply::Refused(refusal) => {
+            let cause = refusal.cause;
+            UzRange {
+                refused: cause.number(),
+                at: 0,
+                length: 0,
+            }
+        }
     }
 }

@@ -29,11 +29,14 @@ pub extern "C" fn uz_whose_byte(
             in_payload: 1,
             rows,
         },
-        WhoseReply::Refused(refusal) => UzPlace {
-            refused: refusal.number as u64,
-            row: 0,
-            in_payload: 0,
-            rows: 0,
-        },
+        WhoseReply::Refused(refusal) => {
+            let cause = refusal.cause;
+            UzPlace {
+                refused: cause.number(),
+                row: 0,
+                in_payload: 0,
+                rows: 0,
+            }
+        }
     }
 }

@@ -23,6 +23,6 @@ range-crosses s t row r p = record { reply = ap rangeFace (p .reply) }
 
 pub place-crosses :
     (s : List ℕ) (start size parent x : ℕ) (t : List ℕ) (r : WhoseReply) (t′ : List ℕ)
-    → WhosePromise s start size parent x t r t′ → UzPlacePromise s start size parent x t (placeFace (whoseTold
-    r)) t′
+    → WhosePromise s start size parent x t r t′ → UzPlacePromise s start size parent x t
+    (placeFace (whoseTold r)) t′
 place-crosses s start size parent x t r t′ p = record { reply = ap placeFace (p .reply); table = p .table }

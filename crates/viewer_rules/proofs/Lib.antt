@@ -1,6 +1,5 @@
 -- What the proofs of `viewer` share, and the theorems.
 pub mod Crossing
 pub mod Unique
-pub mod Numbers
 pub mod Tells
 pub mod Named

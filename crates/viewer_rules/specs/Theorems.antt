@@ -3,6 +3,7 @@ use Prim.Native.Nat.{ℕ, _≤_}
 use mathlib.Core.Path.{_≡_}
 use mathlib.Core.List.{List}
 use lib.ListN.{length}
+use Rattle.refusals.specs.Causes.{numberOf, idOf}
 use Rattle.refusals.specs.Reply.{Reply, accepted, refusal}
 use Rattle.places_rules.specs.Payload.{payloadRange}
 use Rattle.places_rules.specs.Promise.{valuesOf, RangePromise, WhosePromise}
@@ -38,13 +39,13 @@ OneUzPlace =
 
 -- ---- `refused` tells a refusal
 
-abbrev pub Accepts : Reply → Type 0
+abbrev pub Accepts : {A : Type 0} → Reply A → Type 0
 Accepts (accepted values) = Unit
-Accepts (refusal number id) = ⊥
+Accepts (refusal e) = ⊥
 
 -- What crosses as `refused` is 0 exactly if the reply accepts, and else one of document 01's numbers: no refusal has
 -- the number 0, so that a C caller who tests `refused` misses none.
-pub record Tells (reply : Reply) (refused : ℕ) : Type 0 where
+pub record Tells {A : Type 0} (reply : Reply A) (refused : ℕ) : Type 0 where
   pub listed : refused ≤ 15
   pub accepts : refused ≡ 0 → Accepts reply
   pub zero : Accepts reply → refused ≡ 0
@@ -65,25 +66,30 @@ PlaceTells =
     → UzPlacePromise s start size parent x t r t′
     → Tells (whoseOf start x (askedOf s start size parent x (length t))) (r .refused)
 
+-- An id crosses with 8 alone: what a C caller finds in `id` beside another number, or beside none, is 0.
+abbrev pub IdAlone : Type 0
+IdAlone =
+    (s : List ℕ) (part : ℕ) (t : List ℕ) (r : UzPart) (t′ : List ℕ)
+    → UzPartPromise s part t r t′ → (r .id ≡ 0 → ⊥) → r .refused ≡ 8
+
 -- ---- each number crosses under its own name
 
--- The reply of the call behind each function, name by name: a second reading of the faces, which go by places in a
--- list.
+-- The reply of the call behind each function, name by name.
 abbrev pub partNamed : PartReply → UzPart
 partNamed (Found at size rows heads) =
     record { refused = 0; id = 0; found = 1; at = at; size = size; rows = rows; heads = heads }
 partNamed (Absent heads) = record { refused = 0; id = 0; found = 0; at = 0; size = 0; rows = 0; heads = heads }
 partNamed (NoPart e) =
-    record { refused = e .number; id = e .id; found = 0; at = 0; size = 0; rows = 0; heads = 0 }
+    record { refused = numberOf (e .cause); id = idOf (e .cause); found = 0; at = 0; size = 0; rows = 0; heads = 0 }
 
 abbrev pub rangeNamed : RangeReply → UzRange
 rangeNamed (Range r) = record { refused = 0; at = r .at; length = r .length }
-rangeNamed (NoRange e) = record { refused = e .number; at = 0; length = 0 }
+rangeNamed (NoRange e) = record { refused = numberOf (e .cause); at = 0; length = 0 }
 
 abbrev pub placeNamed : WhoseReply → UzPlace
 placeNamed (Header row rows) = record { refused = 0; row = row; «in_payload» = 0; rows = rows }
 placeNamed (Payload row rows) = record { refused = 0; row = row; «in_payload» = 1; rows = rows }
-placeNamed (NoRow e) = record { refused = e .number; row = 0; «in_payload» = 0; rows = 0 }
+placeNamed (NoRow e) = record { refused = numberOf (e .cause); row = 0; «in_payload» = 0; rows = 0 }
 
 abbrev pub PartNamed : Type 0
 PartNamed =
