@@ -25,7 +25,7 @@ bodyTold (Refused e) = refusal e
 
 -- The reply to the question for a body: 14 for a recording that is too long or a place past its end, else the body
 -- by the kind of the id under the parent.
-unfoldable pub bodyReply : List ℕ → ℕ → ℕ → ℕ → ℕ → Reply Body
+unfoldable pub bodyReply : List ℕ → (id parent at size : ℕ) → Reply Body
 bodyReply s id parent at size =
     cond (leb (length s) mostBytes && leb at (length s)) (replyOf (bodyOf s at size (kindUnder id parent)))
     (refusal badArgument)

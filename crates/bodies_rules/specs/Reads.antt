@@ -8,10 +8,10 @@ use Rattle.bodies_rules.specs.declared.body.BodyRead.the-variants.{Read,
 use Rattle.bodies_rules.specs.declared.body.Body.the-variants.{Value, Master}
 
 -- The answer for a body of n octets at a place: the next place is behind it, but a master's payload is not read yet.
-abbrev pub readOf : ℕ → ℕ → Told → BodyRead
+abbrev pub readOf : (at n : ℕ) → Told → BodyRead
 readOf at n (body (Value v)) = Read (Value v) (record { at = at + n })
 readOf at n (body Master) = Read Master (record { at = at })
 readOf at n (refused cause) = Refused cause
 
-unfoldable pub bodyRead : Kind → List ℕ → ℕ → ℕ → BodyRead
+unfoldable pub bodyRead : Kind → List ℕ → (at n : ℕ) → BodyRead
 bodyRead kind s at n = readOf at n (bodyOf s at n kind)

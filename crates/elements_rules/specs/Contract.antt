@@ -19,7 +19,7 @@ use Rattle.elements_rules.specs.declared.element.ElementRead.{ElementRea
 use Rattle.elements_rules.specs.declared.element.ElementRead.the-variants.{Read, Refused}
 
 -- The answer of a reader that began at a place with n rows before it.
-abbrev pub stepOf : ℕ → ℕ → Outcome → ElementRead
+abbrev pub stepOf : (at n : ℕ) → Outcome → ElementRead
 stepOf at n (done f) = Read (n + count f) (record { at = at + span f })
 stepOf at n (refused e) = Refused e
 
@@ -29,7 +29,7 @@ written mode t n rs = cond (mode .keep) (sets t (n * width) (flatten rs)) t
 
 -- The table t with the last number of row n set, where rows are kept: what is known of a master once its children are
 -- read.
-unfoldable pub closed : Mode → List ℕ → ℕ → ℕ → List ℕ
+unfoldable pub closed : Mode → List ℕ → (n after : ℕ) → List ℕ
 closed mode t n after = cond (mode .keep) (set t (n * width + afterColumn) after) t
 
 -- Rows are kept only up to the table's end.

@@ -6,7 +6,7 @@ use lib.Dec.{ltb, leb, eqb}
 use Rattle.elements_rules.specs.declared.row.Row.{Row}
 
 -- Whether an address is one of `length` from `from` on.
-abbrev pub within : ℕ → ℕ → ℕ → Bool
+abbrev pub within : (from length x : ℕ) → Bool
 within from length x = leb from x && ltb x (from + length)
 
 abbrev pub inHeader : Row → ℕ → Bool

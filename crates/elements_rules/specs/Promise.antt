@@ -24,20 +24,20 @@ abbrev pub keeping : Mode
 keeping = record { keep = true }
 
 -- A table of so many numbers: whole rows, and not too many.
-unfoldable pub isTable : ℕ → Bool
+unfoldable pub isTable : (numbers : ℕ) → Bool
 isTable numbers = eqb (numbers % width) 0 && leb numbers (mostRows * width)
 
 -- What document 01 allows, with the row of document 02, C-15: a recording and a table within their limits, a start not
 -- past the end.
-unfoldable pub allowed : List ℕ → ℕ → ℕ → Bool
+unfoldable pub allowed : List ℕ → (start numbers : ℕ) → Bool
 allowed s start numbers = leb (length s) mostBytes && (isTable numbers && leb start (length s))
 
 -- The reading into a table of so many numbers: the payload's elements have depth 0.
-unfoldable pub filled : List ℕ → ℕ → ℕ → ℕ → ℕ → Outcome
+unfoldable pub filled : List ℕ → (start size parent numbers : ℕ) → Outcome
 filled s start size parent numbers = masterBody s keeping (numbers / width) 0 parent start size 0
 
 -- The public read: 14, then the reading.
-unfoldable pub readOf : List ℕ → ℕ → ℕ → ℕ → ℕ → Outcome
+unfoldable pub readOf : List ℕ → (start size parent numbers : ℕ) → Outcome
 readOf s start size parent numbers =
     refuseIf (not (allowed s start numbers)) badArgument (filled s start size parent numbers)
 
@@ -50,7 +50,7 @@ abbrev pub zeros : ℕ → List ℕ
 zeros n = replicate n 0
 
 -- The table: the rows and zeros beyond the last; after a refusal zeros alone.
-unfoldable pub tableOf : ℕ → ℕ → Outcome → List ℕ
+unfoldable pub tableOf : (start numbers : ℕ) → Outcome → List ℕ
 tableOf start numbers (done f) = flatten (rows 0 0 start 0 f) ++ zeros (numbers - count f * width)
 tableOf start numbers (refused e) = zeros numbers
 

@@ -9,7 +9,7 @@ use Rattle.elements_rules.specs.declared.row.Row.{Row}
 
 -- The row of an element at an address: under row number plus 1 of its parent (0 for none), at a depth; `after` is the
 -- first row behind it that is no descendant of it.
-abbrev pub rowOf : Element → ℕ → ℕ → ℕ → ℕ → Row
+abbrev pub rowOf : Element → (parent depth at after : ℕ) → Row
 rowOf e parent depth at after =
     record {
       id = e .header .id;
@@ -23,7 +23,7 @@ rowOf e parent depth at after =
     }
 
 -- The rows of elements that begin at an address, the first of them row n.
-unfoldable pub rows : ℕ → ℕ → ℕ → ℕ → Forest → List Row
+unfoldable pub rows : (parent depth at n : ℕ) → Forest → List Row
 rows parent depth at n none = []
 rows parent depth at n (node e kids rest) =
     rowOf e parent depth at (n + 1 + count kids)

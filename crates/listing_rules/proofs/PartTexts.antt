@@ -1,16 +1,17 @@
 -- The text of a part by the reply of the search. Assumes nothing.
 use Prim.Native.Nat.{ℕ, _≤_, _<_}
 use mathlib.Core.Path.{_≡_, refl, sym, ap, _∙_}
-use mathlib.Core.List.{List, [], _∷_, _++_}
+use mathlib.Core.List.{List, _++_}
 use native.Mathlib.Omega.{arith}
 use native.Mathlib.Nat.{zero-add}
 use borrow.Author.Tests.{lt-ltb, le-ltb}
 use lib.ListN.{length}
+use Rattle.refusals.specs.Causes.{numberOf}
 use Rattle.refusals.specs.Reply.{accepted, refusal}
 use Rattle.refusals.specs.declared.refusal.Refusal.{Refusal}
 use Rattle.elements_rules.specs.Rows.{rows, rowsOf}
 use Rattle.elements_rules.specs.declared.row.Row.{Row}
-use Rattle.search_rules.specs.Part.{Search, found, absent, refused, searchOf, replyOf, PartPromise}
+use Rattle.search_rules.specs.Part.{Search, found, absent, refused, absentPart, searchOf, replyOf, PartPromise}
 use Rattle.search_rules.specs.declared.part.PartReply.the-variants.{Found, Absent, Refused}
 use Rattle.search_rules.proofs.Found.{found-holds}
 use Rattle.pages.specs.Text.{ascii, decimal, hexadecimal}
@@ -23,8 +24,7 @@ use Rattle.pages.proofs.Pages.{then}
 
 -- ---- what a reply tells
 
-told-absent : (heads : ℕ) (y : Search) → accepted (0 ∷ 0 ∷ 0 ∷ 0 ∷ heads ∷ []) ≡ replyOf y → searchText y ≡
-    ascii " absent\n"
+told-absent : (heads : ℕ) (y : Search) → accepted (absentPart heads) ≡ replyOf y → searchText y ≡ ascii " absent\n"
 unfolding searchText
 told-absent heads (found at size hs f) e = let z : _≡_ {A = ℕ} 0 1 = cc in absurd (omega arith)
 told-absent heads (absent hs) e = refl
@@ -32,13 +32,13 @@ told-absent heads (refused r) e = let z : _≡_ {A = ℕ} 0 1 = cc in absurd (om
 
 told-refused :
     (r : Refusal) (y : Search) → refusal r ≡ replyOf y
-    → searchText y ≡ ascii " refused " ++ decimal (r .number) ++ ascii "\n"
+    → searchText y ≡ ascii " refused " ++ decimal (numberOf (r .cause)) ++ ascii "\n"
 unfolding searchText
 told-refused r (found at size hs f) e = let z : _≡_ {A = ℕ} 0 1 = cc in absurd (omega arith)
 told-refused r (absent hs) e = let z : _≡_ {A = ℕ} 0 1 = cc in absurd (omega arith)
 told-refused r (refused r′) e =
-    let n : r′ .number ≡ r .number = cc in
-    ap (λ (x : ℕ). ascii " refused " ++ decimal x ++ ascii "\n") n
+    let n : r′ ≡ r = cc in
+    ap (λ (x : Refusal). ascii " refused " ++ decimal (numberOf (x .cause)) ++ ascii "\n") n
 
 module _ (s : List ℕ) (part : ℕ) (t t′ : List ℕ) (l : length t ≡ tableNumbers) where
   pub absent-text :
@@ -48,7 +48,7 @@ module _ (s : List ℕ) (part : ℕ) (t t′ : List ℕ) (l : length t ≡ table
 
   pub refused-text :
       (r : Refusal) → PartPromise s part t (Refused r) t′
-      → searchText (searchOf s part tableNumbers) ≡ ascii " refused " ++ decimal (r .number) ++ ascii "\n"
+      → searchText (searchOf s part tableNumbers) ≡ ascii " refused " ++ decimal (numberOf (r .cause)) ++ ascii "\n"
   refused-text r p = told-refused r (searchOf s part tableNumbers) (rw l at (p .reply))
 
   module _ (at size n heads : ℕ) (p : PartPromise s part t (Found at size n heads) t′) where

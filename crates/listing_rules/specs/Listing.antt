@@ -4,6 +4,7 @@ use mathlib.Core.Bool.{cond}
 use mathlib.Core.List.{List, _++_}
 use lib.ListN.{length}
 use lib.Dec.{ltb}
+use Rattle.refusals.specs.Causes.{numberOf}
 use Rattle.elements_rules.specs.Forest.{count}
 use Rattle.elements_rules.specs.Rows.{rows, width}
 use Rattle.search_rules.specs.Part.{Search, found, absent, refused, searchOf}
@@ -26,7 +27,7 @@ placeText at size rows =
 -- under that its rows.
 unfoldable pub searchText : Search → List ℕ
 searchText (absent heads) = ascii " absent\n"
-searchText (refused e) = ascii " refused " ++ decimal (e .number) ++ ascii "\n"
+searchText (refused e) = ascii " refused " ++ decimal (numberOf (e .cause)) ++ ascii "\n"
 searchText (found at size heads f) = placeText at size (count f) ++ rowLines (rows 0 0 at 0 f)
 
 unfoldable pub partLines : List ℕ → ℕ → List ℕ
