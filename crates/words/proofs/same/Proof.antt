@@ -14,12 +14,6 @@ Inv-loop a b i₀ i = (i ≤ length a) × (length a ≡ length b) × (take i a �
 abbrev μ-loop : tie.MeasureT-loop
 μ-loop a b i₀ i = length a - i
 
-returns : tie.Need-returns Inv-loop μ-loop
-returns c = other-length (c .before .args .a .now) (c .before .args .b .now) (c .if1 .taken)
-
-loop-holds : tie.Need-loop-holds Inv-loop μ-loop
-loop-holds c = (omega arith, c .if1 .left, refl)
-
 returns-2 : tie.Need-returns-2 Inv-loop μ-loop
 returns-2 c =
     let l = c .before .before .before .before in
@@ -43,5 +37,7 @@ returns-3 c =
 
 pub same-spec : {M : Type 1} → statement M
 same-spec =
-    tie.close (tie.spec Inv-loop μ-loop returns loop-holds (λ c. search needs) (λ c. search needs) returns-2
-    (λ c. search needs) (λ c. search needs) loop-again returns-3)
+    tie.close (tie.spec Inv-loop μ-loop
+    (λ c. other-length (c .before .args .a .now) (c .before .args .b .now) (c .if1 .taken))
+    (λ c. (omega arith, c .if1 .left, refl)) (λ c. search needs) (λ c. search needs) returns-2 (λ c. search needs)
+    (λ c. search needs) loop-again returns-3)

@@ -18,9 +18,6 @@ Inv-loop line k at₀ i₀ at i =
 abbrev μ-loop : tie.MeasureT-loop
 μ-loop line k at₀ i₀ at i = k - i
 
-loop-holds : tie.Need-loop-holds Inv-loop μ-loop
-loop-holds c = (omega arith, omega arith, rw (sub-zero (c .before .args .k)))
-
 returns : tie.Need-returns Inv-loop μ-loop
 returns c =
     let a = c .before .before .before .before .before .before .args in
@@ -50,6 +47,7 @@ returns-2 c =
 
 pub word-spec : {M : Type 1} → statement M
 word-spec =
-    tie.close (tie.spec Inv-loop μ-loop loop-holds (λ c κs. search needs) (λ c. search needs) (λ c. search needs)
-    (λ c. search needs) returns (λ c. search needs) (λ c. search needs) (λ c. search needs) loop-again
-    (λ c κs. search needs) (λ c. search needs) (λ c. search needs) (λ c. search needs) returns-2)
+    tie.close (tie.spec Inv-loop μ-loop (λ c. (omega arith, omega arith, rw (sub-zero (c .before .args .k))))
+    (λ c κs. search needs) (λ c. search needs) (λ c. search needs) (λ c. search needs) returns (λ c. search needs)
+    (λ c. search needs) (λ c. search needs) loop-again (λ c κs. search needs) (λ c. search needs) (λ c. search needs)
+    (λ c. search needs) returns-2)

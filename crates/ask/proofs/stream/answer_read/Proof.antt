@@ -24,13 +24,7 @@ answer-lines-requires c κs =
     let a = c .before .before .before .args in
     rw (length-take-le (a .filled) (a .room .now) (omega arith)) (omega arith)
 
-sub-left : tie.Need-sub-left
-sub-left c = begun c
-
-keep-requires : tie.Need-keep-requires
-keep-requires c κs = let b = begun (c .before .before) in omega arith
-
 pub answer-read-spec : {M : Type 1} → statement M
 answer-read-spec =
-    tie.close (tie.spec slice-aggregate-answer-lines answer-lines-requires sub-left (λ c. search needs)
-    (λ c. search needs) keep-requires (λ c. search needs))
+    tie.close (tie.spec slice-aggregate-answer-lines answer-lines-requires (λ c. begun c) (λ c. search needs)
+    (λ c. search needs) (λ c κs. let b = begun (c .before .before) in omega arith) (λ c. search needs))

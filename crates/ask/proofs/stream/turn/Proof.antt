@@ -12,14 +12,9 @@ brought c =
     let r = rw (c .before .n .given .1) at (c .before .before .before .read-more .ensures) in
     omega arith
 
-add-answer-read : tie.Need-add-answer-read
-add-answer-read c = omega (arith, brought c)
-
-answer-read-requires : tie.Need-answer-read-requires
-answer-read-requires c κs = (omega arith, brought (c .before))
-
 pub turn-spec : {M : Type 1} → statement M
 turn-spec =
     tie.close (tie.spec (λ c κs. search needs) (λ c. search needs) (λ c. search needs) (λ c κs. search needs)
-    (λ c κs. search needs) (λ c. search needs) (λ c κs. search needs) (λ c. search needs) add-answer-read
-    answer-read-requires (λ c. search needs) (λ c. search needs) (λ c. search needs))
+    (λ c κs. search needs) (λ c. search needs) (λ c κs. search needs) (λ c. search needs)
+    (λ c. omega (arith, brought c)) (λ c κs. (omega arith, brought (c .before))) (λ c. search needs)
+    (λ c. search needs) (λ c. search needs))

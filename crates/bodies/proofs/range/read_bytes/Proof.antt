@@ -20,8 +20,7 @@ add-end c =
     let there = leb-true (a .place .at + a .size) _ (passed _ _ (c .before .is-there .ensures) (c .if1 .left)) in
     omega (arith, there)
 
-returns-2 : tie.Need-returns-2
-returns-2 c = bytes-there _ _ _ (passed _ _ (c .before .is-there .ensures) (c .if1 .left))
-
 pub read-bytes-spec : {M : Type 1} → statement M
-read-bytes-spec = tie.close (tie.spec (λ c κs. search needs) returns add-end returns-2)
+read-bytes-spec =
+    tie.close (tie.spec (λ c κs. search needs) returns add-end
+    (λ c. bytes-there _ _ _ (passed _ _ (c .before .is-there .ensures) (c .if1 .left))))

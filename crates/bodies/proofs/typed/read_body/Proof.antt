@@ -26,33 +26,18 @@ module _ (s : List ℕ) (at n : ℕ) where
   unfolding bodyRead bodyOf
   string-is-utf8 = refl
 
-returns : tie.Need-returns
-returns c = master-read _ _ _ ∙ as-kind _ _ _ (c .enum-told .given .1)
-
-returns-2 : tie.Need-returns-2
-returns-2 c = c .read-int .ensures ∙ as-kind _ _ _ (c .before .enum-told2 .given .1)
-
-returns-3 : tie.Need-returns-3
-returns-3 c = c .read-uint .ensures ∙ as-kind _ _ _ (c .before .enum-told3 .given .1)
-
 returns-4 : tie.Need-returns-4
 returns-4 c = c .read-text .ensures ∙ string-is-utf8 _ _ _ ∙ as-kind _ _ _ (c .before .enum-told4 .given .1)
-
-returns-5 : tie.Need-returns-5
-returns-5 c = c .read-text2 .ensures ∙ as-kind _ _ _ (c .before .enum-told5 .given .1)
-
-returns-6 : tie.Need-returns-6
-returns-6 c = c .read-bytes .ensures ∙ as-kind _ _ _ (c .before .enum-told6 .given .1)
-
-returns-7 : tie.Need-returns-7
-returns-7 c = c .read-float .ensures ∙ as-kind _ _ _ (c .before .enum-told7 .given .1)
-
-returns-8 : tie.Need-returns-8
-returns-8 c = c .read-date .ensures ∙ as-kind _ _ _ (c .before .enum-told8 .given .1)
 
 pub read-body-spec : {M : Type 1} → statement M
 read-body-spec =
     tie.close (tie.spec (λ c. search needs) (λ c. search needs) (λ c κs. search needs) (λ c. search needs)
     (λ c κs. search needs) (λ c. search needs) (λ c κs. search needs) (λ c. search needs) (λ c κs. search needs)
     (λ c. search needs) (λ c κs. search needs) (λ c. search needs) (λ c κs. search needs) (λ c. search needs)
-    (λ c κs. search needs) returns returns-2 returns-3 returns-4 returns-5 returns-6 returns-7 returns-8)
+    (λ c κs. search needs) (λ c. master-read _ _ _ ∙ as-kind _ _ _ (c .enum-told .given .1))
+    (λ c. c .read-int .ensures ∙ as-kind _ _ _ (c .before .enum-told2 .given .1))
+    (λ c. c .read-uint .ensures ∙ as-kind _ _ _ (c .before .enum-told3 .given .1)) returns-4
+    (λ c. c .read-text2 .ensures ∙ as-kind _ _ _ (c .before .enum-told5 .given .1))
+    (λ c. c .read-bytes .ensures ∙ as-kind _ _ _ (c .before .enum-told6 .given .1))
+    (λ c. c .read-float .ensures ∙ as-kind _ _ _ (c .before .enum-told7 .given .1))
+    (λ c. c .read-date .ensures ∙ as-kind _ _ _ (c .before .enum-told8 .given .1)))

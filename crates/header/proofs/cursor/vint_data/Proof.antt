@@ -6,11 +6,7 @@ use Rattle.header.proofs.Data.{shifted-one, shifted-pos}
 use Rattle.header.proofs.cursor.vint_data.Statement.{statement}
 use Rattle.header.proofs.cursor.vint_data.Tie as tie
 
-rem-result : tie.Need-rem-result
-rem-result c = shifted-pos (7 * c .args .octets) (omega arith)
-
-returns : tie.Need-returns
-returns c = rw (shifted-one (7 * c .args .octets) (omega arith))
-
 pub vint-data-spec : {M : Type 1} → statement M
-vint-data-spec = tie.close (tie.spec (λ c. search needs) (λ c. search needs) rem-result returns)
+vint-data-spec =
+    tie.close (tie.spec (λ c. search needs) (λ c. search needs) (λ c. shifted-pos (7 * c .args .octets) (omega arith))
+    (λ c. rw (shifted-one (7 * c .args .octets) (omega arith))))

@@ -10,8 +10,7 @@ kind-in-requires : tie.Need-kind-in-requires
 unfolding elements
 kind-in-requires c κs = refl
 
-returns : tie.Need-returns
-returns c = record { reply = ap numberOf (c .kind-in .ensures) }
-
 pub kind-of-spec : {M : Type 1} → statement M
-kind-of-spec = tie.close (tie.spec (λ c. search needs) kind-in-requires returns)
+kind-of-spec =
+    tie.close (tie.spec (λ c. search needs) kind-in-requires
+    (λ c. record { reply = ap numberOf (c .kind-in .ensures) }))

@@ -7,9 +7,6 @@ use Rattle.kinds.proofs.Listed.{list-rises, listed, unlisted}
 use Rattle.kinds.proofs.lookup.listed_number.Statement.{statement}
 use Rattle.kinds.proofs.lookup.listed_number.Tie as tie
 
-lower-bound-requires : tie.Need-lower-bound-requires
-lower-bound-requires c κs = list-rises _ (c .before .pre)
-
 returns : tie.Need-returns
 returns c =
     let start = c .before .before .before in
@@ -28,5 +25,5 @@ returns-3 c =
 
 pub listed-number-spec : {M : Type 1} → statement M
 listed-number-spec =
-    tie.close (tie.spec (λ c. search needs) lower-bound-requires returns (λ c. search needs) (λ c. search needs)
-    returns-2 returns-3)
+    tie.close (tie.spec (λ c. search needs) (λ c κs. list-rises _ (c .before .pre)) returns (λ c. search needs)
+    (λ c. search needs) returns-2 returns-3)

@@ -16,12 +16,6 @@ Inv-loop room₀ from n i₀ room i =
 abbrev μ-loop : tie.MeasureT-loop
 μ-loop room₀ from n i₀ room i = n - i
 
-returns : tie.Need-returns Inv-loop μ-loop
-returns c = rw (c .if1 .taken)
-
-loop-holds : tie.Need-loop-holds Inv-loop μ-loop
-loop-holds c = (omega arith, refl, refl, refl)
-
 loop-again : tie.Need-loop-again Inv-loop μ-loop
 loop-again c =
     let a = c .before .before .before .before .args in
@@ -38,5 +32,6 @@ returns-2 c =
 
 pub keep-spec : {M : Type 1} → statement M
 keep-spec =
-    tie.close (tie.spec Inv-loop μ-loop returns loop-holds (λ c. search needs) (λ c. search needs) (λ c. search needs)
-    (λ c. search needs) (λ c. search needs) loop-again (λ c. search needs) returns-2)
+    tie.close (tie.spec Inv-loop μ-loop (λ c. rw (c .if1 .taken)) (λ c. (omega arith, refl, refl, refl))
+    (λ c. search needs) (λ c. search needs) (λ c. search needs) (λ c. search needs) (λ c. search needs) loop-again
+    (λ c. search needs) returns-2)

@@ -12,9 +12,6 @@ use Rattle.lines.proofs.numbers.put_hex.Tie as tie
 digits : (c : tie.After-put-arg2) → c .before .before .hex .result ≤ length (c .before .capitals .result)
 digits c = omega (arith, c .before .before .hex .ensures .0 .0, c .before .capitals .ensures)
 
-array-share-prefix-raised : tie.Need-array-share-prefix-raised
-array-share-prefix-raised c = digits c
-
 slice-aggregate-put : tie.Need-slice-aggregate-put
 slice-aggregate-put c =
     let d = c .before in
@@ -22,5 +19,5 @@ slice-aggregate-put c =
 
 pub put-hex-spec : {M : Type 1} → statement M
 put-hex-spec =
-    tie.close (tie.spec (λ c κs. search needs) (λ c κs. search needs) (λ c κs. search needs) array-share-prefix-raised
+    tie.close (tie.spec (λ c κs. search needs) (λ c κs. search needs) (λ c κs. search needs) (λ c. digits c)
     slice-aggregate-put (λ c κs. search needs) (λ c. search needs))

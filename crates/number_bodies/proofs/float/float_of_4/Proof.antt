@@ -7,13 +7,7 @@ use Rattle.bodies_rules.proofs.Nans.{nan-pattern, no-nan, zero-by-zero}
 use Rattle.number_bodies.proofs.float.float_of_4.Statement.{statement}
 use Rattle.number_bodies.proofs.float.float_of_4.Tie as tie
 
-returns : tie.Need-returns
-returns c = zero-by-zero ∙ nan-pattern binary32 _ (c .if1 .taken)
-
-float-from-bits-f32-to-f64-with-nan : tie.Need-float-from-bits-f32-to-f64-with-nan
-float-from-bits-f32-to-f64-with-nan c = no-nan binary32 _ (c .if1 .left)
-
 pub float-of-4-spec : {M : Type 1} → statement M
 float-of-4-spec =
-    tie.close (tie.spec (λ c. search needs) returns float-from-bits-f32-to-f64-with-nan (λ c κs. search needs)
-    (λ c. search needs))
+    tie.close (tie.spec (λ c. search needs) (λ c. zero-by-zero ∙ nan-pattern binary32 _ (c .if1 .taken))
+    (λ c. no-nan binary32 _ (c .if1 .left)) (λ c κs. search needs) (λ c. search needs))

@@ -6,11 +6,7 @@ use Rattle.bodies_rules.proofs.Nans.{nan-pattern, no-nan, zero-by-zero}
 use Rattle.number_bodies.proofs.float.float_of_8.Statement.{statement}
 use Rattle.number_bodies.proofs.float.float_of_8.Tie as tie
 
-returns : tie.Need-returns
-returns c = zero-by-zero ∙ nan-pattern binary64 _ (c .if1 .taken)
-
-float-from-bits-result : tie.Need-float-from-bits-result
-float-from-bits-result c = no-nan binary64 _ (c .if1 .left)
-
 pub float-of-8-spec : {M : Type 1} → statement M
-float-of-8-spec = tie.close (tie.spec returns float-from-bits-result (λ c. search needs))
+float-of-8-spec =
+    tie.close (tie.spec (λ c. zero-by-zero ∙ nan-pattern binary64 _ (c .if1 .taken))
+    (λ c. no-nan binary64 _ (c .if1 .left)) (λ c. search needs))

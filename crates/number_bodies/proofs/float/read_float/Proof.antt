@@ -18,9 +18,6 @@ use Rattle.number_bodies.proofs.float.read_float.Tie as tie
 as-sized : (s : List ℕ) (at : ℕ) {n m : ℕ} → n ≡ m → bodyRead K.Float s at m ≡ bodyRead K.Float s at n
 as-sized s at e = ap (λ (k : ℕ). bodyRead K.Float s at k) (sym e)
 
-float-of-4-requires : tie.Need-float-of-4-requires
-float-of-4-requires c κs = rw (c .before .pattern .given .1) at (c .before .before .before .number .ensures .1)
-
 returns : tie.Need-returns
 returns c =
     let read = c .before .before .number .ensures .0 in
@@ -36,10 +33,6 @@ returns-2 c =
     let four = c .before .before .before .before .before .if1 .taken in
     ap (λ (x : Float). Read (B.Value (W.Float x)) next) (c .float-of-4 .ensures)
     ∙ float-there-4 _ _ _ _ (found _ _ _ _ _ (sym read ∙ told)) ∙ as-sized _ _ four
-
-returns-3 : tie.Need-returns-3
-returns-3 c =
-    float-other _ _ _ (c .before .if1 .left) (c .if2 .taken)
 
 returns-4 : tie.Need-returns-4
 returns-4 c =
@@ -59,6 +52,7 @@ returns-5 c =
 
 pub read-float-spec : {M : Type 1} → statement M
 read-float-spec =
-    tie.close (tie.spec (λ c κs. search needs) (λ c. search needs) (λ c. search needs) float-of-4-requires returns
-    returns-2 returns-3 (λ c κs. search needs) (λ c. search needs) (λ c. search needs) (λ c κs. search needs) returns-4
-    returns-5)
+    tie.close (tie.spec (λ c κs. search needs) (λ c. search needs) (λ c. search needs)
+    (λ c κs. rw (c .before .pattern .given .1) at (c .before .before .before .number .ensures .1)) returns returns-2
+    (λ c. float-other _ _ _ (c .before .if1 .left) (c .if2 .taken)) (λ c κs. search needs) (λ c. search needs)
+    (λ c. search needs) (λ c κs. search needs) returns-4 returns-5)

@@ -13,9 +13,6 @@ use Rattle.bodies_rules.proofs.ByKind.{int-long, int-ends, int-there}
 use Rattle.number_bodies.proofs.integer.read_int.Statement.{statement}
 use Rattle.number_bodies.proofs.integer.read_int.Tie as tie
 
-returns : tie.Need-returns
-returns c = int-long _ _ _ (c .if1 .taken)
-
 signed-requires : tie.Need-signed-requires
 signed-requires c κs =
     let fits = rw (c .before .value .given .1) at (c .before .before .before .number .ensures .1) in
@@ -38,5 +35,5 @@ returns-3 c =
 
 pub read-int-spec : {M : Type 1} → statement M
 read-int-spec =
-    tie.close (tie.spec returns (λ c κs. search needs) (λ c. search needs) (λ c. search needs) signed-requires returns-2
-    returns-3)
+    tie.close (tie.spec (λ c. int-long _ _ _ (c .if1 .taken)) (λ c κs. search needs) (λ c. search needs)
+    (λ c. search needs) signed-requires returns-2 returns-3)

@@ -7,9 +7,6 @@ use Rattle.bodies_rules.proofs.ByKind.{uint-long, uint-ends, uint-there}
 use Rattle.number_bodies.proofs.integer.read_uint.Statement.{statement}
 use Rattle.number_bodies.proofs.integer.read_uint.Tie as tie
 
-returns : tie.Need-returns
-returns c = uint-long _ _ _ (c .if1 .taken)
-
 returns-2 : tie.Need-returns-2
 returns-2 c =
     let read = c .before .before .number .ensures .0 in
@@ -24,4 +21,5 @@ returns-3 c =
 
 pub read-uint-spec : {M : Type 1} → statement M
 read-uint-spec =
-    tie.close (tie.spec returns (λ c κs. search needs) (λ c. search needs) (λ c. search needs) returns-2 returns-3)
+    tie.close (tie.spec (λ c. uint-long _ _ _ (c .if1 .taken)) (λ c κs. search needs) (λ c. search needs)
+    (λ c. search needs) returns-2 returns-3)

@@ -28,26 +28,11 @@ returns c =
     let none : v < 2 ^ (8 * 0) = rw (c .if1 .taken) at small in
     rw (c .if1 .taken) (signed-none v none)
 
-cast-result : tie.Need-cast-result
-cast-result c = record { sfits = omega (arith, halved (c .before)) }
-
 returns-2 : tie.Need-returns-2
 returns-2 c =
     let a = c .before .before .args in
     toZ-pos w64 {n = a .v} (omega (arith, halved (c .before)))
     ∙ signed-low (a .n) _ (a .v) (halved (c .before)) (c .if2 .taken)
-
-sub-below : tie.Need-sub-below
-sub-below c = omega (arith, halved (c .before))
-
-add-below : tie.Need-add-below
-add-below c = omega (arith, halved (c .before))
-
-sub-below-2 : tie.Need-sub-below-2
-sub-below-2 c = omega (arith, halved (c .before))
-
-cast-result-2 : tie.Need-cast-result-2
-cast-result-2 c = record { sfits = omega (arith, halved (c .before)) }
 
 -- What the code computes, below -1.
 negative : (x : ℕ) → x < 2 ^ 63 → negsuc 0 -ℤ toZ w64 x ≡ negsuc x
@@ -72,5 +57,7 @@ returns-3 c =
 
 pub signed-spec : {M : Type 1} → statement M
 signed-spec =
-    tie.close (tie.spec returns (λ c. search needs) (λ c. search needs) (λ c. search needs) cast-result returns-2
-    sub-below add-below sub-below-2 cast-result-2 sub-result returns-3)
+    tie.close (tie.spec returns (λ c. search needs) (λ c. search needs) (λ c. search needs)
+    (λ c. record { sfits = omega (arith, halved (c .before)) }) returns-2 (λ c. omega (arith, halved (c .before)))
+    (λ c. omega (arith, halved (c .before))) (λ c. omega (arith, halved (c .before)))
+    (λ c. record { sfits = omega (arith, halved (c .before)) }) sub-result returns-3)

@@ -15,12 +15,6 @@ Inv-loop value base text₀ first₀ rest₀ text first rest = Spelling base val
 abbrev μ-loop : tie.MeasureT-loop
 μ-loop value base text₀ first₀ rest₀ text first rest = rest
 
-loop-holds : tie.Need-loop-holds Inv-loop μ-loop
-loop-holds c = spelling-starts _ (c .before .pre .1 .0) _ _ (c .before .pre .0) (c .before .pre .1 .1 .1)
-
-sub-first : tie.Need-sub-first Inv-loop μ-loop
-sub-first c = let i = c .before .loop .inv .some in omega arith
-
 glyph-requires : tie.Need-glyph-requires Inv-loop μ-loop
 glyph-requires c κs =
     let p2 = c .before .before .before in
@@ -48,9 +42,6 @@ loop-again c =
     spelling-goes-on _ (p3 .pre .1 .0) _ _ _ _ _ (c .before .loop-test .taken) (c .glyph .ensures)
     (c .before .before .loop .inv)
 
-sub-first-2 : tie.Need-sub-first-2 Inv-loop μ-loop
-sub-first-2 c = let i = c .before .loop .inv .some in omega arith
-
 slice-write-text-2 : tie.Need-slice-write-text-2 Inv-loop μ-loop
 slice-write-text-2 c =
     let i = c .before .before .loop .inv in
@@ -74,5 +65,8 @@ returns c =
 
 pub spell-spec : {M : Type 1} → statement M
 spell-spec =
-    tie.close (tie.spec Inv-loop μ-loop loop-holds sub-first (λ c. search needs) glyph-requires slice-write-text
-    (λ c. search needs) loop-less loop-again sub-first-2 (λ c κs. search needs) slice-write-text-2 same-length returns)
+    tie.close (tie.spec Inv-loop μ-loop
+    (λ c. spelling-starts _ (c .before .pre .1 .0) _ _ (c .before .pre .0) (c .before .pre .1 .1 .1))
+    (λ c. let i = c .before .loop .inv .some in omega arith) (λ c. search needs) glyph-requires slice-write-text
+    (λ c. search needs) loop-less loop-again (λ c. let i = c .before .loop .inv .some in omega arith)
+    (λ c κs. search needs) slice-write-text-2 same-length returns)

@@ -15,9 +15,6 @@ Inv-loop page₀ held bytes i₀ page i = (i ≤ length bytes) × (page ≡ past
 abbrev μ-loop : tie.MeasureT-loop
 μ-loop page₀ held bytes i₀ page i = length bytes - i
 
-loop-holds : tie.Need-loop-holds Inv-loop μ-loop
-loop-holds c = (omega arith, paste-zero (c .args .page .now) (c .args .held) (c .args .bytes .now))
-
 add-page : tie.Need-add-page Inv-loop μ-loop
 add-page c =
     let p2 = c .before .before .before in
@@ -54,5 +51,7 @@ returns c =
 
 pub put-spec : {M : Type 1} → statement M
 put-spec =
-    tie.close (tie.spec Inv-loop μ-loop loop-holds (λ c. search needs) add-page slice-write-page (λ c. search needs)
-    (λ c. search needs) loop-again (λ c. search needs) same-length returns)
+    tie.close (tie.spec Inv-loop μ-loop
+    (λ c. (omega arith, paste-zero (c .args .page .now) (c .args .held) (c .args .bytes .now))) (λ c. search needs)
+    add-page slice-write-page (λ c. search needs) (λ c. search needs) loop-again (λ c. search needs) same-length
+    returns)

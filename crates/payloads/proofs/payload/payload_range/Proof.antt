@@ -6,11 +6,6 @@ use borrow.Author.Needs.{needs}
 use Rattle.payloads.proofs.payload.payload_range.Statement.{statement}
 use Rattle.payloads.proofs.payload.payload_range.Tie as tie
 
-returns : tie.Need-returns
-returns c =
-    let a = failed _ _ (c .before .is-allowed .ensures) (c .if1 .taken) in
-    not-allowed _ _ _ a
-
 returns-2 : tie.Need-returns-2
 returns-2 c =
     let a = passed _ _ (c .before .before .is-allowed .ensures) (c .before .if1 .left) in
@@ -46,5 +41,6 @@ returns-6 c =
 
 pub payload-range-spec : {M : Type 1} → statement M
 payload-range-spec =
-    tie.close (tie.spec (λ c κs. search needs) returns returns-2 (λ c κs. search needs) returns-3 returns-4 returns-5
-    (λ c. search needs) returns-6)
+    tie.close (tie.spec (λ c κs. search needs)
+    (λ c. let a = failed _ _ (c .before .is-allowed .ensures) (c .if1 .taken) in not-allowed _ _ _ a) returns-2
+    (λ c κs. search needs) returns-3 returns-4 returns-5 (λ c. search needs) returns-6)

@@ -14,12 +14,6 @@ Inv-loop table rows address n₀ n = Walk table rows address n
 abbrev μ-loop : tie.MeasureT-loop
 μ-loop table rows address n₀ n = rows - n
 
-loop-holds : tie.Need-loop-holds Inv-loop μ-loop
-loop-holds c = walk-from _ _ _
-
-row-at-requires : tie.Need-row-at-requires Inv-loop μ-loop
-row-at-requires c κs = omega arith
-
 returns : tie.Need-returns Inv-loop μ-loop
 returns c =
     let d = c .before .before .before .before in
@@ -34,12 +28,6 @@ returns-2 c =
     let q = sym (c .enum-told2 .given .1) ∙ c .before .before .held-by .ensures in
     sym (walk-step _ _ _ _ (d .before .loop .inv) (d .loop-test .taken) (r .result) (r .ensures) Payload q)
 
-add-n : tie.Need-add-n Inv-loop μ-loop
-add-n c = omega arith
-
-loop-less : tie.Need-loop-less Inv-loop μ-loop
-loop-less c = omega arith
-
 loop-again : tie.Need-loop-again Inv-loop μ-loop
 loop-again c =
     let d = c .before .before .before .before in
@@ -47,10 +35,8 @@ loop-again c =
     let q = sym (c .enum-told3 .given .1) ∙ c .before .before .held-by .ensures in
     walk-on _ _ _ _ (d .before .loop .inv) (d .loop-test .taken) (r .result) (r .ensures) q
 
-returns-3 : tie.Need-returns-3 Inv-loop μ-loop
-returns-3 c = walk-ends _ _ _ _ (c .before .loop .inv) (c .loop-test .left)
-
 pub find-spec : {M : Type 1} → statement M
 find-spec =
-    tie.close (tie.spec Inv-loop μ-loop loop-holds row-at-requires (λ c κs. search needs) (λ c. search needs) returns
-    (λ c. search needs) returns-2 (λ c. search needs) add-n loop-less loop-again returns-3)
+    tie.close (tie.spec Inv-loop μ-loop (λ c. walk-from _ _ _) (λ c κs. omega arith) (λ c κs. search needs)
+    (λ c. search needs) returns (λ c. search needs) returns-2 (λ c. search needs) (λ c. omega arith) (λ c. omega arith)
+    loop-again (λ c. walk-ends _ _ _ _ (c .before .loop .inv) (c .loop-test .left)))

@@ -3,12 +3,6 @@ use Rattle.places_rules.proofs.Spots.{holder-before, holder-header, holder-mast
 use Rattle.places.proofs.whose.held_by.Statement.{statement}
 use Rattle.places.proofs.whose.held_by.Tie as tie
 
-returns : tie.Need-returns
-returns c = holder-before _ _ (c .if1 .taken)
-
-returns-2 : tie.Need-returns-2
-returns-2 c = holder-header _ _ (c .before .before .before .if1 .left) (c .if2 .taken)
-
 returns-3 : tie.Need-returns-3
 returns-3 c =
     let d = c .before .before in
@@ -27,4 +21,6 @@ returns-5 c =
     holder-behind _ _ (d .before .before .before .if1 .left) (d .if2 .left) (b .if3 .left) (c .if4 .left)
 
 pub held-by-spec : {M : Type 1} → statement M
-held-by-spec = tie.close (tie.spec returns returns-2 returns-3 returns-4 returns-5)
+held-by-spec =
+    tie.close (tie.spec (λ c. holder-before _ _ (c .if1 .taken))
+    (λ c. holder-header _ _ (c .before .before .before .if1 .left) (c .if2 .taken)) returns-3 returns-4 returns-5)

@@ -5,18 +5,6 @@ use borrow.Author.Needs.{needs}
 use Rattle.rowstore.proofs.row.close_row.Statement.{statement}
 use Rattle.rowstore.proofs.row.close_row.Tie as tie
 
-mul-last : tie.Need-mul-last
-mul-last c = let h = c .before .pre (c .if1 .taken) in search (needs, h)
-
-add-last : tie.Need-add-last
-add-last c = let h = c .before .pre (c .if1 .taken) in search (needs, h)
-
-mul-table : tie.Need-mul-table
-mul-table c = let h = c .before .pre (c .if1 .taken) in search (needs, h)
-
-slice-write-table : tie.Need-slice-write-table
-slice-write-table c = let h = c .before .pre (c .if1 .taken) in omega (arith, h)
-
 returns : tie.Need-returns
 unfolding closed
 returns c = rw (c .if1 .taken)
@@ -27,4 +15,7 @@ returns-2 c = rw (c .if1 .left)
 
 pub close-row-spec : {M : Type 1} → statement M
 close-row-spec =
-    tie.close (tie.spec mul-last add-last mul-table slice-write-table (λ c. search needs) returns returns-2)
+    tie.close (tie.spec (λ c. let h = c .before .pre (c .if1 .taken) in search (needs, h))
+    (λ c. let h = c .before .pre (c .if1 .taken) in search (needs, h))
+    (λ c. let h = c .before .pre (c .if1 .taken) in search (needs, h))
+    (λ c. let h = c .before .pre (c .if1 .taken) in omega (arith, h)) (λ c. search needs) returns returns-2)

@@ -4,13 +4,11 @@ use borrow.Author.Needs.{needs}
 use Rattle.rowstore.proofs.row.row_at.Statement.{statement}
 use Rattle.rowstore.proofs.row.row_at.Tie as tie
 
-returns : tie.Need-returns
-returns c = row-there _ _
-
 pub row-at-spec : {M : Type 1} → statement M
 row-at-spec =
     tie.close (tie.spec (λ c. search needs) (λ c. search needs) (λ c. search needs) (λ c. search needs)
     (λ c. search needs) (λ c. search needs) (λ c. search needs) (λ c. search needs) (λ c. search needs)
     (λ c. search needs) (λ c. search needs) (λ c. search needs) (λ c. search needs) (λ c. search needs)
     (λ c. search needs) (λ c. search needs) (λ c. search needs) (λ c. search needs) (λ c. search needs)
-    (λ c. search needs) (λ c. search needs) (λ c. search needs) (λ c. search needs) (λ c. search needs) returns)
+    (λ c. search needs) (λ c. search needs) (λ c. search needs) (λ c. search needs) (λ c. search needs)
+    (λ c. row-there _ _))

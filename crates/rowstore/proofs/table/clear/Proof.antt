@@ -17,30 +17,12 @@ Inv-loop table₀ i₀ table i =
 abbrev μ-loop : tie.MeasureT-loop
 μ-loop table₀ i₀ table i = length table₀ - i
 
-loop-holds : tie.Need-loop-holds Inv-loop μ-loop
-loop-holds c = (omega arith, refl, fill-none _ 0)
-
-mul-table : tie.Need-mul-table Inv-loop μ-loop
-mul-table c = omega arith
-
-slice-write-table : tie.Need-slice-write-table Inv-loop μ-loop
-slice-write-table c = omega arith
-
-add-i : tie.Need-add-i Inv-loop μ-loop
-add-i c = omega arith
-
-loop-less : tie.Need-loop-less Inv-loop μ-loop
-loop-less c = omega arith
-
 loop-again : tie.Need-loop-again Inv-loop μ-loop
 loop-again c = (
   omega arith,
   simp length-set (c .before .loop .inv .1),
   rw (c .before .loop .inv .2) (fill-more (c .before .loop .i) 0 (c .before .before .args .table .now) (omega arith)),
 )
-
-same-length : tie.Need-same-length Inv-loop μ-loop
-same-length c = omega arith
 
 returns : tie.Need-returns Inv-loop μ-loop
 returns c =
@@ -49,5 +31,5 @@ returns c =
 
 pub clear-spec : {M : Type 1} → statement M
 clear-spec =
-    tie.close (tie.spec Inv-loop μ-loop loop-holds mul-table slice-write-table add-i loop-less loop-again same-length
-    returns)
+    tie.close (tie.spec Inv-loop μ-loop (λ c. (omega arith, refl, fill-none _ 0)) (λ c. omega arith) (λ c. omega arith)
+    (λ c. omega arith) (λ c. omega arith) loop-again (λ c. omega arith) returns)

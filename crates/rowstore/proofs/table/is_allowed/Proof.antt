@@ -3,17 +3,9 @@ use Rattle.elements_rules.proofs.Limits.{too-long, broken-rows, too-many, by-st
 use Rattle.rowstore.proofs.table.is_allowed.Statement.{statement}
 use Rattle.rowstore.proofs.table.is_allowed.Tie as tie
 
-returns : tie.Need-returns
-returns c = too-long _ _ _ (c .if1 .taken)
-
-returns-2 : tie.Need-returns-2
-returns-2 c = broken-rows _ _ _ (c .before .if1 .left) (c .if2 .taken)
-
-returns-3 : tie.Need-returns-3
-returns-3 c = too-many _ _ _ (c .before .before .if1 .left) (c .before .if2 .left) (c .if3 .taken)
-
-returns-4 : tie.Need-returns-4
-returns-4 c = by-start _ _ _ (c .before .before .if1 .left) (c .before .if2 .left) (c .if3 .left)
-
 pub is-allowed-spec : {M : Type 1} → statement M
-is-allowed-spec = tie.close (tie.spec returns returns-2 returns-3 returns-4)
+is-allowed-spec =
+    tie.close (tie.spec (λ c. too-long _ _ _ (c .if1 .taken))
+    (λ c. broken-rows _ _ _ (c .before .if1 .left) (c .if2 .taken))
+    (λ c. too-many _ _ _ (c .before .before .if1 .left) (c .before .if2 .left) (c .if3 .taken))
+    (λ c. by-start _ _ _ (c .before .before .if1 .left) (c .before .if2 .left) (c .if3 .left)))

@@ -12,9 +12,6 @@ Inv-loop page₀ held table rows end₀ n₀ page end n = Listed page₀ held ta
 abbrev μ-loop : tie.MeasureT-loop
 μ-loop page₀ held table rows end₀ n₀ page end n = rows - n
 
-loop-holds : tie.Need-loop-holds Inv-loop μ-loop
-loop-holds c = listed-starts _ _ _ _
-
 row-at-requires : tie.Need-row-at-requires Inv-loop μ-loop
 row-at-requires c κs =
     let p2 = c .before .before .before .before .before in
@@ -42,13 +39,8 @@ loop-again c =
     let (w, m) = c .before .before .row-line .ensures in
     listed-goes-on _ _ _ _ _ _ _ _ _ _ (p5 .pre .1) (p3 .loop-test .taken) (p2 .row-at .ensures) (p4 .loop .inv) w m
 
-same-length : tie.Need-same-length Inv-loop μ-loop
-same-length c = c .before .loop .inv .wrote .long
-
-returns : tie.Need-returns Inv-loop μ-loop
-returns c = listed-ends _ _ _ _ _ _ _ (c .loop-test .left) (c .before .loop .inv)
-
 pub row-lines-spec : {M : Type 1} → statement M
 row-lines-spec =
-    tie.close (tie.spec Inv-loop μ-loop loop-holds row-at-requires row-line-requires (λ c. search needs)
-    (λ c. search needs) loop-again same-length returns)
+    tie.close (tie.spec Inv-loop μ-loop (λ c. listed-starts _ _ _ _) row-at-requires row-line-requires
+    (λ c. search needs) (λ c. search needs) loop-again (λ c. c .before .loop .inv .wrote .long)
+    (λ c. listed-ends _ _ _ _ _ _ _ (c .loop-test .left) (c .before .loop .inv)))

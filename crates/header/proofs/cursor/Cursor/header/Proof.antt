@@ -62,12 +62,6 @@ cast-id c =
     let i = c .before .before .before .before in
     record { fits = fits-in (octets i) 4 (id i) (id-fits i .0) (id-fits i .1) }
 
-vint-data-requires : tie.Need-vint-data-requires
-vint-data-requires c κs = size-fits c .0
-
-add-length : tie.Need-add-length
-add-length c = omega (arith, size-fits (c .before), id-fits (c .before .before .before .before .before))
-
 returns : tie.Need-returns
 returns c =
     let d = c .before .before in
@@ -79,16 +73,6 @@ returns-2 c =
     let d = c .before .before in
     let a = d .before .before .args in
     sym (by-id (a .recording .now) (a .self .at) (d .vint .ensures .0) (c .enum-told2 .given .1))
-
-returns-3 : tie.Need-returns-3
-returns-3 c =
-    let d = c .before .before in
-    sym (id-told (d .before) ∙ sized d (c .enum-told3 .given .1))
-
-returns-4 : tie.Need-returns-4
-returns-4 c =
-    let d = c .before .before in
-    sym (id-told (d .before) ∙ sized d (c .enum-told4 .given .1))
 
 returns-5 : tie.Need-returns-5
 returns-5 c =
@@ -108,5 +92,7 @@ returns-5 c =
 pub header-spec : {M : Type 1} → statement M
 header-spec =
     tie.close (tie.spec (λ c κs. search needs) (λ c. search needs) (λ c. search needs) (λ c. search needs)
-    (λ c κs. search needs) (λ c. search needs) (λ c. search needs) (λ c. search needs) cast-id vint-data-requires
-    add-length returns returns-2 returns-3 returns-4 returns-5)
+    (λ c κs. search needs) (λ c. search needs) (λ c. search needs) (λ c. search needs) cast-id (λ c κs. size-fits c .0)
+    (λ c. omega (arith, size-fits (c .before), id-fits (c .before .before .before .before .before))) returns returns-2
+    (λ c. let d = c .before .before in sym (id-told (d .before) ∙ sized d (c .enum-told3 .given .1)))
+    (λ c. let d = c .before .before in sym (id-told (d .before) ∙ sized d (c .enum-told4 .given .1))) returns-5)

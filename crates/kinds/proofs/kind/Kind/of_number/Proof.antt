@@ -8,27 +8,6 @@ use Rattle.kinds.proofs.Numbers.{either}
 use Rattle.kinds.proofs.kind.Kind.of_number.Statement.{statement}
 use Rattle.kinds.proofs.kind.Kind.of_number.Tie as tie
 
-returns : tie.Need-returns
-returns c = ap kindOf (sym (c .match .keys1))
-
-returns-2 : tie.Need-returns-2
-returns-2 c = ap kindOf (sym (c .match .keys2))
-
-returns-3 : tie.Need-returns-3
-returns-3 c = ap kindOf (sym (c .match .keys3))
-
-returns-4 : tie.Need-returns-4
-returns-4 c = ap kindOf (sym (c .match .keys4))
-
-returns-5 : tie.Need-returns-5
-returns-5 c = ap kindOf (sym (c .match .keys5))
-
-returns-6 : tie.Need-returns-6
-returns-6 c = ap kindOf (sym (c .match .keys6))
-
-returns-7 : tie.Need-returns-7
-returns-7 c = ap kindOf (sym (c .match .keys7))
-
 returns-8 : tie.Need-returns-8
 returns-8 c =
     let other = c .match .rest in
@@ -44,4 +23,8 @@ returns-8 c =
     (sym (either (eqb (c .before .args .number) 6) Binary))
 
 pub of-number-spec : {M : Type 1} → statement M
-of-number-spec = tie.close (tie.spec returns returns-2 returns-3 returns-4 returns-5 returns-6 returns-7 returns-8)
+of-number-spec =
+    tie.close (tie.spec (λ c. ap kindOf (sym (c .match .keys1))) (λ c. ap kindOf (sym (c .match .keys2)))
+    (λ c. ap kindOf (sym (c .match .keys3))) (λ c. ap kindOf (sym (c .match .keys4)))
+    (λ c. ap kindOf (sym (c .match .keys5))) (λ c. ap kindOf (sym (c .match .keys6)))
+    (λ c. ap kindOf (sym (c .match .keys7))) returns-8)
