@@ -123,8 +123,8 @@ module _ (parent id : ℕ) (kind : Kind) where
       go true false c e q = let z : _≡_ {A = ℕ} 0 1 = cc in absurd (omega arith)
       go false b c e q = let z : _≡_ {A = ℕ} 0 1 = cc in absurd (omega arith)
 
-module _ (s t : List ℕ) (b : Below) (id : ℕ) (kind : Kind) (h : Readable s t b) (n : ℕ) (r : Row) where
-  pub child-holds : IsChild (rowsIn t b) (b .parent) (b .parent) id kind n r → Holds s kind r
+module _ {s t : List ℕ} {b : Below} (h : Readable s t b) {id : ℕ} {kind : Kind} {n : ℕ} {r : Row} where
+  child-holds : IsChild (rowsIn t b) (b .parent) (b .parent) id kind n r → Holds s kind r
   child-holds i =
       let m : n - b .parent < length (rowsIn t b) = omega (arith, i .since, i .before) in
       record {
@@ -133,12 +133,15 @@ module _ (s t : List ℕ) (b : Below) (id : ℕ) (kind : Kind) (h : Readable s t
         is = fits-kind (b .parent) id kind r (i .fit);
       }
 
-  pub last-holds : At n r ≡ lastOf (children (b .parent) id kind (rowsIn t b)) → Holds s kind r
-  last-holds e = child-holds (last-is (b .parent) id kind (rowsIn t b) n r e)
+-- The last child that was found, and the k-th, can be read.
+module _ {s t : List ℕ} {b : Below} (h : Readable s t b) (id : ℕ) (kind : Kind) {c : Child} {n : ℕ} {r : Row} where
+  pub last-holds : c ≡ lastOf (children (b .parent) id kind (rowsIn t b)) → c ≡ At n r → Holds s kind r
+  last-holds e a = child-holds h (last-is (b .parent) id kind (rowsIn t b) n r (sym a ∙ e))
 
-  pub nth-holds : (k : ℕ) → At n r ≡ nthOf k (children (b .parent) id kind (rowsIn t b)) → Holds s kind r
-  nth-holds k e = child-holds (nth-is (b .parent) id kind (rowsIn t b) k n r e)
+  pub nth-holds : (k : ℕ) → c ≡ nthOf k (children (b .parent) id kind (rowsIn t b)) → c ≡ At n r → Holds s kind r
+  nth-holds k e a = child-holds h (nth-is (b .parent) id kind (rowsIn t b) k n r (sym a ∙ e))
 
--- The payload's place can be told, since it lies in the recording.
-pub place-fits : (s : List ℕ) (kind : Kind) (r : Row) → Holds s kind r → r .address + r .header < 2 ^ 64
-place-fits s kind r h = omega (arith, h .short, h .sound .inside)
+  -- The payload's place can be told, since it lies in the recording.
+  pub last-fits : c ≡ lastOf (children (b .parent) id kind (rowsIn t b)) → c ≡ At n r
+      → r .address + r .header < 2 ^ 64
+  last-fits e a = let k = last-holds e a in omega (arith, k .short, k .sound .inside)

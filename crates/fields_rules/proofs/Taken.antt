@@ -33,118 +33,101 @@ module _ (s : List ℕ) (r : Row) (v : ℕ) (q : v ≡ uintIn s r) where
   unfolding floatOf
   of-8 x e w = rw (ne-eqb (r .payload) 4 e, ← q) w
 
--- ---- the fields
+-- ---- the fields, by the last child that was found
 
 module _ (s : List ℕ) (parent : ℕ) (below : List Row) where
   module _ (id : ℕ) where
-    pub number-unset : Absent ≡ lastOf (children parent id Uint below) → unset ≡ numberOf s parent below id
-    unfolding numberOf
-    number-unset e = ap (numberIn s) e
+    module _ {c : Child} (e : c ≡ lastOf (children parent id Uint below)) where
+      pub number-unset : c ≡ Absent → unset ≡ numberOf s parent below id
+      unfolding numberOf
+      number-unset a = ap (numberIn s) (sym a ∙ e)
 
-    pub number-is :
-        (n : ℕ) (r : Row) (v : ℕ) → At n r ≡ lastOf (children parent id Uint below) → v ≡ uintIn s r
-        → number v ≡ numberOf s parent below id
-    unfolding numberOf
-    number-is n r v e q = ap number q ∙ ap (numberIn s) e
-
-    pub flag-unset : Absent ≡ lastOf (children parent id Uint below) → unset ≡ flagOf s parent below id
-    unfolding flagOf
-    flag-unset e = ap (flagIn s) e
-
-    module _ (n : ℕ) (r : Row) (v : ℕ) (e : At n r ≡ lastOf (children parent id Uint below))
-        (q : v ≡ uintIn s r) where
-      pub flag-no : v ≡ 0 → flag false ≡ flagOf s parent below id
+      pub flag-unset : c ≡ Absent → unset ≡ flagOf s parent below id
       unfolding flagOf
-      flag-no z = flag-of (uintIn s r) (sym q ∙ z) ∙ ap (flagIn s) e
-        where
-          flag-of : (w : ℕ) → w ≡ 0 → flag false ≡ flag (not (eqb w 0))
-          flag-of w y = rw (eq-eqb w 0 y)
+      flag-unset a = ap (flagIn s) (sym a ∙ e)
 
-      pub flag-yes : (v ≡ 0 → ⊥) → flag true ≡ flagOf s parent below id
-      unfolding flagOf
-      flag-yes z = flag-of (uintIn s r) (λ y. z (q ∙ y)) ∙ ap (flagIn s) e
-        where
-          flag-of : (w : ℕ) → (w ≡ 0 → ⊥) → flag true ≡ flag (not (eqb w 0))
-          flag-of w y = rw (ne-eqb w 0 y)
+      module _ {n v : ℕ} {r : Row} (a : c ≡ At n r) (q : v ≡ uintIn s r) where
+        pub number-is : number v ≡ numberOf s parent below id
+        unfolding numberOf
+        number-is = ap number q ∙ ap (numberIn s) (sym a ∙ e)
 
-    pub real-unset : Absent ≡ lastOf (children parent id Float below) → unset ≡ realOf s parent below id
-    unfolding realOf
-    real-unset e = ap (realIn s) e
+        flag-is : flag (not (eqb v 0)) ≡ flagOf s parent below id
+        unfolding flagOf
+        flag-is = ap (λ (w : ℕ). flag (not (eqb w 0))) q ∙ ap (flagIn s) (sym a ∙ e)
 
-    pub real-is :
-        (n : ℕ) (r : Row) (x : Floats) → At n r ≡ lastOf (children parent id Float below) → x ≡ floatIn s r
-        → real x ≡ realOf s parent below id
-    unfolding realOf
-    real-is n r x e q = ap real q ∙ ap (realIn s) e
+        pub flag-no : v ≡ 0 → flag false ≡ flagOf s parent below id
+        flag-no z = rw (eq-eqb v 0 z) at flag-is
 
-    module _ (kind : Kind) where
-      pub content-unset : Absent ≡ lastOf (children parent id kind below) → unset ≡ contentOf s parent below id kind
+        pub flag-yes : (v ≡ 0 → ⊥) → flag true ≡ flagOf s parent below id
+        flag-yes z = rw (ne-eqb v 0 z) at flag-is
+
+    module _ {c : Child} (e : c ≡ lastOf (children parent id Float below)) where
+      pub real-unset : c ≡ Absent → unset ≡ realOf s parent below id
+      unfolding realOf
+      real-unset a = ap (realIn s) (sym a ∙ e)
+
+      pub real-is : {n : ℕ} {r : Row} {x : Floats} → c ≡ At n r → x ≡ floatIn s r → real x ≡ realOf s parent below id
+      unfolding realOf
+      real-is a q = ap real q ∙ ap (realIn s) (sym a ∙ e)
+
+    module _ (kind : Kind) {c : Child} (e : c ≡ lastOf (children parent id kind below)) where
+      pub content-unset : c ≡ Absent → unset ≡ contentOf s parent below id kind
       unfolding contentOf
-      content-unset e = ap contentIn e
+      content-unset a = ap contentIn (sym a ∙ e)
 
-      pub content-at :
-          (n : ℕ) (r : Row) (g : Range) → At n r ≡ lastOf (children parent id kind below) → g ≡ rangeIn r
+      pub content-at : {n : ℕ} {r : Row} {g : Range} → c ≡ At n r → g ≡ rangeIn r
           → content (g .at) (g .length) ≡ contentOf s parent below id kind
       unfolding contentOf
-      content-at n r g e q = ap (λ (x : Range). content (x .at) (x .length)) q ∙ ap contentIn e
+      content-at a q = ap (λ (x : Range). content (x .at) (x .length)) q ∙ ap contentIn (sym a ∙ e)
 
   -- The one that decides comes first: an IETF language, else an ISO 639 one.
-  module _ (isos ietfs : ℕ) where
-    pub language-ietf :
-        (n : ℕ) (r : Row) (g : Range) → At n r ≡ lastOf (children parent ietfs String below) → g ≡ rangeIn r
+  module _ (isos ietfs : ℕ) {c : Child} (e : c ≡ lastOf (children parent ietfs String below)) where
+    pub language-ietf : {n : ℕ} {r : Row} {g : Range} → c ≡ At n r → g ≡ rangeIn r
         → ietf (g .at) (g .length) ≡ languageOf s parent below isos ietfs
     unfolding languageOf
-    language-ietf n r g e q =
+    language-ietf a q =
         ap (λ (x : Range). ietf (x .at) (x .length)) q
-        ∙ ap (λ (c : Child). languageIn c (lastOf (children parent isos String below))) e
+        ∙ ap (λ (x : Child). languageIn x (lastOf (children parent isos String below))) (sym a ∙ e)
 
-    module _ (a : Absent ≡ lastOf (children parent ietfs String below)) where
-      without : (c : Child) → c ≡ lastOf (children parent isos String below)
-          → languageIn Absent c ≡ languageOf s parent below isos ietfs
+    module _ (a : c ≡ Absent) {d : Child} (f : d ≡ lastOf (children parent isos String below)) where
+      without : languageIn Absent d ≡ languageOf s parent below isos ietfs
       unfolding languageOf
-      without c e = ap (languageIn Absent) e
-          ∙ ap (λ (d : Child). languageIn d (lastOf (children parent isos String below))) a
+      without = ap (languageIn Absent) f
+          ∙ ap (λ (x : Child). languageIn x (lastOf (children parent isos String below))) (sym a ∙ e)
 
-      pub language-iso :
-          (n : ℕ) (r : Row) (g : Range) → At n r ≡ lastOf (children parent isos String below) → g ≡ rangeIn r
+      pub language-iso : {n : ℕ} {r : Row} {g : Range} → d ≡ At n r → g ≡ rangeIn r
           → iso (g .at) (g .length) ≡ languageOf s parent below isos ietfs
-      language-iso n r g e q = ap (λ (x : Range). iso (x .at) (x .length)) q ∙ without (At n r) e
+      language-iso b q =
+          ap (λ (x : Range). iso (x .at) (x .length)) q ∙ ap (languageIn Absent) (sym b) ∙ without
 
-      pub language-unset :
-          Absent ≡ lastOf (children parent isos String below) → unset ≡ languageOf s parent below isos ietfs
-      language-unset e = without Absent e
+      pub language-unset : d ≡ Absent → unset ≡ languageOf s parent below isos ietfs
+      language-unset b = ap (languageIn Absent) (sym b) ∙ without
 
   -- The later of a text and bytes.
-  module _ (texts binaries : ℕ) where
-    both : (c d : Child) → c ≡ lastOf (children parent texts Utf8 below)
-        → d ≡ lastOf (children parent binaries Binary below) → valueIn c d ≡ valueOf s parent below texts binaries
+  module _ (texts binaries : ℕ) {c d : Child} (e : c ≡ lastOf (children parent texts Utf8 below))
+      (f : d ≡ lastOf (children parent binaries Binary below)) where
+    both : (x y : Child) → c ≡ x → d ≡ y → valueIn x y ≡ valueOf s parent below texts binaries
     unfolding valueOf
-    both c d e f =
-        ap (λ (x : Child). valueIn x d) e ∙ ap (valueIn (lastOf (children parent texts Utf8 below))) f
+    both x y a b =
+        ap (λ (z : Child). valueIn z y) (sym a ∙ e)
+        ∙ ap (valueIn (lastOf (children parent texts Utf8 below))) (sym b ∙ f)
 
-    pub value-unset :
-        Absent ≡ lastOf (children parent texts Utf8 below) → Absent ≡ lastOf (children parent binaries Binary below)
-        → unset ≡ valueOf s parent below texts binaries
-    value-unset e f = both Absent Absent e f
+    pub value-unset : c ≡ Absent → d ≡ Absent → unset ≡ valueOf s parent below texts binaries
+    value-unset a b = both Absent Absent a b
 
-    module _ (m : ℕ) (q : Row) (f : At m q ≡ lastOf (children parent binaries Binary below)) where
-      pub value-binary :
-          (g : Range) → Absent ≡ lastOf (children parent texts Utf8 below) → g ≡ rangeIn q
-          → binary (g .at) (g .length) ≡ valueOf s parent below texts binaries
-      value-binary g e w = ap (λ (x : Range). binary (x .at) (x .length)) w ∙ both Absent (At m q) e f
+    pub value-binary : {m : ℕ} {q : Row} {g : Range} → c ≡ Absent → d ≡ At m q → g ≡ rangeIn q
+        → binary (g .at) (g .length) ≡ valueOf s parent below texts binaries
+    value-binary {m} {q} a b w = ap (λ (x : Range). binary (x .at) (x .length)) w ∙ both Absent (At m q) a b
 
-    module _ (n : ℕ) (r : Row) (e : At n r ≡ lastOf (children parent texts Utf8 below)) where
-      pub value-text :
-          (g : Range) → Absent ≡ lastOf (children parent binaries Binary below) → g ≡ rangeIn r
-          → text (g .at) (g .length) ≡ valueOf s parent below texts binaries
-      value-text g f w = ap (λ (x : Range). text (x .at) (x .length)) w ∙ both (At n r) Absent e f
+    pub value-text : {n : ℕ} {r : Row} {g : Range} → c ≡ At n r → d ≡ Absent → g ≡ rangeIn r
+        → text (g .at) (g .length) ≡ valueOf s parent below texts binaries
+    value-text {n} {r} a b w = ap (λ (x : Range). text (x .at) (x .length)) w ∙ both (At n r) Absent a b
 
-      module _ (m : ℕ) (q : Row) (f : At m q ≡ lastOf (children parent binaries Binary below)) (g : Range) where
-        pub later-binary :
-            n < m → g ≡ rangeIn q → binary (g .at) (g .length) ≡ valueOf s parent below texts binaries
-        later-binary l w =
-            ap (λ (x : Range). binary (x .at) (x .length)) w ∙ sym (rw (lt-ltb n m l)) ∙ both (At n r) (At m q) e f
+    module _ {n m : ℕ} {r q : Row} {g : Range} (a : c ≡ At n r) (b : d ≡ At m q) where
+      pub later-binary : n < m → g ≡ rangeIn q → binary (g .at) (g .length) ≡ valueOf s parent below texts binaries
+      later-binary l w =
+          ap (λ (x : Range). binary (x .at) (x .length)) w ∙ sym (rw (lt-ltb n m l)) ∙ both (At n r) (At m q) a b
 
-        pub later-text : m ≤ n → g ≡ rangeIn r → text (g .at) (g .length) ≡ valueOf s parent below texts binaries
-        later-text l w =
-            ap (λ (x : Range). text (x .at) (x .length)) w ∙ sym (rw (le-ltb n m l)) ∙ both (At n r) (At m q) e f
+      pub later-text : m ≤ n → g ≡ rangeIn r → text (g .at) (g .length) ≡ valueOf s parent below texts binaries
+      later-text l w =
+          ap (λ (x : Range). text (x .at) (x .length)) w ∙ sym (rw (le-ltb n m l)) ∙ both (At n r) (At m q) a b
