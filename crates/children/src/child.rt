@@ -1,10 +1,9 @@
 // The rows below a master, and its direct children among them: the last of an id and kind, the k-th, and how many.
 ghost use mathlib.Core.Path.{_≡_};
-ghost use Prim.Native.Nat.{_/_, _≤_};
+ghost use Prim.Native.Nat.{_≤_};
 ghost use lib.ListN.{length};
-ghost use Rattle.elements_rules.specs.Rows.{width};
 ghost use Rattle.fields_rules.specs.Children.{rowsIn, fits, children, lastOf, nthOf};
-ghost use Rattle.fields_rules.specs.Contract.{Within, BelowIs, AllJump};
+ghost use Rattle.fields_rules.specs.Contract.{Within, BelowIs, Ordered};
 use elements_rules::Row;
 use fields_rules::Below;
 use fields_rules::Child;
@@ -13,7 +12,7 @@ use rowstore::row_at;
 
 // The rows that a master's row jumps over; all rows for the payload that was read.
 pub fn rows_below(table: &[u64], rows: usize, parent: usize) -> Below
-    requires { ⌜ (rows ≤ length (now table) / width) × (parent ≤ rows) × AllJump (now table) rows ⌝ }
+    requires { ⌜ Ordered (now table) rows × (parent ≤ rows) ⌝ }
     ensures { λ r. ⌜ BelowIs (now (table .entry)) rows parent r ⌝ }
 {
     if parent == 0 {
@@ -27,7 +26,7 @@ pub fn rows_below(table: &[u64], rows: usize, parent: usize) -> Below
 }
 
 // Whether a row is a direct child of a master, of this id and kind.
-fn is_child(row: Row, parent: usize, id: u32, kind: Kind) -> bool
+pub fn is_child(row: Row, parent: usize, id: u32, kind: Kind) -> bool
     ensures { λ r. ⌜ r ≡ fits parent id kind row ⌝ }
 {
     if row.parent != parent as u64 {

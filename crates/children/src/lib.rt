@@ -3,6 +3,7 @@
 mod child;
 
 pub use child::count_children;
+pub use child::is_child;
 pub use child::last_child;
 pub use child::nth_child;
 pub use child::rows_below;

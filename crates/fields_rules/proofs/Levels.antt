@@ -12,7 +12,7 @@ use Rattle.elements_rules.specs.Jumps.{Descends, child, deeper as further, Jump
 use Rattle.elements_rules.specs.declared.row.Row.{Row}
 use Rattle.elements_rules.proofs.Numbered.{length-rows-of, row-of, drop-rows}
 use Rattle.fields_rules.specs.Children.{deeper, subtree}
-use Rattle.fields_rules.specs.Contract.{Steps, BelowIs, AllJump}
+use Rattle.fields_rules.specs.Contract.{Steps, BelowIs, Ordered}
 use Rattle.fields_rules.proofs.Rest.{either}
 
 -- The rows from row k up to before row n.
@@ -67,7 +67,7 @@ deeper-first depth t (suc n) = go (ltb depth (firstRow t .depth)) (deeper-first 
     go true h = ap (λ (x : List Row). firstRow t ∷ x) h
     go false h = refl
 
-module _ (t : List ℕ) (rows : ℕ) (all : AllJump t rows) where
+module _ (t : List ℕ) (rows : ℕ) (o : Ordered t rows) where
   abbrev rs : List Row
   rs = rowsOf t rows
 
@@ -75,7 +75,7 @@ module _ (t : List ℕ) (rows : ℕ) (all : AllJump t rows) where
   long = length-rows-of t rows
 
   jumps : (k : ℕ) → k < length rs → Jump rs k
-  jumps k l = all k (omega (arith, long)) .jump
+  jumps k l = o .jumps k (omega (arith, long)) .jump
 
   -- Row n among rows up to before `end`, which it does not jump past.
   steps-at : (end n : ℕ) (l : n < rows) → nth rs n .after ≤ end → Steps t end n
@@ -114,7 +114,7 @@ module _ (t : List ℕ) (rows : ℕ) (all : AllJump t rows) where
       let e : nth rs k ≡ master = row-of t rows k (omega arith) ∙ sym (q ∙ ap (rowAt t) p) in
       let a : nth rs k .after ≡ master .after = ap (λ (r : Row). r .after) e in
       let s = below-row t rows (suc k) master l z q in
-      let c : length (subtree rs (suc k)) ≡ master .after - suc k = omega (arith, all k (omega arith) .below) in
+      let c : length (subtree rs (suc k)) ≡ master .after - suc k = omega (arith, o .jumps k (omega arith) .below) in
       record {
         master = refl;
         some = omega (arith, j .ahead);

@@ -1,11 +1,10 @@
 -- What is left of a master's children at each row that a loop comes to. Assumes nothing.
 use Prim.Native.Nat.{ℕ, zero, suc, _+_, _-_, _*_, _≤_, _<_}
-use mathlib.Core.Path.{_≡_, refl, sym, ap, _∙_}
+use mathlib.Core.Path.{_≡_, refl, sym, ap, _∙_, subst}
 use mathlib.Core.List.{List, [], _∷_}
-use mathlib.Core.Logic.{_⊎_, ⊎-elim}
 use mathlib.Core.Bool.{Bool, true, false}
 use native.Mathlib.Omega.{arith}
-use lib.ListN.{length, drop}
+use lib.ListN.{drop}
 use lib.Seq.{drop-drop}
 use lib.Dec.{ltb, eqb}
 use borrow.Author.Tests.{eq-eqb, ne-eqb, ltb-true, ltb-false}
@@ -13,10 +12,11 @@ use Rattle.kinds.specs.Kinds.{numberOf}
 use Rattle.kinds.specs.declared.kind.Kind.{Kind}
 use Rattle.elements_rules.specs.Rows.{width, rowAt, rowsOf}
 use Rattle.elements_rules.specs.declared.row.Row.{Row}
-use Rattle.fields_rules.specs.Children.{fits, childrenFrom, lastFrom, nthOf}
-use Rattle.fields_rules.specs.Contract.{Steps}
+use Rattle.fields_rules.specs.Children.{fits, childrenFrom, children, nthOf, rowsIn}
+use Rattle.fields_rules.specs.Contract.{Steps, Within}
+use Rattle.fields_rules.specs.declared.child.Below.{Below}
 use Rattle.fields_rules.specs.declared.child.Child.{Child}
-use Rattle.fields_rules.specs.declared.child.Child.the-variants.{Absent, At}
+use Rattle.fields_rules.specs.declared.child.Child.the-variants.{At}
 
 pub either : {A : Type 0} (a b : ℕ) → (a < b → A) → (b ≤ a → A) → A
 either {A = A} a b f g = go (ltb a b) refl
@@ -75,50 +75,6 @@ module _ (t : List ℕ) (parent id : ℕ) (kind : Kind) (e : ℕ) where
       unfolding childrenFrom
       rest-miss f = rw (more-rows t e n l, ← q, ← f)
 
-    -- ---- the last
-
-    pub last-end : (c : Child) → e ≤ n → c ≡ lastFrom c (rest n)
-    unfolding lastFrom
-    last-end c l = rw (rest-end l)
-
-    -- ---- the k-th
-
-    pub nth-end : (k : ℕ) → e ≤ n → Absent ≡ nthOf k (rest n)
-    unfolding nthOf
-    nth-end k l = rw (rest-end l)
-
-    pub count-end : e ≤ n → length (rest n) ≡ 0
-    count-end l = rw (rest-end l)
-
-    module _ (l : n < e) (r : Row) (q : r ≡ rowAt t n) where
-      pub last-hit : (c : Child) → true ≡ fits parent id kind r
-          → lastFrom c (rest n) ≡ lastFrom (At n r) (rest (n + 1))
-      unfolding lastFrom
-      last-hit c f = rw (rest-hit l r q f)
-
-      pub last-miss : (c : Child) → false ≡ fits parent id kind r → lastFrom c (rest n) ≡ lastFrom c (rest (n + 1))
-      last-miss c f = ap (lastFrom c) (rest-miss l r q f)
-
-      pub nth-here : (k : ℕ) → k ≡ 0 → true ≡ fits parent id kind r → At n r ≡ nthOf k (rest n)
-      unfolding nthOf
-      nth-here k z f = rw (rest-hit l r q f, z)
-
-      pub nth-later :
-          (k : ℕ) → (k ≡ 0 → ⊥) → true ≡ fits parent id kind r → nthOf k (rest n) ≡ nthOf (k - 1) (rest (n + 1))
-      unfolding nthOf
-      nth-later k z f =
-          let m : k ≡ suc (k - 1) = omega arith in
-          rw (rest-hit l r q f) (ap (λ (x : ℕ). nthOf x (At n r ∷ rest (n + 1))) m)
-
-      pub nth-miss : (k : ℕ) → false ≡ fits parent id kind r → nthOf k (rest n) ≡ nthOf k (rest (n + 1))
-      nth-miss k f = ap (nthOf k) (rest-miss l r q f)
-
-      pub count-hit : true ≡ fits parent id kind r → length (rest n) ≡ suc (length (rest (n + 1)))
-      count-hit f = rw (rest-hit l r q f)
-
-      pub count-miss : false ≡ fits parent id kind r → length (rest n) ≡ length (rest (n + 1))
-      count-miss f = ap length (rest-miss l r q f)
-
   -- Rows of other parents are passed over at once.
   passed : (d n : ℕ) → n + d ≤ e → ((j : ℕ) → n ≤ j → j < n + d → rowAt t j .parent ≡ parent → ⊥)
       → rest n ≡ rest (n + d)
@@ -136,60 +92,79 @@ module _ (t : List ℕ) (parent id : ℕ) (kind : Kind) (e : ℕ) where
       passed (r .after - (n + 1)) (n + 1) (omega (arith, s .ahead, s .held))
       (λ j x y w. omega (arith, s .over j (omega arith) (omega (arith, s .ahead)))) ∙ ap rest z
 
--- ---- one turn of each loop, whichever way it went
+-- ---- a loop over the rows of a master
 
--- Row n as a turn looked at it, in a loop over the rows of a master up to before `e`; b is whether it is a child.
-pub record Looked (t : List ℕ) (parent id : ℕ) (kind : Kind) (e n : ℕ) (r : Row) (b : Bool) : Type 0 where
-  pub more : n < e
-  pub row : r ≡ rowAt t n
-  pub low : parent ≤ n
-  pub steps : Steps t e n
-  pub told : b ≡ fits parent id kind r
+-- It has come to row n, and P holds of the children that are left.
+pub record Left (t : List ℕ) (b : Below) (id : ℕ) (kind : Kind) (P : List Child → Type 0) (n : ℕ) : Type 0 where
+  pub low : b .parent ≤ n
+  pub high : n ≤ b .end
+  pub left : P (rest t (b .parent) id kind (b .end) n)
 
-module _ {t : List ℕ} {parent id : ℕ} {kind : Kind} {e n : ℕ} {r : Row} {b : Bool}
-    (k : Looked t parent id kind e n r b) where
-  over : rest t parent id kind e (n + 1) ≡ rest t parent id kind e (r .after)
-  over = onward t parent id kind e n r (k .row) (k .low) (k .steps)
+pub at-first : (t : List ℕ) (b : Below) (id : ℕ) (kind : Kind) (P : List Child → Type 0) → Within t b
+    → P (children (b .parent) id kind (rowsIn t b)) → Left t b id kind P (b .parent)
+at-first t b id kind P w p = record { low = omega arith; high = w .some; left = p }
 
-  -- The loop goes on, and nearer to the end.
-  pub goes : (n < r .after) × (r .after ≤ e) × (parent ≤ r .after)
-  goes =
-      let a : r .after ≡ rowAt t n .after = ap (λ (x : Row). x .after) (k .row) in
-      omega (arith, k .steps .ahead, k .steps .held, k .low)
+pub at-end : {t : List ℕ} {b : Below} {id : ℕ} {kind : Kind} {P : List Child → Type 0} {n : ℕ}
+    → Left t b id kind P n → b .end ≤ n → P []
+at-end {t} {b} {id} {kind} {P} {n} l e = subst P (rest-end t (b .parent) id kind (b .end) n e) (l .left)
 
-  pub nearer : e - r .after < e - n
-  nearer = omega (arith, goes .0, goes .1, k .more)
+-- One turn: a row that is a child is the first of those that were left; the rows below the row are passed over.
+module _ {t : List ℕ} {b : Below} (w : Within t b) {id : ℕ} {kind : Kind} {P : List Child → Type 0} {n : ℕ}
+    (l : Left t b id kind P n) (m : n < b .end) {r : Row} (q : r ≡ rowAt t n) where
+  abbrev steps : Steps t (b .end) n
+  steps = w .steps n (l .low) m
 
-  pub last-turn :
-      (c d : Child) → ((b ≡ true) × (d ≡ At n r)) ⊎ ((b ≡ false) × (d ≡ c))
-      → lastFrom c (rest t parent id kind e n) ≡ lastFrom d (rest t parent id kind e (r .after))
-  last-turn c d h′ =
-      (⊎-elim
-      (λ h. last-hit t parent id kind e n (k .more) r (k .row) c (sym (h .0) ∙ k .told)
-      ∙ ap (λ (x : Child). lastFrom x (rest t parent id kind e (n + 1))) (sym (h .1)))
-      (λ h. last-miss t parent id kind e n (k .more) r (k .row) c (sym (h .0) ∙ k .told)
-      ∙ ap (λ (x : Child). lastFrom x (rest t parent id kind e (n + 1))) (sym (h .1))) h′)
-      ∙ ap (lastFrom d) over
+  ahead : (n < r .after) × (r .after ≤ b .end)
+  ahead =
+      let a : r .after ≡ rowAt t n .after = ap (λ (x : Row). x .after) q in
+      omega (arith, steps .ahead, steps .held)
 
-  pub nth-turn :
-      (i m : ℕ) → ((b ≡ true) × ((i ≡ 0 → ⊥) × (m ≡ i - 1))) ⊎ ((b ≡ false) × (m ≡ i))
-      → nthOf i (rest t parent id kind e n) ≡ nthOf m (rest t parent id kind e (r .after))
-  nth-turn i m h′ =
-      (⊎-elim
-      (λ h. nth-later t parent id kind e n (k .more) r (k .row) i (h .1 .0) (sym (h .0) ∙ k .told)
-      ∙ ap (λ (x : ℕ). nthOf x (rest t parent id kind e (n + 1))) (sym (h .1 .1)))
-      (λ h. nth-miss t parent id kind e n (k .more) r (k .row) i (sym (h .0) ∙ k .told)
-      ∙ ap (λ (x : ℕ). nthOf x (rest t parent id kind e (n + 1))) (sym (h .1))) h′)
-      ∙ ap (nthOf m) over
+  pub nearer : b .end - r .after < b .end - n
+  nearer = omega (arith, ahead)
 
-  pub count-turn :
-      (i m : ℕ) → ((b ≡ true) × (m ≡ i + 1)) ⊎ ((b ≡ false) × (m ≡ i))
-      → i + length (rest t parent id kind e n) ≡ m + length (rest t parent id kind e (r .after))
-  count-turn i m h′ =
-      (⊎-elim
-      (λ h.
-      let x = count-hit t parent id kind e n (k .more) r (k .row) (sym (h .0) ∙ k .told) in omega (arith, x, h .1))
-      (λ h.
-      let x = count-miss t parent id kind e n (k .more) r (k .row) (sym (h .0) ∙ k .told) in omega (arith, x, h .1))
-      h′)
-      ∙ ap (λ (x : List Child). m + length x) over
+  -- No more rows are counted than are passed.
+  pub counts-one : {x : ℕ} → x ≤ n → x + 1 ≤ r .after
+  counts-one k = omega (arith, ahead)
+
+  pub counts-none : {x : ℕ} → x ≤ n → x ≤ r .after
+  counts-none k = omega (arith, ahead)
+
+  over : rest t (b .parent) id kind (b .end) (n + 1) ≡ rest t (b .parent) id kind (b .end) (r .after)
+  over = onward t (b .parent) id kind (b .end) n r q (l .low) steps
+
+  module _ {ok : Bool} (o : ok ≡ fits (b .parent) id kind r) where
+    pub turn-hit : ok ≡ true → {Q : List Child → Type 0} → ((cs : List Child) → P (At n r ∷ cs) → Q cs)
+        → Left t b id kind Q (r .after)
+    turn-hit f more =
+        record {
+          low = omega (arith, l .low, ahead);
+          high = ahead .1;
+          left =
+              more _
+              (subst P
+              (rest-hit t (b .parent) id kind (b .end) n m r q (sym f ∙ o) ∙ ap (λ (cs : List Child). At n r ∷ cs) over)
+              (l .left));
+        }
+
+    pub turn-miss : ok ≡ false → Left t b id kind P (r .after)
+    turn-miss f =
+        record {
+          low = omega (arith, l .low, ahead);
+          high = ahead .1;
+          left = subst P (rest-miss t (b .parent) id kind (b .end) n m r q (sym f ∙ o) ∙ over) (l .left);
+        }
+
+    -- Where the loop ends at a child.
+    pub turn-here : ok ≡ true → P (At n r ∷ rest t (b .parent) id kind (b .end) (n + 1))
+    turn-here f = subst P (rest-hit t (b .parent) id kind (b .end) n m r q (sym f ∙ o)) (l .left)
+
+-- ---- the k-th child: of those that are left, k is the first, or the one before it is passed
+
+module _ (c d : Child) (cs : List Child) (k : ℕ) (e : c ≡ nthOf k (d ∷ cs)) where
+  pub nth-here : k ≡ 0 → d ≡ c
+  unfolding nthOf
+  nth-here z = sym (e ∙ ap (λ (x : ℕ). nthOf x (d ∷ cs)) z)
+
+  pub nth-later : (k ≡ 0 → ⊥) → c ≡ nthOf (k - 1) cs
+  unfolding nthOf
+  nth-later z = let m : k ≡ suc (k - 1) = omega arith in e ∙ ap (λ (x : ℕ). nthOf x (d ∷ cs)) m

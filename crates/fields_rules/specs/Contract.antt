@@ -53,3 +53,8 @@ pub record Jumped (rs : List Row) (k : ℕ) : Type 0 where
 -- Each of the first rows of a table does.
 abbrev pub AllJump : List ℕ → ℕ → Type 0
 AllJump t rows = (k : ℕ) → k < rows → Jumped (rowsOf t rows) k
+
+-- The first rows of a table lie in it, and each of them jumps over the rows below it.
+pub record Ordered (t : List ℕ) (rows : ℕ) : Type 0 where
+  pub held : rows ≤ length t / width
+  pub jumps : AllJump t rows
