@@ -1,12 +1,11 @@
 // The master that a record question asks for: the payload is read into the table, and one step is taken for each level.
 ghost use mathlib.Core.Path.{_≡_};
-ghost use Prim.Native.Nat.{_/_, _≤_};
 ghost use lib.ListN.{length};
-ghost use Rattle.elements_rules.specs.Rows.{width, rowsOf};
-ghost use Rattle.fields_rules.specs.Contract.{AllJump};
-ghost use Rattle.locate_rules.specs.Steps.{spotOf, entered, reached};
+ghost use Rattle.elements_rules.specs.Rows.{rowsOf};
+ghost use Rattle.fields_rules.specs.Contract.{Ordered};
+ghost use Rattle.locate_rules.specs.Steps.{spotOf, entered};
 ghost use Rattle.locate_rules.specs.Asked.{asked};
-ghost use Rattle.locate_rules.specs.Contract.{Numbered, Known, LocateMet};
+ghost use Rattle.locate_rules.specs.Contract.{Numbered, Known, FindMet, LocateMet};
 use children::last_child;
 use children::nth_child;
 use children::rows_below;
@@ -14,9 +13,11 @@ use elements::read;
 use elements_rules::ReadReply;
 use fields_rules::Child;
 use kinds::Kind;
+use locate_rules::Found;
 use locate_rules::Located;
 use locate_rules::Spot;
 use locate_rules::Step;
+use locate_rules::Way;
 use refusals::Cause;
 use refusals::Refusal;
 use rowstore::clear;
@@ -33,7 +34,7 @@ fn spot_of(child: Child) -> Spot
 
 // One step on from a master.
 fn enter(table: &[u64], rows: usize, from: Spot, step: Step) -> Spot
-    requires { ⌜ (rows ≤ length (now table) / width) × Known rows from × AllJump (now table) rows ⌝ }
+    requires { ⌜ Ordered (now table) rows × Known rows from ⌝ }
     ensures { λ r. ⌜ r ≡ entered (rowsOf (now (table .entry)) rows) from step ⌝ }
 {
     match from {
@@ -58,14 +59,20 @@ fn enter(table: &[u64], rows: usize, from: Spot, step: Step) -> Spot
     }
 }
 
-// From the payload that was read, a step for each level.
-fn find(table: &[u64], rows: usize, first: Step, second: Step, third: Step) -> Spot
-    requires { ⌜ (rows ≤ length (now table) / width) × AllJump (now table) rows ⌝ }
-    ensures { λ r. ⌜ r ≡ reached (rowsOf (now (table .entry)) rows) first second third ⌝ }
+// From the payload that was read, a step for each level: the rows below the master that they lead to.
+pub fn find(table: &[u64], rows: usize, way: Way) -> Found
+    requires { ⌜ Ordered (now table) rows ⌝ }
+    ensures { λ r. ⌜ FindMet (now (table .entry)) rows way r ⌝ }
 {
+    let first = way.first;
+    let second = way.second;
+    let third = way.third;
     let one = enter(table, rows, Spot::At(0), first);
     let two = enter(table, rows, one, second);
-    enter(table, rows, two, third)
+    match enter(table, rows, two, third) {
+        Spot::Absent => Found::Absent,
+        Spot::At(parent) => Found::At(rows_below(table, rows, parent)),
+    }
 }
 
 // Reads the payload of `size` bytes from `start` on into the table, and goes to the master. 15: there is none.
@@ -74,30 +81,25 @@ pub fn locate(
     start: u64,
     size: u64,
     parent: u32,
-    first: Step,
-    second: Step,
-    third: Step,
+    way: Way,
     table: &mut [u64],
 ) -> Located
     ensures { λ r. ⌜ LocateMet (now (recording .entry))
-        (asked (now (recording .entry)) start size parent (length (now (table .entry))) first second third)
+        (asked (now (recording .entry)) start size parent (length (now (table .entry))) way)
         (length (now (table .entry))) r (now (table .exit)) ⌝ }
 {
     match read(recording, start, size, parent, table) {
         ReadReply::Refused(refusal) => Located::Refused(refusal),
         ReadReply::Rows(count) => {
             let rows = count as usize;
-            match find(table, rows, first, second, third) {
-                Spot::Absent => {
+            match find(table, rows, way) {
+                Found::Absent => {
                     clear(table);
                     Located::Refused(Refusal {
                         cause: Cause::Outside,
                     })
                 }
-                Spot::At(number) => Located::At {
-                    master: rows_below(table, rows, number),
-                    rows,
-                },
+                Found::At(master) => Located::At { master, rows },
             }
         }
     }

@@ -21,16 +21,16 @@ use Rattle.fields_rules.specs.Fields.{numberOf, flagOf, contentOf, realOf, lang
 use Rattle.fields_rules.specs.declared.child.Child.{Child}
 use Rattle.fields_rules.specs.declared.child.Child.the-variants.{At as ChildAt, Absent as NoChild}
 use Rattle.fields_rules.proofs.Picked.{last-is}
-use Rattle.locate_rules.specs.Steps.{entered, reached}
+use Rattle.locate_rules.specs.Steps.{reached}
 use Rattle.locate_rules.specs.Asked.{Asked, found, refusing, settled, sought, asked, hasMember, listed}
 use Rattle.locate_rules.specs.Told.{fields}
 use Rattle.locate_rules.specs.Contract.{Known}
 use Rattle.locate_rules.specs.Promise.{RecordPromise}
 use Rattle.locate_rules.specs.Theorems.{PayloadOf, Placed, AllPlaced, Addressed}
-use Rattle.locate_rules.specs.declared.steps.Step.{Step}
+use Rattle.locate_rules.specs.declared.steps.Way.{Way}
 use Rattle.locate_rules.specs.declared.steps.Spot.{Spot}
 use Rattle.locate_rules.specs.declared.steps.Spot.the-variants.{Absent, At}
-use Rattle.locate_rules.proofs.Ways.{subtree-fits, entered-known}
+use Rattle.locate_rules.proofs.Ways.{subtree-fits, reached-known}
 
 -- ---- a row below a master is one of the rows
 
@@ -178,19 +178,13 @@ settled-in : (rs : List Row) (to : Spot) → Known (length rs) to → Known-in (
 settled-in rs Absent k = tt
 settled-in rs (At parent) k = k
 
-pub asked-in : (s : List ℕ) (start size parent numbers : ℕ) (first second third : Step)
-    → Known-in (asked s start size parent numbers first second third)
-unfolding asked reached
-asked-in s start size parent numbers first second third = go (readOf s start size parent numbers)
+pub asked-in : (s : List ℕ) (start size parent numbers : ℕ) (w : Way) → Known-in (asked s start size parent numbers w)
+unfolding asked
+asked-in s start size parent numbers w = go (readOf s start size parent numbers)
   where
-    go : (o : Outcome) → Known-in (sought start o (λ rs. reached rs first second third))
+    go : (o : Outcome) → Known-in (sought start o (λ rs. reached rs w))
     go (refused e) = tt
-    go (done f) =
-        let rs = rows 0 0 start 0 f in
-        let one = entered-known rs (At 0) first (omega arith) in
-        let two = entered-known rs (entered rs (At 0) first) second one in
-        settled-in rs (reached rs first second third)
-        (entered-known rs (entered rs (entered rs (At 0) first) second) third two)
+    go (done f) = let rs = rows 0 0 start 0 f in settled-in rs (reached rs w) (reached-known rs w)
 
 listed-in : (a : Asked) (member : List Row → ℕ → Child) → Known-in a → Known-in (listed a member)
 listed-in (refusing e) member k = tt
@@ -214,18 +208,18 @@ addressed values (found rs parent) numbers vs n t′ f k p =
     subst (λ (x : List Row). AllPlaced x vs) (sym w) (subst (AllPlaced rs) (sym e) (f rs parent k))
 
 -- A question whose values are placed among any rows is addressed.
-module _
-    (values : List Row → ℕ → List Value) (s : List ℕ) (start size parent : ℕ) (first second third : Step)
-    (f : (rs : List Row) (master : ℕ) → master ≤ length rs → AllPlaced rs (values rs master)) where
+module _ (values : List Row → ℕ → List Value)
+    (f : (rs : List Row) (master : ℕ) → master ≤ length rs → AllPlaced rs (values rs master))
+    (s : List ℕ) (start size parent : ℕ) (w : Way) where
   abbrev ask : ℕ → Asked
-  ask numbers = asked s start size parent numbers first second third
+  ask numbers = asked s start size parent numbers w
 
   pub asked-addressed : Addressed values ask
   asked-addressed numbers vs n t′ =
-      addressed values (ask numbers) numbers vs n t′ f (asked-in s start size parent numbers first second third)
+      addressed values (ask numbers) numbers vs n t′ f (asked-in s start size parent numbers w)
 
   -- The same of a member of one of its lists.
   pub listed-addressed : (member : List Row → ℕ → Child) → Addressed values (λ numbers. listed (ask numbers) member)
   listed-addressed member numbers vs n t′ =
       addressed values (listed (ask numbers) member) numbers vs n t′ f
-      (listed-in (ask numbers) member (asked-in s start size parent numbers first second third))
+      (listed-in (ask numbers) member (asked-in s start size parent numbers w))

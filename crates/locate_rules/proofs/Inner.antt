@@ -38,13 +38,7 @@ module _ (s t : List ℕ) (rows : ℕ) (b : Below) (h : Stands s t rows b) where
 
   pub inner-stands : (n : ℕ) (inner : Below) → BelowIs t rows n inner → Stands s t rows inner
   inner-stands n inner m =
-      record {
-        held = h .held;
-        short = h .short;
-        sound = h .sound;
-        jumps = h .jumps;
-        below = subst (λ (x : ℕ). BelowIs t rows x inner) (sym (m .master)) m;
-      }
+      record { filled = h .filled; below = subst (λ (x : ℕ). BelowIs t rows x inner) (sym (m .master)) m }
 
   -- Fields that are built of the rows below it.
   pub inner-fields :

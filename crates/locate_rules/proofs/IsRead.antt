@@ -15,43 +15,43 @@ use Rattle.locate_rules.specs.Asked.{Asked, found, refusing, asked, list
 use Rattle.locate_rules.specs.Told.{fields}
 use Rattle.locate_rules.specs.Promise.{RecordPromise}
 use Rattle.locate_rules.specs.Theorems.{AnswerIsRead, MemberIsRead}
-use Rattle.locate_rules.specs.declared.steps.Step.{Step}
+use Rattle.locate_rules.specs.declared.steps.Way.{Way}
 use Rattle.locate_rules.proofs.Settled.{record-is-read}
 
 module _
-    (values : List Row → ℕ → List Value) (s : List ℕ) (start size parent : ℕ) (t : List ℕ) (first second third : Step)
+    (values : List Row → ℕ → List Value) (s : List ℕ) (start size parent : ℕ) (t : List ℕ) (w : Way)
     (vs : List Value) (n : ℕ) (t′ : List ℕ) where
-  told-is-read : (a : Asked) → asked s start size parent (length t) first second third ≡ a
+  told-is-read : (a : Asked) → asked s start size parent (length t) w ≡ a
       → RecordPromise values a (length t) (fields vs n) t′ → ReadPromise s start size parent t (Rows n) t′
-  told-is-read (refusing e) w p = let q = p .reply in let z : _≡_ {A = ℕ} 0 1 = cc in absurd (omega arith)
-  told-is-read (found rs master) w p =
+  told-is-read (refusing e) h p = let q = p .reply in let z : _≡_ {A = ℕ} 0 1 = cc in absurd (omega arith)
+  told-is-read (found rs master) h p =
       let q = p .reply in
       let e : length rs ≡ n = cc in
-      let r = record-is-read s start size parent t first second third rs master w in
+      let r = record-is-read s start size parent t w rs master h in
       record {
         reply = ap (λ (m : ℕ). accepted (m ∷ [])) (sym e) ∙ r .reply;
         table = p .table ∙ r .table;
       }
 
   module _ (member : List Row → ℕ → Child) where
-    in-list : (rs : List Row) (master : ℕ) → asked s start size parent (length t) first second third ≡ found rs master
+    in-list : (rs : List Row) (master : ℕ) → asked s start size parent (length t) w ≡ found rs master
         → (c : Child) → RecordPromise values (hasMember (found rs master) c) (length t) (fields vs n) t′
         → ReadPromise s start size parent t (Rows n) t′
-    in-list rs master w NoChild p = let q = p .reply in let z : _≡_ {A = ℕ} 0 1 = cc in absurd (omega arith)
-    in-list rs master w (ChildAt k r) p = told-is-read (found rs master) w p
+    in-list rs master h NoChild p = let q = p .reply in let z : _≡_ {A = ℕ} 0 1 = cc in absurd (omega arith)
+    in-list rs master h (ChildAt k r) p = told-is-read (found rs master) h p
 
-    member-told : (a : Asked) → asked s start size parent (length t) first second third ≡ a
+    member-told : (a : Asked) → asked s start size parent (length t) w ≡ a
         → RecordPromise values (listed a member) (length t) (fields vs n) t′
         → ReadPromise s start size parent t (Rows n) t′
-    member-told (refusing e) w p = let q = p .reply in let z : _≡_ {A = ℕ} 0 1 = cc in absurd (omega arith)
-    member-told (found rs master) w p = in-list rs master w (member rs master) p
+    member-told (refusing e) h p = let q = p .reply in let z : _≡_ {A = ℕ} 0 1 = cc in absurd (omega arith)
+    member-told (found rs master) h p = in-list rs master h (member rs master) p
 
 pub answer-is-read : AnswerIsRead
-answer-is-read values s start size parent t first second third vs n t′ p =
-    told-is-read values s start size parent t first second third vs n t′
-    (asked s start size parent (length t) first second third) refl p
+answer-is-read values s start size parent t w vs n t′ p =
+    told-is-read values s start size parent t w vs n t′
+    (asked s start size parent (length t) w) refl p
 
 pub member-is-read : MemberIsRead
-member-is-read values member s start size parent t first second third vs n t′ p =
-    member-told values s start size parent t first second third vs n t′ member
-    (asked s start size parent (length t) first second third) refl p
+member-is-read values member s start size parent t w vs n t′ p =
+    member-told values s start size parent t w vs n t′ member
+    (asked s start size parent (length t) w) refl p

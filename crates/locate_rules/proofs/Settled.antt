@@ -1,13 +1,12 @@
 -- A question settled: what `locate` came to, and the table that is left. Assumes nothing.
-use Prim.Native.Nat.{ℕ, _-_, _*_, _/_, _≤_}
-use mathlib.Core.Path.{_≡_, refl, sym, ap, _∙_, subst}
+use Prim.Native.Nat.{ℕ, _-_, _*_}
+use mathlib.Core.Path.{_≡_, refl, sym, ap, _∙_}
 use mathlib.Core.List.{List, [], _∷_, _++_}
 use native.Mathlib.Omega.{arith}
 use lib.ListN.{length}
 use borrow.Author.Tests.{not-false}
 use Rattle.refusals.specs.Refusals.{noRecord}
 use Rattle.refusals.specs.Reply.{accepted, refusal}
-use Rattle.header.specs.Promise.{mostBytes}
 use Rattle.refusals.specs.declared.refusal.Refusal.{Refusal}
 use Rattle.header.proofs.Unique.{same-refusal}
 use Rattle.elements_rules.specs.Forest.{count}
@@ -15,24 +14,27 @@ use Rattle.elements_rules.specs.Reading.{Outcome, done, refused}
 use Rattle.elements_rules.specs.Rows.{rows, width, flatten, rowsOf}
 use Rattle.elements_rules.specs.Promise.{readOf, replyOf, tableOf, zeros, ReadPromise}
 use Rattle.elements_rules.specs.declared.row.Row.{Row}
+use Rattle.elements_rules.specs.declared.reply.ReadReply.{ReadReply}
 use Rattle.elements_rules.specs.declared.reply.ReadReply.the-variants.{Rows, Refused as ReadRefused}
 use Rattle.elements_rules.proofs.Forests.{length-rows}
 use Rattle.elements_rules.proofs.Limits.{within}
 use Rattle.elements_rules.proofs.Numbered.{length-rows-of}
 use Rattle.elements_rules.proofs.Outcomes.{of-refuse}
-use Rattle.elements_rules.proofs.Readback.{accepted-read}
+use Rattle.elements_rules.proofs.Readback.{Accepted, accepted-read}
 use Rattle.elements_rules.proofs.Sound.{rows-sound}
 use Rattle.elements_rules.proofs.Whole.{zeros-as}
 use Rattle.fields_rules.proofs.Enough.{all-jump}
-use Rattle.fields_rules.specs.Contract.{BelowIs}
+use Rattle.fields_rules.specs.Contract.{Ordered}
 use Rattle.fields_rules.specs.declared.child.Below.{Below}
 use Rattle.locate_rules.specs.Steps.{reached}
 use Rattle.locate_rules.specs.Asked.{Asked, found, refusing, settled, sought, asked, tableAfter}
-use Rattle.locate_rules.specs.Contract.{LocateMet}
-use Rattle.locate_rules.specs.Theorems.{RecordIsRead}
-use Rattle.locate_rules.specs.declared.steps.Step.{Step}
+use Rattle.locate_rules.specs.Contract.{Filled, Stands, FindMet, LocateMet}
+use Rattle.locate_rules.specs.Theorems.{FilledAfterRead, RecordIsRead}
+use Rattle.locate_rules.specs.declared.steps.Way.{Way}
 use Rattle.locate_rules.specs.declared.steps.Spot.{Spot}
 use Rattle.locate_rules.specs.declared.steps.Spot.the-variants.{Absent, At as SpotAt}
+use Rattle.locate_rules.specs.declared.steps.Found.{Found}
+use Rattle.locate_rules.specs.declared.steps.Found.the-variants.{Absent as Nowhere, At as FoundAt}
 use Rattle.locate_rules.specs.declared.steps.Located.the-variants.{At, Refused}
 
 -- ---- the reading
@@ -42,83 +44,82 @@ told-refused : (e : Refusal) (o : Outcome) → refusal e ≡ replyOf o → o ≡
 told-refused e (done f) q = let z : _≡_ {A = ℕ} 0 1 = cc in absurd (omega arith)
 told-refused e (refused g) q = ap refused (sym (same-refusal e g (cc) (cc)))
 
-pub rows-held : (s : List ℕ) (start size parent : ℕ) (t : List ℕ) (n : ℕ) (t₁ : List ℕ)
-    → ReadPromise s start size parent t (Rows n) t₁ → n ≤ length t₁ / width
-rows-held s start size parent t n t₁ p =
-    let a = accepted-read s start size parent t n t₁ p in
-    rw (a .as-long) (a .fits)
+-- The table that an accepted read leaves, whichever reply tells of it.
+module _ {s : List ℕ} {start size parent : ℕ} {t t₁ : List ℕ} {r : ReadReply}
+    (p : ReadPromise s start size parent t r t₁) {n : ℕ} (q : r ≡ Rows n) where
+  accept : Accepted s start size parent (length t) n t₁
+  accept = accepted-read s start size parent t n t₁ (rw q at p)
 
-module _ (s : List ℕ) (start size parent : ℕ) (t : List ℕ) (first second third : Step) where
+  pub read-ordered : Ordered t₁ n
+  read-ordered =
+      record { held = rw (accept .as-long) (accept .fits); jumps = all-jump s start size parent t n t₁ (rw q at p) }
+
+  pub read-filled : Filled s t₁ n
+  unfolding readOf
+  read-filled =
+      record {
+        ordered = read-ordered;
+        short = within s start (length t) (not-false _ (of-refuse _ _ _ (accept .outcome) .0)) .bytes;
+        sound = rows-sound s start size parent t n t₁ (rw q at p);
+      }
+
+-- A master that was found in it.
+pub found-stands : {s t : List ℕ} {n : ℕ} {w : Way} {f : Found} {b : Below} → Filled s t n → FindMet t n w f
+    → f ≡ FoundAt b → Stands s t n b
+found-stands h m q = record { filled = h; below = (rw q at m) .leads .1 }
+
+module _ {s : List ℕ} {start size parent : ℕ} {t t₁ : List ℕ} {r : ReadReply}
+    (p : ReadPromise s start size parent t r t₁) (w : Way) where
   abbrev question : Asked
-  question = asked s start size parent (length t) first second third
+  question = asked s start size parent (length t) w
 
-  pub read-refused :
-      (e : Refusal) (t′ : List ℕ) → ReadPromise s start size parent t (ReadRefused e) t′
-      → LocateMet s question (length t) (Refused e) t′
+  pub read-refused : {e : Refusal} → r ≡ ReadRefused e → LocateMet s question (length t) (Refused e) t₁
   unfolding asked tableOf
-  read-refused e t′ p =
-      let o = told-refused e (readOf s start size parent (length t)) (p .reply) in
-      let a : question ≡ refusing e =
-      ap (λ (x : Outcome). sought start x (λ rs. reached rs first second third)) o in
+  read-refused {e} q =
+      let o = told-refused e (readOf s start size parent (length t)) ((rw q at p) .reply) in
+      let a : question ≡ refusing e = ap (λ (x : Outcome). sought start x (λ rs. reached rs w)) o in
       record {
         reply = a;
         table = p .table ∙ ap (tableOf start (length t)) o ∙ sym (ap (tableAfter (length t)) a);
       }
 
-  module _ (n : ℕ) (t₁ : List ℕ) (p : ReadPromise s start size parent t (Rows n) t₁) where
+  module _ {n : ℕ} (q : r ≡ Rows n) where
     -- Among the rows of the table, the way leads to that spot.
-    came : (to : Spot) → to ≡ reached (rowsOf t₁ n) first second third → question ≡ settled (rowsOf t₁ n) to
+    pub came : (to : Spot) → reached (rowsOf t₁ n) w ≡ to → question ≡ settled (rowsOf t₁ n) to
     unfolding asked
     came to e =
-        let a = accepted-read s start size parent t n t₁ p in
-        ap (λ (x : Outcome). sought start x (λ rs. reached rs first second third)) (a .outcome)
-        ∙ ap (λ (rs : List Row). settled rs (reached rs first second third)) (sym (a .rows-are))
-        ∙ ap (settled (rowsOf t₁ n)) (sym e)
-
-    pub no-spot :
-        (e : Refusal) (t′ : List ℕ) → Absent ≡ reached (rowsOf t₁ n) first second third → e ≡ noRecord
-        → t′ ≡ zeros (length t₁) → LocateMet s question (length t) (Refused e) t′
-    no-spot e t′ w q z =
-        let a = accepted-read s start size parent t n t₁ p in
-        let d : question ≡ refusing e = came Absent w ∙ ap refusing (sym q) in
-        record { reply = d; table = z ∙ zeros-as (a .as-long) ∙ sym (ap (tableAfter (length t)) d) }
+        let a = accept p q in
+        ap (λ (x : Outcome). sought start x (λ rs. reached rs w)) (a .outcome)
+        ∙ ap (λ (rs : List Row). settled rs (reached rs w)) (sym (a .rows-are))
+        ∙ ap (settled (rowsOf t₁ n)) e
 
     -- The table is as the read left it.
     kept : t₁ ≡ flatten (rowsOf t₁ n) ++ zeros (length t - length (rowsOf t₁ n) * width)
     unfolding tableOf
     kept =
-        let a = accepted-read s start size parent t n t₁ p in
-        let m : count (a .forest) ≡ length (rowsOf t₁ n) = sym (length-rows-of t₁ n ∙ a .number) in
+        let a = accept p q in
+        let l : count (a .forest) ≡ length (rowsOf t₁ n) = sym (length-rows-of t₁ n ∙ a .number) in
         p .table ∙ ap (tableOf start (length t)) (a .outcome)
         ∙ ap (λ (x : List Row). flatten x ++ zeros (length t - count (a .forest) * width)) (sym (a .rows-are))
-        ∙ ap (λ (x : ℕ). flatten (rowsOf t₁ n) ++ zeros (length t - x * width)) m
+        ∙ ap (λ (x : ℕ). flatten (rowsOf t₁ n) ++ zeros (length t - x * width)) l
 
-    short : length s ≤ mostBytes
-    unfolding readOf
-    short =
-        let a = accepted-read s start size parent t n t₁ p in
-        let r = of-refuse _ _ _ (a .outcome) in
-        within s start (length t) (not-false _ (r .0)) .bytes
+    module _ {f : Found} (m : FindMet t₁ n w f) where
+      pub found-none : {e : Refusal} {t′ : List ℕ} → f ≡ Nowhere → e ≡ noRecord → t′ ≡ zeros (length t₁)
+          → LocateMet s question (length t) (Refused e) t′
+      found-none {e} a b z =
+          let d : question ≡ refusing e = came Absent ((rw a at m) .leads) ∙ ap refusing (sym b) in
+          record { reply = d; table = z ∙ zeros-as (accept p q .as-long) ∙ sym (ap (tableAfter (length t)) d) }
 
-    pub at-spot :
-        (to : ℕ) (b : Below) → SpotAt to ≡ reached (rowsOf t₁ n) first second third → BelowIs t₁ n to b
-        → LocateMet s question (length t) (At b n) t₁
-    at-spot to b w h =
-        let d : question ≡ found (rowsOf t₁ n) (b .parent)
-        = came (SpotAt to) w ∙ ap (found (rowsOf t₁ n)) (sym (h .master)) in
-        record {
-          reply = (
-            d,
-            record {
-              held = rows-held s start size parent t n t₁ p;
-              short = short;
-              sound = rows-sound s start size parent t n t₁ p;
-              jumps = all-jump s start size parent t n t₁ p;
-              below = subst (λ (x : ℕ). BelowIs t₁ n x b) (sym (h .master)) h;
-            },
-          );
-          table = kept ∙ sym (ap (tableAfter (length t)) d);
-        }
+      pub found-at : {b : Below} → f ≡ FoundAt b → LocateMet s question (length t) (At b n) t₁
+      found-at {b} a =
+          let d = came (SpotAt (b .parent)) ((rw a at m) .leads .0) in
+          record {
+            reply = (d, found-stands (read-filled p q) m a);
+            table = kept ∙ sym (ap (tableAfter (length t)) d);
+          }
+
+pub filled-after-read : FilledAfterRead
+filled-after-read s start size parent t n t′ p = read-filled p refl
 
 -- ---- a question that is not refused is a read
 
@@ -128,21 +129,21 @@ settled-found rs (SpotAt to) us master q = let z : rs ≡ us = cc in sym z
 
 pub record-is-read : RecordIsRead
 unfolding asked tableOf
-record-is-read s start size parent t first second third rs master q =
+record-is-read s start size parent t w rs master q =
     go (readOf s start size parent (length t)) refl q
   where
     go : (o : Outcome) → readOf s start size parent (length t) ≡ o
-        → sought start o (λ us. reached us first second third) ≡ found rs master
+        → sought start o (λ us. reached us w) ≡ found rs master
         → ReadPromise s start size parent t (Rows (length rs)) (tableAfter (length t) (found rs master))
-    go (refused e) w q = let z : _≡_ {A = ℕ} 0 1 = cc in absurd (omega arith)
-    go (done f) w q =
+    go (refused e) h q = let z : _≡_ {A = ℕ} 0 1 = cc in absurd (omega arith)
+    go (done f) h q =
         let us = rows 0 0 start 0 f in
-        let e : rs ≡ us = settled-found us (reached us first second third) rs master q in
+        let e : rs ≡ us = settled-found us (reached us w) rs master q in
         let n : length rs ≡ count f = ap length e ∙ length-rows 0 0 start 0 f in
         record {
-          reply = ap (λ (m : ℕ). accepted (m ∷ [])) n ∙ sym (ap replyOf w);
+          reply = ap (λ (m : ℕ). accepted (m ∷ [])) n ∙ sym (ap replyOf h);
           table =
               ap (λ (x : List Row). flatten x ++ zeros (length t - length rs * width)) e
               ∙ ap (λ (m : ℕ). flatten us ++ zeros (length t - m * width)) n
-              ∙ sym (ap (tableOf start (length t)) w);
+              ∙ sym (ap (tableOf start (length t)) h);
         }

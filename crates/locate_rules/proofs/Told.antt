@@ -29,7 +29,7 @@ module _ {s : List ℕ} {a : Asked} {numbers : ℕ} {r : Located} {t′ : List �
     stands-at = (rw q at p) .reply .1
 
     pub readable-at : Readable s t′ b
-    readable-at = readable s t′ n b stands-at
+    readable-at = readable stands-at
 
     pub told-found : {values : List Row → ℕ → List Value} {vs : List Value} → vs ≡ values (rowsOf t′ n) (b .parent)
         → RecordPromise values a numbers (fields vs n) t′

@@ -20,11 +20,13 @@ use Rattle.fields_rules.specs.declared.child.Child.{Child}
 use Rattle.fields_rules.specs.declared.child.Child.the-variants.{At as ChildAt, Absent as NoChild}
 use Rattle.fields_rules.proofs.Picked.{IsChild, last-is, nth-is}
 use Rattle.locate_rules.specs.Steps.{spotOf, stepped, entered, reached}
-use Rattle.locate_rules.specs.Contract.{Known, Numbered, Stands}
+use Rattle.locate_rules.specs.Contract.{Known, Numbered, Stands, FindMet}
 use Rattle.locate_rules.specs.declared.steps.Step.{Step}
 use Rattle.locate_rules.specs.declared.steps.Step.the-variants.{Here, Only, Nth, Last}
+use Rattle.locate_rules.specs.declared.steps.Way.{Way}
 use Rattle.locate_rules.specs.declared.steps.Spot.{Spot}
 use Rattle.locate_rules.specs.declared.steps.Spot.the-variants.{Absent, At}
+use Rattle.locate_rules.specs.declared.steps.Found.the-variants.{Absent as Nowhere, At as FoundAt}
 
 -- ---- the rows below a master are some of the rows
 
@@ -69,19 +71,19 @@ each-below P rs (suc n) a = each-deeper P (nth rs n .depth) (drop (suc n) rs) (e
 
 -- ---- the rows of a master that stands among those that were read
 
-module _ (s t : List ℕ) (rows : ℕ) (b : Below) (h : Stands s t rows b) where
+module _ {s t : List ℕ} {rows : ℕ} {b : Below} (h : Stands s t rows b) where
   pub readable : Readable s t b
   readable =
       record {
         within = record {
           some = h .below .some;
-          held = omega (arith, h .held, h .below .held);
+          held = omega (arith, h .filled .ordered .held, h .below .held);
           steps = h .below .steps;
         };
-        short = h .short;
+        short = h .filled .short;
         sound =
             subst (Each (Sound s)) (sym (h .below .are))
-            (each-below (Sound s) (rowsOf t rows) (b .parent) (h .sound));
+            (each-below (Sound s) (rowsOf t rows) (b .parent) (h .filled .sound));
       }
 
 -- ---- a child is one of the rows
@@ -90,7 +92,7 @@ module _ (rs : List Row) (parent id : ℕ) (kind : Kind) (l : parent ≤ length 
   child-known : (n : ℕ) (r : Row) → IsChild (subtree rs parent) parent parent id kind n r → suc n ≤ length rs
   child-known n r i = let f = subtree-fits rs parent l in omega (arith, i .before)
 
-  pub nth-known : (k n : ℕ) (r : Row) → ChildAt n r ≡ nthOf k (children parent id kind (subtree rs parent))
+  nth-known : (k n : ℕ) (r : Row) → ChildAt n r ≡ nthOf k (children parent id kind (subtree rs parent))
       → suc n ≤ length rs
   nth-known k n r e = child-known n r (nth-is parent id kind (subtree rs parent) k n r e)
 
@@ -118,111 +120,101 @@ module _ (rs : List Row) where
   stepped-known parent (Last id) l =
       spot-known (lastOf (children parent id Master (subtree rs parent))) (last-known rs parent id Master l)
 
-  pub entered-known : (from : Spot) (step : Step) → Known (length rs) from
-      → Known (length rs) (entered rs from step)
+  entered-known : (from : Spot) (step : Step) → Known (length rs) from → Known (length rs) (entered rs from step)
   entered-known Absent step l = tt
   entered-known (At parent) step l = stepped-known parent step l
 
-module _ (t : List ℕ) (rows : ℕ) where
-  -- As the code has it: the rows of a table, and the spot that it came to.
-  pub still-known : (from : Spot) (step : Step) (to : Spot) → Known rows from
-      → to ≡ entered (rowsOf t rows) from step
-      → Known rows to
-  still-known from step to l e =
-      let c = length-rows-of t rows in
-      subst (Known rows) (sym e)
-      (subst (λ (m : ℕ). Known m (entered (rowsOf t rows) from step)) c
-      (entered-known (rowsOf t rows) from step (subst (λ (m : ℕ). Known m from) (sym c) l)))
+  -- Where a way leads is one of the rows.
+  pub reached-known : (w : Way) → Known (length rs) (reached rs w)
+  unfolding reached
+  reached-known w =
+      let one = entered-known (At 0) (w .first) (omega arith) in
+      let two = entered-known (entered rs (At 0) (w .first)) (w .second) one in
+      entered-known (entered rs (entered rs (At 0) (w .first)) (w .second)) (w .third) two
 
-  module _ (parent : ℕ) (b : Below) (l : parent ≤ rows) (m : BelowIs t rows parent b) where
-    -- The children in the table are those below the master.
-    kids : (id : ℕ) (kind : Kind) → children (b .parent) id kind (rowsIn t b)
-        ≡ children parent id kind (subtree (rowsOf t rows) parent)
-    kids id kind =
-        ap (λ (x : ℕ). children x id kind (rowsIn t b)) (m .master) ∙ ap (children parent id kind) (m .are)
+-- ---- as the code has it: the rows of a table, and the spot that it came to
 
-    module _ (id : ℕ) where
-      pub nth-step :
-          (k : ℕ) (c : Child) (to : Spot) → c ≡ nthOf k (children (b .parent) id Master (rowsIn t b))
-          → to ≡ spotOf c
-          → to ≡ entered (rowsOf t rows) (At parent) (Nth id k)
-      nth-step k c to e q = q ∙ ap spotOf (e ∙ ap (nthOf k) (kids id Master))
+pub known-at : {rows : ℕ} {from : Spot} {parent : ℕ} → Known rows from → from ≡ At parent → parent ≤ rows
+known-at {rows} l e = subst (Known rows) e l
 
-      pub last-step :
-          (c : Child) (to : Spot) → c ≡ lastOf (children (b .parent) id Master (rowsIn t b)) → to ≡ spotOf c
-          → to ≡ entered (rowsOf t rows) (At parent) (Last id)
-      last-step c to e q = q ∙ ap spotOf (e ∙ ap lastOf (kids id Master))
+pub still-known : (t : List ℕ) (rows : ℕ) (from to : Spot) (step : Step) → Known rows from
+    → to ≡ entered (rowsOf t rows) from step → Known rows to
+still-known t rows from to step l e =
+    let c = length-rows-of t rows in
+    let k = entered-known (rowsOf t rows) from step (rw (← c) at l) in
+    subst (Known rows) (sym e) (subst (λ (m : ℕ). Known m (entered (rowsOf t rows) from step)) c k)
 
-      numbered : rows < 2 ^ 64 → (c : Child)
-          → ((n : ℕ) (r : Row) → ChildAt n r ≡ c → suc n ≤ length (rowsOf t rows))
-          → Numbered c
-      numbered u NoChild f = tt
-      numbered u (ChildAt n r) f = let c = length-rows-of t rows in let g = f n r refl in omega arith
+module _ {t : List ℕ} {rows parent : ℕ} {b : Below} (m : BelowIs t rows parent b) where
+  -- The children in the table are those below the master.
+  kids : (id : ℕ) (kind : Kind) → children (b .parent) id kind (rowsIn t b)
+      ≡ children parent id kind (subtree (rowsOf t rows) parent)
+  kids id kind =
+      ap (λ (x : ℕ). children x id kind (rowsIn t b)) (m .master) ∙ ap (children parent id kind) (m .are)
 
-      pub nth-numbered :
-          (k : ℕ) (c : Child) → rows < 2 ^ 64 → c ≡ nthOf k (children (b .parent) id Master (rowsIn t b))
-          → Numbered c
-      nth-numbered k c u e =
-          let w = length-rows-of t rows in
-          let v : parent ≤ length (rowsOf t rows) = omega arith in
-          numbered u c (λ n r q.
-          nth-known (rowsOf t rows) parent id Master v k n r (q ∙ e ∙ ap (nthOf k) (kids id Master)))
+  low : parent ≤ length (rowsOf t rows)
+  low = omega (arith, length-rows-of t rows, m .master, m .some, m .held)
 
-      pub last-numbered :
-          (c : Child) → rows < 2 ^ 64 → c ≡ lastOf (children (b .parent) id Master (rowsIn t b)) → Numbered c
-      last-numbered c u e =
-          let w = length-rows-of t rows in
-          let v : parent ≤ length (rowsOf t rows) = omega arith in
-          numbered u c (λ n r q.
-          last-known (rowsOf t rows) parent id Master v n r (q ∙ e ∙ ap lastOf (kids id Master)))
+  numbered : rows < 2 ^ 64 → (c : Child) → ((n : ℕ) (r : Row) → ChildAt n r ≡ c → suc n ≤ length (rowsOf t rows))
+      → Numbered c
+  numbered u NoChild f = tt
+  numbered u (ChildAt n r) f = omega (arith, length-rows-of t rows, f n r refl)
 
-pub spot-fits : (c : Child) (n : ℕ) (r : Row) → Numbered c → c ≡ ChildAt n r → n + 1 < 2 ^ 64
-spot-fits c n r l e = let g = subst Numbered e l in omega arith
+  module _ (id : ℕ) {c : Child} where
+    pub nth-numbered : (k : ℕ) → rows < 2 ^ 64 → c ≡ nthOf k (children (b .parent) id Master (rowsIn t b))
+        → Numbered c
+    nth-numbered k u e =
+        numbered u c (λ n r q. nth-known _ parent id Master low k n r (q ∙ e ∙ ap (nthOf k) (kids id Master)))
 
-pub spot-at : (c : Child) (n : ℕ) (r : Row) → c ≡ ChildAt n r → At (n + 1) ≡ spotOf c
-spot-at c n r e = let m : n + 1 ≡ suc n = omega arith in ap At m ∙ sym (ap spotOf e)
+    pub last-numbered : rows < 2 ^ 64 → c ≡ lastOf (children (b .parent) id Master (rowsIn t b)) → Numbered c
+    last-numbered u e =
+        numbered u c (λ n r q. last-known _ parent id Master low n r (q ∙ e ∙ ap lastOf (kids id Master)))
 
--- The step and the master as they were found.
-pub as-given : (rs : List Row) (from : Spot) (step : Step) (parent : ℕ) (taken : Step) (to : Spot)
-    → from ≡ At parent
-    → step ≡ taken → to ≡ entered rs (At parent) taken → to ≡ entered rs from step
-as-given rs from step parent taken to e f q =
-    q ∙ sym (ap (λ (x : Spot). entered rs x step) e ∙ ap (entered rs (At parent)) f)
+  -- A step to a child.
+  module _ {id : ℕ} {from to : Spot} {step : Step} (a : from ≡ At parent) {c : Child} (q : to ≡ spotOf c) where
+    pub nth-step : {k : ℕ} → step ≡ Nth id k → c ≡ nthOf k (children (b .parent) id Master (rowsIn t b))
+        → to ≡ entered (rowsOf t rows) from step
+    nth-step {k} f e = rw (a, f) (q ∙ ap spotOf (e ∙ ap (nthOf k) (kids id Master)))
 
-module _ (rs : List Row) (from : Spot) (step : Step) (parent k : ℕ) (e : from ≡ At parent) (f : step ≡ Only k) where
-  pub only-here : k ≡ 0 → At parent ≡ entered rs from step
-  only-here z = as-given rs from step parent (Only k) (At parent) e f (rw (eq-eqb k 0 z))
+    pub last-step : step ≡ Last id → c ≡ lastOf (children (b .parent) id Master (rowsIn t b))
+        → to ≡ entered (rowsOf t rows) from step
+    last-step f e = rw (a, f) (q ∙ ap spotOf (e ∙ ap lastOf (kids id Master)))
 
-  pub only-none : (k ≡ 0 → ⊥) → Absent ≡ entered rs from step
-  only-none z = as-given rs from step parent (Only k) Absent e f (rw (ne-eqb k 0 z))
+pub spot-fits : {c : Child} {n : ℕ} {r : Row} → Numbered c → c ≡ ChildAt n r → n + 1 < 2 ^ 64
+spot-fits l e = let g = subst Numbered e l in omega arith
 
-pub from-none : (rs : List Row) (from : Spot) (step : Step) → from ≡ Absent → Absent ≡ entered rs from step
-from-none rs from step e = sym (ap (λ (x : Spot). entered rs x step) e)
+pub spot-at : {c : Child} {n : ℕ} {r : Row} → c ≡ ChildAt n r → At (n + 1) ≡ spotOf c
+spot-at {c} {n} e = let m : n + 1 ≡ suc n = omega arith in rw (e, m)
 
-pub known-at : (rows : ℕ) (from : Spot) (parent : ℕ) → Known rows from → from ≡ At parent → parent ≤ rows
-known-at rows from parent l e = subst (Known rows) e l
+-- A step that stays.
+module _ (rs : List Row) (step : Step) {from : Spot} where
+  pub none-from : from ≡ Absent → Absent ≡ entered rs from step
+  none-from a = rw a
+
+  module _ {parent : ℕ} (a : from ≡ At parent) where
+    pub stays : step ≡ Here → At parent ≡ entered rs from step
+    stays f = rw (a, f)
+
+    pub only-here : {k : ℕ} → step ≡ Only k → k ≡ 0 → At parent ≡ entered rs from step
+    only-here {k} f z = rw (a, f, eq-eqb k 0 z)
+
+    pub only-none : {k : ℕ} → step ≡ Only k → (k ≡ 0 → ⊥) → Absent ≡ entered rs from step
+    only-none {k} f z = rw (a, f, ne-eqb k 0 z)
 
 -- The way is a step for each level.
-pub way : (rs : List Row) (first second third : Step) (one two to : Spot) → one ≡ entered rs (At 0) first
-    → two ≡ entered rs one second → to ≡ entered rs two third → to ≡ reached rs first second third
-unfolding reached
-way rs first second third one two to a b c =
-    c ∙ ap (λ (x : Spot). entered rs x third) (b ∙ ap (λ (x : Spot). entered rs x second) a)
+module _ (t : List ℕ) (rows : ℕ) (w : Way) {one two to : Spot} (a : one ≡ entered (rowsOf t rows) (At 0) (w .first))
+    (b : two ≡ entered (rowsOf t rows) one (w .second)) (c : to ≡ entered (rowsOf t rows) two (w .third)) where
+  gone : to ≡ reached (rowsOf t rows) w
+  unfolding reached
+  gone = rw (c, b, a) refl
 
-pub first-known : (t : List ℕ) (rows : ℕ) (first : Step) (one : Spot) → one ≡ entered (rowsOf t rows) (At 0) first
-    → Known rows one
-first-known t rows first one e = still-known t rows (At 0) first one (omega arith) e
+  pub leads-nowhere : to ≡ Absent → FindMet t rows w Nowhere
+  leads-nowhere e = record { leads = sym gone ∙ e }
 
-pub second-known : (t : List ℕ) (rows : ℕ) (first second : Step) (one two : Spot)
-    → one ≡ entered (rowsOf t rows) (At 0) first → two ≡ entered (rowsOf t rows) one second → Known rows two
-second-known t rows first second one two e f = still-known t rows one second two (first-known t rows first one e) f
-
--- Where it leads is one of the rows.
-pub reached-known : (t : List ℕ) (rows : ℕ) (first second third : Step) (to : ℕ)
-    → At to ≡ reached (rowsOf t rows) first second third → to ≤ rows
-unfolding reached
-reached-known t rows first second third to e =
-    let rs = rowsOf t rows in
-    let one = entered rs (At 0) first in
-    let two = entered rs one second in
-    still-known t rows two third (At to) (second-known t rows first second one two refl refl) e
+  pub leads-to : {parent : ℕ} {m : Below} → to ≡ At parent → BelowIs t rows parent m → FindMet t rows w (FoundAt m)
+  leads-to {parent} {m} e h =
+      record {
+        leads = (
+          sym gone ∙ e ∙ ap At (sym (h .master)),
+          subst (λ (x : ℕ). BelowIs t rows x m) (sym (h .master)) h,
+        );
+      }

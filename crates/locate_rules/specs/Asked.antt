@@ -12,7 +12,7 @@ use Rattle.elements_rules.specs.declared.row.Row.{Row}
 use Rattle.fields_rules.specs.declared.child.Child.{Child}
 use Rattle.fields_rules.specs.declared.child.Child.the-variants.{At as ChildAt, Absent as NoChild}
 use Rattle.locate_rules.specs.Steps.{reached}
-use Rattle.locate_rules.specs.declared.steps.Step.{Step}
+use Rattle.locate_rules.specs.declared.steps.Way.{Way}
 use Rattle.locate_rules.specs.declared.steps.Spot.{Spot}
 use Rattle.locate_rules.specs.declared.steps.Spot.the-variants.{Absent, At}
 
@@ -30,10 +30,9 @@ abbrev pub sought : ℕ → Outcome → (List Row → Spot) → Asked
 sought start (done f) way = settled (rows 0 0 start 0 f) (way (rows 0 0 start 0 f))
 sought start (refused e) way = refusing e
 
--- The payload is read under a parent id into a table of so many numbers; then a step is taken for each level.
-unfoldable pub asked : List ℕ → ℕ → ℕ → ℕ → ℕ → Step → Step → Step → Asked
-asked s start size parent numbers first second third =
-    sought start (readOf s start size parent numbers) (λ rs. reached rs first second third)
+-- The payload is read under a parent id into a table of so many numbers; then the way is gone.
+unfoldable pub asked : List ℕ → (start size parent numbers : ℕ) → Way → Asked
+asked s start size parent numbers w = sought start (readOf s start size parent numbers) (λ rs. reached rs w)
 
 -- And 15 where the master has no such child.
 abbrev pub hasMember : Asked → Child → Asked

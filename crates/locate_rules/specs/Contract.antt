@@ -1,18 +1,22 @@
--- What the builders of records ask of a table, and what `locate` gives.
-use Prim.Native.Nat.{ℕ, suc, _/_, _^_, _≤_, _<_}
+-- What the builders of records ask of a table, and what `find` and `locate` give.
+use Prim.Native.Nat.{ℕ, suc, _^_, _≤_, _<_}
 use mathlib.Core.Path.{_≡_}
 use mathlib.Core.List.{List}
 use lib.ListN.{length}
 use Rattle.header.specs.Promise.{mostBytes}
-use Rattle.elements_rules.specs.Rows.{width, rowsOf}
+use Rattle.elements_rules.specs.Rows.{rowsOf}
 use Rattle.elements_rules.specs.Theorems.{Each, Sound}
-use Rattle.fields_rules.specs.Contract.{BelowIs, AllJump}
+use Rattle.fields_rules.specs.Contract.{BelowIs, Ordered}
 use Rattle.fields_rules.specs.declared.child.Below.{Below}
 use Rattle.fields_rules.specs.declared.child.Child.{Child}
 use Rattle.fields_rules.specs.declared.child.Child.the-variants.{At as ChildAt, Absent as NoChild}
+use Rattle.locate_rules.specs.Steps.{reached}
 use Rattle.locate_rules.specs.Asked.{Asked, found, refusing, tableAfter}
+use Rattle.locate_rules.specs.declared.steps.Way.{Way}
 use Rattle.locate_rules.specs.declared.steps.Spot.{Spot}
 use Rattle.locate_rules.specs.declared.steps.Spot.the-variants.{Absent, At as SpotAt}
+use Rattle.locate_rules.specs.declared.steps.Found.{Found}
+use Rattle.locate_rules.specs.declared.steps.Found.the-variants.{Absent as Nowhere, At as FoundAt}
 use Rattle.locate_rules.specs.declared.steps.Located.{Located}
 use Rattle.locate_rules.specs.declared.steps.Located.the-variants.{At, Refused}
 
@@ -26,13 +30,28 @@ abbrev pub Numbered : Child → Type 0
 Numbered NoChild = Unit
 Numbered (ChildAt n r) = suc n < 2 ^ 64
 
--- The first `rows` rows of a table were read, and a master among them has those rows below it.
-pub record Stands (s t : List ℕ) (rows : ℕ) (b : Below) : Type 0 where
-  pub held : rows ≤ length t / width
+-- ---- a filled table
+
+-- The first `rows` rows of a table are those that were read of a recording.
+pub record Filled (s t : List ℕ) (rows : ℕ) : Type 0 where
+  pub ordered : Ordered t rows
   pub short : length s ≤ mostBytes
   pub sound : Each (Sound s) (rowsOf t rows)
-  pub jumps : AllJump t rows
+
+-- And a master among them has those rows below it.
+pub record Stands (s t : List ℕ) (rows : ℕ) (b : Below) : Type 0 where
+  pub filled : Filled s t rows
   pub below : BelowIs t rows (b .parent) b
+
+-- ---- what is answered
+
+-- Where a way leads among the rows of a table.
+abbrev pub Leads : List ℕ → ℕ → Way → Found → Type 0
+Leads t rows w Nowhere = reached (rowsOf t rows) w ≡ Absent
+Leads t rows w (FoundAt b) = (reached (rowsOf t rows) w ≡ SpotAt (b .parent)) × BelowIs t rows (b .parent) b
+
+pub record FindMet (t : List ℕ) (rows : ℕ) (w : Way) (r : Found) : Type 0 where
+  pub leads : Leads t rows w r
 
 -- What `locate` answers to a question.
 abbrev pub Answers : List ℕ → List ℕ → Asked → Located → Type 0

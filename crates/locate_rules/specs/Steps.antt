@@ -10,6 +10,7 @@ use Rattle.fields_rules.specs.declared.child.Child.{Child}
 use Rattle.fields_rules.specs.declared.child.Child.the-variants.{At as ChildAt, Absent as NoChild}
 use Rattle.locate_rules.specs.declared.steps.Step.{Step}
 use Rattle.locate_rules.specs.declared.steps.Step.the-variants.{Here, Only, Nth, Last}
+use Rattle.locate_rules.specs.declared.steps.Way.{Way}
 use Rattle.locate_rules.specs.declared.steps.Spot.{Spot}
 use Rattle.locate_rules.specs.declared.steps.Spot.the-variants.{Absent, At}
 
@@ -31,5 +32,8 @@ entered rs Absent step = Absent
 entered rs (At parent) step = stepped rs parent step
 
 -- From the payload that was read, a step for each level.
-unfoldable pub reached : List Row → Step → Step → Step → Spot
-reached rs first second third = entered rs (entered rs (entered rs (At 0) first) second) third
+abbrev pub way : (first second third : Step) → Way
+way first second third = record { first = first; second = second; third = third }
+
+unfoldable pub reached : List Row → Way → Spot
+reached rs w = entered rs (entered rs (entered rs (At 0) (w .first)) (w .second)) (w .third)

@@ -11,8 +11,9 @@ use Rattle.fields_rules.specs.Values.{Value, unset, number, flag, content, iso,
 use Rattle.fields_rules.specs.declared.child.Child.{Child}
 use Rattle.locate_rules.specs.Asked.{Asked, found, asked, listed, tableAfter}
 use Rattle.locate_rules.specs.Told.{Answer, fields}
+use Rattle.locate_rules.specs.Contract.{Filled}
 use Rattle.locate_rules.specs.Promise.{RecordPromise}
-use Rattle.locate_rules.specs.declared.steps.Step.{Step}
+use Rattle.locate_rules.specs.declared.steps.Way.{Way}
 
 -- Any two answers and tables that the promise permits to one question are equal (document 01, Strength of the
 -- promises). The numbers that stood in the lent table do not matter, only how many there are.
@@ -20,6 +21,12 @@ abbrev pub OneAnswer : Type 0
 OneAnswer =
     (values : List Row → ℕ → List Value) (ask : ℕ → Asked) (n m : ℕ) (x y : Answer) (t′ u′ : List ℕ) → n ≡ m
     → RecordPromise values (ask n) n x t′ → RecordPromise values (ask m) m y u′ → (x ≡ y) × (t′ ≡ u′)
+
+-- The same of the replies of a question: by the table at entry, the reply and the table at exit.
+abbrev pub OneReply : {R : Type 0} → (List ℕ → R → List ℕ → Type 0) → Type 0
+OneReply {R} Permits =
+    (t u : List ℕ) (r r′ : R) (t′ u′ : List ℕ) → length t ≡ length u → Permits t r t′ → Permits u r′ u′
+    → (r ≡ r′) × (t′ ≡ u′)
 
 -- ---- each thing that is named has its address
 
@@ -55,28 +62,33 @@ Addressed values ask =
 
 -- ---- the table is the read's
 
+-- After an accepted read a table is filled, so that `find` and the builders of records may be asked.
+abbrev pub FilledAfterRead : Type 0
+FilledAfterRead =
+    (s : List ℕ) (start size parent : ℕ) (t : List ℕ) (n : ℕ) (t′ : List ℕ)
+    → ReadPromise s start size parent t (Rows n) t′ → Filled s t′ n
+
 -- A question that is not refused leaves the table that the public read leaves, and counts its rows: all that is proved
 -- of an accepted read holds of it.
 abbrev pub RecordIsRead : Type 0
 RecordIsRead =
-    (s : List ℕ) (start size parent : ℕ) (t : List ℕ) (first second third : Step) (rs : List Row) (master : ℕ)
-    → asked s start size parent (length t) first second third ≡ found rs master
+    (s : List ℕ) (start size parent : ℕ) (t : List ℕ) (w : Way) (rs : List Row) (master : ℕ)
+    → asked s start size parent (length t) w ≡ found rs master
     → ReadPromise s start size parent t (Rows (length rs)) (tableAfter (length t) (found rs master))
 
 -- The same of the promise itself: a record that is told leaves the table that the public read leaves, and counts its
 -- rows.
 abbrev pub AnswerIsRead : Type 0
 AnswerIsRead =
-    (values : List Row → ℕ → List Value) (s : List ℕ) (start size parent : ℕ) (t : List ℕ) (first second third : Step)
+    (values : List Row → ℕ → List Value) (s : List ℕ) (start size parent : ℕ) (t : List ℕ) (w : Way)
     (vs : List Value) (n : ℕ) (t′ : List ℕ)
-    → RecordPromise values (asked s start size parent (length t) first second third) (length t) (fields vs n) t′
+    → RecordPromise values (asked s start size parent (length t) w) (length t) (fields vs n) t′
     → ReadPromise s start size parent t (Rows n) t′
 
 -- And of the question for a list member.
 abbrev pub MemberIsRead : Type 0
 MemberIsRead =
     (values : List Row → ℕ → List Value) (member : List Row → ℕ → Child) (s : List ℕ) (start size parent : ℕ)
-    (t : List ℕ) (first second third : Step) (vs : List Value) (n : ℕ) (t′ : List ℕ)
-    → RecordPromise values (listed (asked s start size parent (length t) first second third) member) (length t)
-    (fields vs n) t′
+    (t : List ℕ) (w : Way) (vs : List Value) (n : ℕ) (t′ : List ℕ)
+    → RecordPromise values (listed (asked s start size parent (length t) w) member) (length t) (fields vs n) t′
     → ReadPromise s start size parent t (Rows n) t′

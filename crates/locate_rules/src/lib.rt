@@ -2,6 +2,8 @@
 // of refusals, and one promise for all.
 mod steps;
 
+pub use steps::Found;
 pub use steps::Located;
 pub use steps::Spot;
 pub use steps::Step;
+pub use steps::Way;
