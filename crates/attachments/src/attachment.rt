@@ -13,6 +13,7 @@ use kinds::ids;
 use locate::locate;
 use locate_rules::Located;
 use locate_rules::Step;
+use locate_rules::Way;
 use refusals::Refusal;
 
 pub struct Attachment {
@@ -28,7 +29,7 @@ pub enum AttachmentReply {
     Refused(Refusal),
 }
 
-fn attachment_in(recording: &[u8], table: &[u64], master: Below) -> Attachment
+pub fn attachment_in(recording: &[u8], table: &[u64], master: Below) -> Attachment
     requires { ⌜ Readable (now recording) (now table) master ⌝ }
     ensures { λ r. ⌜ attachmentValues r ≡ attachmentOf (now (recording .entry))
         (master .parent) (rowsIn (now (table .entry)) master) ⌝ }
@@ -56,16 +57,12 @@ pub fn attachment_at(
         id: ids::ATTACHEDFILE,
         k,
     };
-    match locate(
-        recording,
-        start,
-        size,
-        ids::ATTACHEDFILE,
-        file,
-        Step::Here,
-        Step::Here,
-        table,
-    ) {
+    let way = Way {
+        first: file,
+        second: Step::Here,
+        third: Step::Here,
+    };
+    match locate(recording, start, size, ids::ATTACHEDFILE, way, table) {
         Located::Refused(refusal) => AttachmentReply::Refused(refusal),
         Located::At { master, rows } => AttachmentReply::Attachment {
             attachment: attachment_in(recording, table, master),

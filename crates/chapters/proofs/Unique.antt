@@ -1,16 +1,7 @@
 -- Any two replies and tables that a promise permits to one question are equal. Assumes nothing.
-use Prim.Native.Nat.{ℕ}
-use mathlib.Core.Path.{_≡_, ap, _∙_}
-use native.Mathlib.Omega.{arith}
-use Rattle.fields_rules.specs.declared.field.Number.{Number}
-use Rattle.fields_rules.specs.declared.field.Flag.{Flag}
-use Rattle.fields_rules.specs.declared.field.Content.{Content}
-use Rattle.fields_rules.specs.declared.field.Language.{Language}
-use Rattle.fields_rules.proofs.Once.{number-once, flag-once, content-once, language-once}
-use Rattle.locate_rules.specs.Promise.{ofBelow}
-use Rattle.locate_rules.proofs.Lists.{first, rest, count-once}
-use Rattle.locate_rules.proofs.Unique.{same-refused, one-answer}
-use Rattle.chapters.specs.Records.{editionOf, chapterOf, displayOf}
+use mathlib.Core.Path.{_≡_}
+use Rattle.fields_rules.proofs.Once.{number-once, flag-once, content-once, language-once, count-once}
+use Rattle.locate_rules.proofs.Unique.{same-refused, one-reply}
 use Rattle.chapters.specs.Told.{editionValues, chapterValues, displayValues}
 use Rattle.chapters.specs.Told.{editionTold, chapterTold, displayTold}
 use Rattle.chapters.specs.Promise.{editionAsked, chapterAsked, displayAsked}
@@ -28,110 +19,62 @@ use Rattle.chapters.specs.declared.display.DisplayReply.the-variants.{Di
 -- ---- the fields tell the record
 
 edition-once : (a b : ChapterEdition) → editionValues a ≡ editionValues b → a ≡ b
-edition-once a b q =
-    same
-    (number-once (a .uid) (b .uid) (first q))
-    (flag-once (a .hidden) (b .hidden) (first (rest q)))
-    (flag-once (a .default) (b .default) (first (rest (rest q))))
-    (flag-once (a .ordered) (b .ordered) (first (rest (rest (rest q)))))
-    (count-once (a .chapters) (b .chapters) (first (rest (rest (rest (rest q))))))
-  where
-    same : {x0 y0 : Number} {x1 y1 : Flag} {x2 y2 : Flag} {x3 y3 : Flag} {x4 y4 : ℕ}
-        → x0 ≡ y0 → x1 ≡ y1 → x2 ≡ y2 → x3 ≡ y3 → x4 ≡ y4
-        → _≡_ {A = ChapterEdition} (record { uid = x0; hidden = x1; default = x2; ordered = x3; chapters = x4 })
-        (record { uid = y0; hidden = y1; default = y2; ordered = y3; chapters = y4 })
-    same {x0} {y0} {x1} {y1} {x2} {y2} {x3} {y3} {x4} {y4} e0 e1 e2 e3 e4 = rw (e0, e1, e2, e3, e4)
+edition-once a b q i =
+    record {
+      uid = number-once (a .uid) (b .uid) (cc) i;
+      hidden = flag-once (a .hidden) (b .hidden) (cc) i;
+      default = flag-once (a .default) (b .default) (cc) i;
+      ordered = flag-once (a .ordered) (b .ordered) (cc) i;
+      chapters = count-once (a .chapters) (b .chapters) (cc) i;
+    }
 
 chapter-once : (a b : Chapter) → chapterValues a ≡ chapterValues b → a ≡ b
-chapter-once a b q =
-    same
-    (number-once (a .uid) (b .uid) (first q))
-    (number-once (a .«time_start») (b .«time_start») (first (rest q)))
-    (number-once (a .«time_end») (b .«time_end») (first (rest (rest q))))
-    (flag-once (a .hidden) (b .hidden) (first (rest (rest (rest q)))))
-    (flag-once (a .enabled) (b .enabled) (first (rest (rest (rest (rest q))))))
-    (content-once (a .«segment_uid») (b .«segment_uid») (first (rest (rest (rest (rest (rest q)))))))
-    (number-once (a .«segment_edition_uid») (b .«segment_edition_uid»)
-    (first (rest (rest (rest (rest (rest (rest q))))))))
-    (count-once (a .displays) (b .displays) (first (rest (rest (rest (rest (rest (rest (rest q)))))))))
-  where
-    same : {x0 y0 : Number} {x1 y1 : Number} {x2 y2 : Number} {x3 y3 : Flag} {x4 y4 : Flag} {x5 y5 : Content}
-        {x6 y6 : Number} {x7 y7 : ℕ}
-        → x0 ≡ y0 → x1 ≡ y1 → x2 ≡ y2 → x3 ≡ y3 → x4 ≡ y4 → x5 ≡ y5 → x6 ≡ y6 → x7 ≡ y7
-        → _≡_ {A = Chapter}
-        (record {
-          uid = x0;
-          «time_start» = x1;
-          «time_end» = x2;
-          hidden = x3;
-          enabled = x4;
-          «segment_uid» =
-              x5;
-          «segment_edition_uid» = x6;
-          displays = x7;
-        })
-        (record {
-          uid = y0;
-          «time_start» = y1;
-          «time_end» = y2;
-          hidden = y3;
-          enabled = y4;
-          «segment_uid» =
-              y5;
-          «segment_edition_uid» = y6;
-          displays = y7;
-        })
-    same {x0} {y0} {x1} {y1} {x2} {y2} {x3} {y3} {x4} {y4} {x5} {y5} {x6} {y6} {x7} {y7} e0 e1 e2 e3 e4 e5 e6 e7 =
-        rw (e0, e1, e2, e3, e4, e5, e6, e7)
+chapter-once a b q i =
+    record {
+      uid = number-once (a .uid) (b .uid) (cc) i;
+      «time_start» = number-once (a .«time_start») (b .«time_start») (cc) i;
+      «time_end» = number-once (a .«time_end») (b .«time_end») (cc) i;
+      hidden = flag-once (a .hidden) (b .hidden) (cc) i;
+      enabled = flag-once (a .enabled) (b .enabled) (cc) i;
+      «segment_uid» = content-once (a .«segment_uid») (b .«segment_uid») (cc) i;
+      «segment_edition_uid» = number-once (a .«segment_edition_uid») (b .«segment_edition_uid») (cc) i;
+      displays = count-once (a .displays) (b .displays) (cc) i;
+    }
 
 display-once : (a b : ChapterDisplay) → displayValues a ≡ displayValues b → a ≡ b
-display-once a b q =
-    same
-    (content-once (a .string) (b .string) (first q))
-    (language-once (a .language) (b .language) (first (rest q)))
-  where
-    same : {x0 y0 : Content} {x1 y1 : Language}
-        → x0 ≡ y0 → x1 ≡ y1
-        → _≡_ {A = ChapterDisplay} (record { string = x0; language = x1 })
-        (record { string = y0; language = y1 })
-    same {x0} {y0} {x1} {y1} e0 e1 = rw (e0, e1)
+display-once a b q i =
+    record {
+      string = content-once (a .string) (b .string) (cc) i;
+      language = language-once (a .language) (b .language) (cc) i;
+    }
 
 -- ---- document 01's values tell the reply
 
 edition-told : (r r′ : EditionReply) → editionTold r ≡ editionTold r′ → r ≡ r′
-edition-told (IsEdition a n) (IsEdition b m) q =
-    ap (λ (x : ChapterEdition). IsEdition x n) (edition-once a b (cc)) ∙ ap (IsEdition b) (cc)
-edition-told (IsEdition a n) (NoEdition e) q = let z : _≡_ {A = ℕ} 0 1 = cc in absurd (omega arith)
-edition-told (NoEdition e) (IsEdition b m) q = let z : _≡_ {A = ℕ} 0 1 = cc in absurd (omega arith)
-edition-told (NoEdition e) (NoEdition f) q = ap NoEdition (same-refused e f q)
+edition-told (IsEdition a n) (IsEdition b m) q = cc (edition-once a b (cc))
+edition-told (IsEdition a n) (NoEdition e) q = cc
+edition-told (NoEdition e) (IsEdition b m) q = cc
+edition-told (NoEdition e) (NoEdition f) q = cc (same-refused e f q)
 
 chapter-told : (r r′ : ChapterReply) → chapterTold r ≡ chapterTold r′ → r ≡ r′
-chapter-told (IsChapter a n) (IsChapter b m) q =
-    ap (λ (x : Chapter). IsChapter x n) (chapter-once a b (cc)) ∙ ap (IsChapter b) (cc)
-chapter-told (IsChapter a n) (NoChapter e) q = let z : _≡_ {A = ℕ} 0 1 = cc in absurd (omega arith)
-chapter-told (NoChapter e) (IsChapter b m) q = let z : _≡_ {A = ℕ} 0 1 = cc in absurd (omega arith)
-chapter-told (NoChapter e) (NoChapter f) q = ap NoChapter (same-refused e f q)
+chapter-told (IsChapter a n) (IsChapter b m) q = cc (chapter-once a b (cc))
+chapter-told (IsChapter a n) (NoChapter e) q = cc
+chapter-told (NoChapter e) (IsChapter b m) q = cc
+chapter-told (NoChapter e) (NoChapter f) q = cc (same-refused e f q)
 
 display-told : (r r′ : DisplayReply) → displayTold r ≡ displayTold r′ → r ≡ r′
-display-told (IsDisplay a n) (IsDisplay b m) q =
-    ap (λ (x : ChapterDisplay). IsDisplay x n) (display-once a b (cc)) ∙ ap (IsDisplay b) (cc)
-display-told (IsDisplay a n) (NoDisplay e) q = let z : _≡_ {A = ℕ} 0 1 = cc in absurd (omega arith)
-display-told (NoDisplay e) (IsDisplay b m) q = let z : _≡_ {A = ℕ} 0 1 = cc in absurd (omega arith)
-display-told (NoDisplay e) (NoDisplay f) q = ap NoDisplay (same-refused e f q)
+display-told (IsDisplay a n) (IsDisplay b m) q = cc (display-once a b (cc))
+display-told (IsDisplay a n) (NoDisplay e) q = cc
+display-told (NoDisplay e) (IsDisplay b m) q = cc
+display-told (NoDisplay e) (NoDisplay f) q = cc (same-refused e f q)
 
 -- ---- the theorems
 
 pub edition-unique : OneEdition
-edition-unique s start size k t u r r′ t′ u′ l p q =
-    let (a, b) = one-answer (ofBelow (editionOf s)) (editionAsked s start size k) _ _ _ _ _ _ l p q in
-    (edition-told r r′ a, b)
+edition-unique s start size k = one-reply _ (editionAsked s start size k) editionTold edition-told
 
 pub chapter-unique : OneChapter
-chapter-unique s start size k i t u r r′ t′ u′ l p q =
-    let (a, b) = one-answer (ofBelow (chapterOf s)) (chapterAsked s start size k i) _ _ _ _ _ _ l p q in
-    (chapter-told r r′ a, b)
+chapter-unique s start size k i = one-reply _ (chapterAsked s start size k i) chapterTold chapter-told
 
 pub display-unique : OneDisplay
-display-unique s start size k i j t u r r′ t′ u′ l p q =
-    let (a, b) = one-answer (ofBelow (displayOf s)) (displayAsked s start size k i j) _ _ _ _ _ _ l p q in
-    (display-told r r′ a, b)
+display-unique s start size k i j = one-reply _ (displayAsked s start size k i j) displayTold display-told

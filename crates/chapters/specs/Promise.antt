@@ -2,6 +2,7 @@
 use Prim.Native.Nat.{ℕ}
 use mathlib.Core.List.{List}
 use lib.ListN.{length}
+use Rattle.locate_rules.specs.Steps.{way}
 use Rattle.locate_rules.specs.Asked.{Asked, asked}
 use Rattle.locate_rules.specs.Promise.{RecordPromise, ofBelow}
 use Rattle.locate_rules.specs.declared.steps.Step.the-variants.{Here, Nth}
@@ -17,13 +18,13 @@ use Rattle.chapters.specs.declared.display.DisplayReply.{DisplayReply}
 -- masters holds for its direct children; then a step for each level.
 module _ (s : List ℕ) (start size k : ℕ) where
   abbrev pub editionAsked : ℕ → Asked
-  editionAsked numbers = asked s start size 0x45B9 numbers (Nth 0x45B9 k) Here Here
+  editionAsked numbers = asked s start size 0x45B9 numbers (way (Nth 0x45B9 k) Here Here)
 
   abbrev pub chapterAsked : ℕ → ℕ → Asked
-  chapterAsked i numbers = asked s start size 0x45B9 numbers (Nth 0x45B9 k) (Nth 0xB6 i) Here
+  chapterAsked i numbers = asked s start size 0x45B9 numbers (way (Nth 0x45B9 k) (Nth 0xB6 i) Here)
 
   abbrev pub displayAsked : ℕ → ℕ → ℕ → Asked
-  displayAsked i j numbers = asked s start size 0x45B9 numbers (Nth 0x45B9 k) (Nth 0xB6 i) (Nth 0x80 j)
+  displayAsked i j numbers = asked s start size 0x45B9 numbers (way (Nth 0x45B9 k) (Nth 0xB6 i) (Nth 0x80 j))
 
 -- ---- the promises
 

@@ -1,33 +1,35 @@
 -- What is proved of the definitions beside the contracts: the statements of the theorems.
-use Prim.Native.Nat.{ℕ}
+use Prim.Native.Nat.{ℕ, _<_}
 use mathlib.Core.Path.{_≡_}
 use mathlib.Core.List.{List}
+use mathlib.Core.Logic.{_↔_}
 use lib.ListN.{length}
+use Rattle.bodies_rules.specs.declared.body.Range.{Range}
+use Rattle.elements_rules.specs.declared.row.Row.{Row}
+use Rattle.fields_rules.specs.declared.field.Content.{Content}
+use Rattle.fields_rules.specs.declared.field.Content.the-variants.{Unset, At as SetAt}
+use Rattle.locate_rules.specs.Asked.{found}
 use Rattle.locate_rules.specs.Promise.{ofBelow}
-use Rattle.locate_rules.specs.Theorems.{Addressed}
+use Rattle.locate_rules.specs.Theorems.{OneReply, Addressed}
 use Rattle.chapters.specs.Records.{editionOf, chapterOf, displayOf}
+use Rattle.chapters.specs.First.{firstString}
 use Rattle.chapters.specs.Promise.{editionAsked, chapterAsked, displayAsked}
 use Rattle.chapters.specs.Promise.{EditionPromise, ChapterPromise, DisplayPromise}
-use Rattle.chapters.specs.declared.edition.EditionReply.{EditionReply}
-use Rattle.chapters.specs.declared.chapter.ChapterReply.{ChapterReply}
 use Rattle.chapters.specs.declared.display.DisplayReply.{DisplayReply}
+use Rattle.chapters.specs.declared.display.DisplayReply.the-variants.{Display, Refused}
+use Rattle.chapters.specs.declared.first.FirstString.{FirstString}
+use Rattle.chapters.specs.declared.first.FirstString.the-variants.{Absent, At}
 
 -- Any two replies and tables that a promise permits to one question are equal (document 01, Strength of the promises).
 -- The numbers that stood in the lent table do not matter, only how many there are.
 abbrev pub OneEdition : Type 0
-OneEdition =
-    (s : List ℕ) (start size k : ℕ) (t u : List ℕ) (r r′ : EditionReply) (t′ u′ : List ℕ) → length t ≡ length u
-    → EditionPromise s start size k t r t′ → EditionPromise s start size k u r′ u′ → (r ≡ r′) × (t′ ≡ u′)
+OneEdition = (s : List ℕ) (start size k : ℕ) → OneReply (EditionPromise s start size k)
 
 abbrev pub OneChapter : Type 0
-OneChapter =
-    (s : List ℕ) (start size k i : ℕ) (t u : List ℕ) (r r′ : ChapterReply) (t′ u′ : List ℕ) → length t ≡ length u
-    → ChapterPromise s start size k i t r t′ → ChapterPromise s start size k i u r′ u′ → (r ≡ r′) × (t′ ≡ u′)
+OneChapter = (s : List ℕ) (start size k i : ℕ) → OneReply (ChapterPromise s start size k i)
 
 abbrev pub OneDisplay : Type 0
-OneDisplay =
-    (s : List ℕ) (start size k i j : ℕ) (t u : List ℕ) (r r′ : DisplayReply) (t′ u′ : List ℕ) → length t ≡ length u
-    → DisplayPromise s start size k i j t r t′ → DisplayPromise s start size k i j u r′ u′ → (r ≡ r′) × (t′ ≡ u′)
+OneDisplay = (s : List ℕ) (start size k i j : ℕ) → OneReply (DisplayPromise s start size k i j)
 
 -- Every address in a record that is told is the payload's place of one of the rows that the table holds at exit.
 pub record ChaptersAddressed : Type 0 where
@@ -35,3 +37,26 @@ pub record ChaptersAddressed : Type 0 where
   pub chapter : (s : List ℕ) (start size k i : ℕ) → Addressed (ofBelow (chapterOf s)) (chapterAsked s start size k i)
   pub display :
       (s : List ℕ) (start size k i j : ℕ) → Addressed (ofBelow (displayOf s)) (displayAsked s start size k i j)
+
+-- ---- a chapter's first display with a set string
+
+-- The string that a reply of `display_at` tells; a refusal tells none.
+abbrev pub stringTold : DisplayReply → Content
+stringTold (Display d rows) = d .string
+stringTold (Refused e) = Unset
+
+-- Display j is the first with a set string exactly if its string is set and those before it are unset; and there is
+-- none exactly if each is unset.
+pub record First (strings : ℕ → Content) (first : FirstString) : Type 0 where
+  pub at :
+      (j : ℕ) (g : Range)
+      → (first ≡ At j g) ↔ ((strings j ≡ SetAt g) × ((m : ℕ) → m < j → strings m ≡ Unset))
+  pub none : (first ≡ Absent) ↔ ((j : ℕ) → strings j ≡ Unset)
+
+-- So it is of the replies of `display_at` to the questions for the displays of one chapter.
+abbrev pub FirstOfDisplays : Type 0
+FirstOfDisplays =
+    (s : List ℕ) (start size k i : ℕ) (t : List ℕ) (replies : ℕ → DisplayReply) (tables : ℕ → List ℕ)
+    → ((j : ℕ) → DisplayPromise s start size k i j t (replies j) (tables j))
+    → (rs : List Row) (chapter : ℕ) → chapterAsked s start size k i (length t) ≡ found rs chapter
+    → First (λ (j : ℕ). stringTold (replies j)) (firstString s rs chapter)

@@ -18,6 +18,7 @@ use kinds::ids;
 use locate::locate;
 use locate_rules::Located;
 use locate_rules::Step;
+use locate_rules::Way;
 use refusals::Refusal;
 
 pub struct Chapter {
@@ -38,7 +39,7 @@ pub enum ChapterReply {
     Refused(Refusal),
 }
 
-fn chapter_in(recording: &[u8], table: &[u64], master: Below) -> Chapter
+pub fn chapter_in(recording: &[u8], table: &[u64], master: Below) -> Chapter
     requires { ⌜ Readable (now recording) (now table) master ⌝ }
     ensures { λ r. ⌜ chapterValues r ≡ chapterOf (now (recording .entry))
         (master .parent) (rowsIn (now (table .entry)) master) ⌝ }
@@ -81,16 +82,12 @@ pub fn chapter_at(
         id: ids::CHAPTERATOM,
         k: i,
     };
-    match locate(
-        recording,
-        start,
-        size,
-        ids::EDITIONENTRY,
-        edition,
-        atom,
-        Step::Here,
-        table,
-    ) {
+    let way = Way {
+        first: edition,
+        second: atom,
+        third: Step::Here,
+    };
+    match locate(recording, start, size, ids::EDITIONENTRY, way, table) {
         Located::Refused(refusal) => ChapterReply::Refused(refusal),
         Located::At { master, rows } => ChapterReply::Chapter {
             chapter: chapter_in(recording, table, master),

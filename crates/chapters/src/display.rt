@@ -15,6 +15,7 @@ use kinds::ids;
 use locate::locate;
 use locate_rules::Located;
 use locate_rules::Step;
+use locate_rules::Way;
 use refusals::Refusal;
 
 pub struct ChapterDisplay {
@@ -28,7 +29,7 @@ pub enum DisplayReply {
     Refused(Refusal),
 }
 
-fn display_in(recording: &[u8], table: &[u64], master: Below) -> ChapterDisplay
+pub fn display_in(recording: &[u8], table: &[u64], master: Below) -> ChapterDisplay
     requires { ⌜ Readable (now recording) (now table) master ⌝ }
     ensures { λ r. ⌜ displayValues r ≡ displayOf (now (recording .entry))
         (master .parent) (rowsIn (now (table .entry)) master) ⌝ }
@@ -70,16 +71,12 @@ pub fn display_at(
         id: ids::CHAPTERDISPLAY,
         k: j,
     };
-    match locate(
-        recording,
-        start,
-        size,
-        ids::EDITIONENTRY,
-        edition,
-        atom,
-        shown,
-        table,
-    ) {
+    let way = Way {
+        first: edition,
+        second: atom,
+        third: shown,
+    };
+    match locate(recording, start, size, ids::EDITIONENTRY, way, table) {
         Located::Refused(refusal) => DisplayReply::Refused(refusal),
         Located::At { master, rows } => DisplayReply::Display {
             display: display_in(recording, table, master),

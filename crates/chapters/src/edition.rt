@@ -16,6 +16,7 @@ use kinds::ids;
 use locate::locate;
 use locate_rules::Located;
 use locate_rules::Step;
+use locate_rules::Way;
 use refusals::Refusal;
 
 pub struct ChapterEdition {
@@ -33,7 +34,7 @@ pub enum EditionReply {
     Refused(Refusal),
 }
 
-fn edition_in(recording: &[u8], table: &[u64], master: Below) -> ChapterEdition
+pub fn edition_in(recording: &[u8], table: &[u64], master: Below) -> ChapterEdition
     requires { ⌜ Readable (now recording) (now table) master ⌝ }
     ensures { λ r. ⌜ editionValues r ≡ editionOf (now (recording .entry))
         (master .parent) (rowsIn (now (table .entry)) master) ⌝ }
@@ -61,16 +62,12 @@ pub fn edition_at(
         id: ids::EDITIONENTRY,
         k,
     };
-    match locate(
-        recording,
-        start,
-        size,
-        ids::EDITIONENTRY,
-        edition,
-        Step::Here,
-        Step::Here,
-        table,
-    ) {
+    let way = Way {
+        first: edition,
+        second: Step::Here,
+        third: Step::Here,
+    };
+    match locate(recording, start, size, ids::EDITIONENTRY, way, table) {
         Located::Refused(refusal) => EditionReply::Refused(refusal),
         Located::At { master, rows } => EditionReply::Edition {
             edition: edition_in(recording, table, master),

@@ -26,10 +26,12 @@ use Rattle.elements_rules.proofs.Whole.{zeros-as}
 use Rattle.fields_rules.proofs.Enough.{all-jump}
 use Rattle.fields_rules.specs.Contract.{Ordered}
 use Rattle.fields_rules.specs.declared.child.Below.{Below}
-use Rattle.locate_rules.specs.Steps.{reached}
+use Rattle.locate_rules.specs.Steps.{stepped, entered, way, reached}
 use Rattle.locate_rules.specs.Asked.{Asked, found, refusing, settled, sought, asked, tableAfter}
 use Rattle.locate_rules.specs.Contract.{Filled, Stands, FindMet, LocateMet}
 use Rattle.locate_rules.specs.Theorems.{FilledAfterRead, RecordIsRead}
+use Rattle.locate_rules.specs.declared.steps.Step.{Step}
+use Rattle.locate_rules.specs.declared.steps.Step.the-variants.{Here}
 use Rattle.locate_rules.specs.declared.steps.Way.{Way}
 use Rattle.locate_rules.specs.declared.steps.Spot.{Spot}
 use Rattle.locate_rules.specs.declared.steps.Spot.the-variants.{Absent, At as SpotAt}
@@ -120,6 +122,30 @@ module _ {s : List ℕ} {start size parent : ℕ} {t t₁ : List ℕ} {r : ReadR
 
 pub filled-after-read : FilledAfterRead
 filled-after-read s start size parent t n t′ p = read-filled p refl
+
+-- ---- one level further: from a master that was found, the third step leads on
+
+module _ (first second third : Step) where
+  further-from : (us : List Row) (at : Spot) (rs : List Row) (master : ℕ) → settled us (entered us at Here) ≡ found rs master
+      → settled us (entered us at third) ≡ settled rs (stepped rs master third)
+  further-from us Absent rs master q = cc
+  further-from us (SpotAt p) rs master q =
+      let e : us ≡ rs = cc in
+      let m : p ≡ master = cc in
+      ap (λ (x : List Row). settled x (stepped x p third)) e ∙ ap (λ (x : ℕ). settled rs (stepped rs x third)) m
+
+  pub further : (s : List ℕ) (start size parent numbers : ℕ) (rs : List Row) (master : ℕ)
+      → asked s start size parent numbers (way first second Here) ≡ found rs master
+      → asked s start size parent numbers (way first second third) ≡ settled rs (stepped rs master third)
+  unfolding asked reached
+  further s start size parent numbers rs master q = go (readOf s start size parent numbers) q
+    where
+      go : (o : Outcome) → sought start o (λ us. reached us (way first second Here)) ≡ found rs master
+          → sought start o (λ us. reached us (way first second third)) ≡ settled rs (stepped rs master third)
+      go (refused e) q = cc
+      go (done f) q =
+          let us = rows 0 0 start 0 f in
+          further-from us (entered us (entered us (SpotAt 0) first) second) rs master q
 
 -- ---- a question that is not refused is a read
 

@@ -14,7 +14,7 @@ use Rattle.elements_rules.specs.Theorems.{Each, Sound}
 use Rattle.elements_rules.specs.declared.row.Row.{Row}
 use Rattle.elements_rules.proofs.Numbered.{length-rows-of}
 use Rattle.fields_rules.specs.Children.{deeper, subtree, children, lastOf, nthOf, rowsIn}
-use Rattle.fields_rules.specs.Contract.{BelowIs, Readable}
+use Rattle.fields_rules.specs.Contract.{BelowIs, Within, Readable}
 use Rattle.fields_rules.specs.declared.child.Below.{Below}
 use Rattle.fields_rules.specs.declared.child.Child.{Child}
 use Rattle.fields_rules.specs.declared.child.Child.the-variants.{At as ChildAt, Absent as NoChild}
@@ -85,6 +85,9 @@ module _ {s t : List ℕ} {rows : ℕ} {b : Below} (h : Stands s t rows b) where
             subst (Each (Sound s)) (sym (h .below .are))
             (each-below (Sound s) (rowsOf t rows) (b .parent) (h .filled .sound));
       }
+
+  pub within : Within t b
+  within = readable .within
 
 -- ---- a child is one of the rows
 

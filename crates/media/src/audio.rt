@@ -12,6 +12,7 @@ use kinds::ids;
 use locate::locate;
 use locate_rules::Located;
 use locate_rules::Step;
+use locate_rules::Way;
 use media_rules::Audio;
 use media_rules::AudioReply;
 
@@ -31,16 +32,12 @@ pub fn audio_in(recording: &[u8], table: &[u64], master: Below) -> Audio
 pub fn audio_at(recording: &[u8], start: u64, size: u64, k: u64, table: &mut [u64]) -> AudioReply
     ensures { λ r. ⌜ AudioPromise (now (recording .entry)) start size k (now (table .entry)) r (now (table .exit)) ⌝ }
 {
-    match locate(
-        recording,
-        start,
-        size,
-        ids::AUDIO,
-        Step::Only(k),
-        Step::Here,
-        Step::Here,
-        table,
-    ) {
+    let way = Way {
+        first: Step::Only(k),
+        second: Step::Here,
+        third: Step::Here,
+    };
+    match locate(recording, start, size, ids::AUDIO, way, table) {
         Located::Refused(refusal) => AudioReply::Refused(refusal),
         Located::At { master, rows } => AudioReply::Audio {
             audio: audio_in(recording, table, master),

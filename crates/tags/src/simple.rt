@@ -15,10 +15,11 @@ use kinds::ids;
 use locate::locate;
 use locate_rules::Located;
 use locate_rules::Step;
+use locate_rules::Way;
 use tags_rules::SimpleReply;
 use tags_rules::SimpleTag;
 
-fn simple_in(recording: &[u8], table: &[u64], master: Below) -> SimpleTag
+pub fn simple_in(recording: &[u8], table: &[u64], master: Below) -> SimpleTag
     requires { ⌜ Readable (now recording) (now table) master ⌝ }
     ensures { λ r. ⌜ simpleValues r ≡ simpleOf (now (recording .entry))
         (master .parent) (rowsIn (now (table .entry)) master) ⌝ }
@@ -54,16 +55,12 @@ pub fn simple_tag_at(
         id: ids::SIMPLETAG,
         k: i,
     };
-    match locate(
-        recording,
-        start,
-        size,
-        ids::TAG,
-        tag,
-        simple,
-        Step::Here,
-        table,
-    ) {
+    let way = Way {
+        first: tag,
+        second: simple,
+        third: Step::Here,
+    };
+    match locate(recording, start, size, ids::TAG, way, table) {
         Located::Refused(refusal) => SimpleReply::Refused(refusal),
         Located::At { master, rows } => SimpleReply::Simple {
             tag: simple_in(recording, table, master),

@@ -19,12 +19,13 @@ use kinds::ids;
 use locate::locate;
 use locate_rules::Located;
 use locate_rules::Step;
+use locate_rules::Way;
 use tags_rules::Tag;
 use tags_rules::TagReply;
 use tags_rules::Target;
 use tags_rules::Targets;
 
-fn target_in(recording: &[u8], table: &[u64], master: Below) -> Target
+pub fn target_in(recording: &[u8], table: &[u64], master: Below) -> Target
     requires { ⌜ Readable (now recording) (now table) master ⌝ }
     ensures { λ r. ⌜ targetValues r ≡ targetOf (now (recording .entry))
         (master .parent) (rowsIn (now (table .entry)) master) ⌝ }
@@ -40,7 +41,7 @@ fn target_in(recording: &[u8], table: &[u64], master: Below) -> Target
 }
 
 // The last Targets alone counts.
-fn targets_in(recording: &[u8], table: &[u64], rows: usize, master: Below) -> Targets
+pub fn targets_in(recording: &[u8], table: &[u64], rows: usize, master: Below) -> Targets
     requires { ⌜ Stands (now recording) (now table) rows master ⌝ }
     ensures { λ r. ⌜ targetsValues r ≡ targetsOf (now (recording .entry)) (rowsOf
         (now (table .entry)) rows) (master .parent) ⌝ }
@@ -54,7 +55,7 @@ fn targets_in(recording: &[u8], table: &[u64], rows: usize, master: Below) -> Ta
     }
 }
 
-fn tag_in(recording: &[u8], table: &[u64], rows: usize, master: Below) -> Tag
+pub fn tag_in(recording: &[u8], table: &[u64], rows: usize, master: Below) -> Tag
     requires { ⌜ Stands (now recording) (now table) rows master ⌝ }
     ensures { λ r. ⌜ tagValues r ≡ tagOf (now (recording .entry)) (rowsOf
         (now (table .entry)) rows) (master .parent) ⌝ }
@@ -70,16 +71,12 @@ pub fn tag_at(recording: &[u8], start: u64, size: u64, k: u64, table: &mut [u64]
     ensures { λ r. ⌜ TagPromise (now (recording .entry)) start size k (now (table .entry)) r (now (table .exit)) ⌝ }
 {
     let tag = Step::Nth { id: ids::TAG, k };
-    match locate(
-        recording,
-        start,
-        size,
-        ids::TAG,
-        tag,
-        Step::Here,
-        Step::Here,
-        table,
-    ) {
+    let way = Way {
+        first: tag,
+        second: Step::Here,
+        third: Step::Here,
+    };
+    match locate(recording, start, size, ids::TAG, way, table) {
         Located::Refused(refusal) => TagReply::Refused(refusal),
         Located::At { master, rows } => TagReply::Tag {
             tag: tag_in(recording, table, rows, master),

@@ -10,6 +10,7 @@ use kinds::ids;
 use locate::locate;
 use locate_rules::Located;
 use locate_rules::Step;
+use locate_rules::Way;
 use refusals::Cause;
 use refusals::Refusal;
 use rowstore::clear;
@@ -44,16 +45,12 @@ pub fn uid_at(
 {
     let tag = Step::Nth { id: ids::TAG, k };
     let targets = Step::Last(ids::TARGETS);
-    match locate(
-        recording,
-        start,
-        size,
-        ids::TAG,
-        tag,
-        targets,
-        Step::Here,
-        table,
-    ) {
+    let way = Way {
+        first: tag,
+        second: targets,
+        third: Step::Here,
+    };
+    match locate(recording, start, size, ids::TAG, way, table) {
         Located::Refused(refusal) => UidReply::Refused(refusal),
         Located::At { master, rows } => {
             match nth_child(table, master, member_id(list), Kind::Uint, i) {

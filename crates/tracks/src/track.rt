@@ -18,10 +18,11 @@ use kinds::ids;
 use locate::locate;
 use locate_rules::Located;
 use locate_rules::Step;
+use locate_rules::Way;
 use tracks_rules::Track;
 use tracks_rules::TrackReply;
 
-fn track_in(recording: &[u8], table: &[u64], rows: usize, master: Below) -> Track
+pub fn track_in(recording: &[u8], table: &[u64], rows: usize, master: Below) -> Track
     requires { ⌜ Stands (now recording) (now table) rows master ⌝ }
     ensures { λ r. ⌜ trackValues r ≡ trackOf (now (recording .entry)) (rowsOf
         (now (table .entry)) rows) (master .parent) ⌝ }
@@ -57,16 +58,12 @@ pub fn track_at(recording: &[u8], start: u64, size: u64, k: u64, table: &mut [u6
         id: ids::TRACKENTRY,
         k,
     };
-    match locate(
-        recording,
-        start,
-        size,
-        ids::TRACKENTRY,
-        track,
-        Step::Here,
-        Step::Here,
-        table,
-    ) {
+    let way = Way {
+        first: track,
+        second: Step::Here,
+        third: Step::Here,
+    };
+    match locate(recording, start, size, ids::TRACKENTRY, way, table) {
         Located::Refused(refusal) => TrackReply::Refused(refusal),
         Located::At { master, rows } => TrackReply::Track {
             track: track_in(recording, table, rows, master),

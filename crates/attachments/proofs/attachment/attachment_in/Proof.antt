@@ -1,5 +1,4 @@
 -- `attachment_in` meets its contract: field by field. Assumes nothing.
-use mathlib.Core.Path.{refl}
 use Rattle.attachments.specs.Records.{attachmentOf}
 use Rattle.locate_rules.proofs.Lists.{then}
 use borrow.Author.Needs.{needs}
@@ -8,13 +7,7 @@ use Rattle.attachments.proofs.attachment.attachment_in.Tie as tie
 
 returns : tie.Need-returns
 unfolding attachmentOf
-returns c =
-    let content-field = c .before .before .before .content-field in
-    let content-field2 = c .before .before .content-field2 in
-    then (content-field .ensures)
-    (then (content-field2 .ensures)
-    (then (c .before .content-field3 .ensures)
-    (then (c .content-field4 .ensures) refl)))
+returns c = search then depth 8
 
 pub attachment-in-spec : {M : Type 1} → statement M
 attachment-in-spec =

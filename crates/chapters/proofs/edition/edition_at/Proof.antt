@@ -5,16 +5,7 @@ use borrow.Author.Needs.{needs}
 use Rattle.chapters.proofs.edition.edition_at.Statement.{statement}
 use Rattle.chapters.proofs.edition.edition_at.Tie as tie
 
-edition-in-requires : tie.Need-edition-in-requires
-edition-in-requires c κs = search readable-at
-
-returns : tie.Need-returns
-returns c = search told-refused
-
-returns-2 : tie.Need-returns-2
-returns-2 c = search (told-below editionOf)
-
 pub edition-at-spec : {M : Type 1} → statement M
 edition-at-spec =
-    tie.close (tie.spec (λ c κs. search needs) (λ c. search needs) (λ c. search needs) edition-in-requires
-    (λ c. search needs) returns (λ c. search needs) returns-2)
+    tie.close (tie.spec (λ c κs. search needs) (λ c. search needs) (λ c. search needs) (λ c κs. search readable-at)
+    (λ c. search needs) (λ c. search told-refused) (λ c. search needs) (λ c. search (told-below editionOf)))

@@ -5,16 +5,7 @@ use borrow.Author.Needs.{needs}
 use Rattle.tags.proofs.simple.simple_tag_at.Statement.{statement}
 use Rattle.tags.proofs.simple.simple_tag_at.Tie as tie
 
-simple-in-requires : tie.Need-simple-in-requires
-simple-in-requires c κs = search readable-at
-
-returns : tie.Need-returns
-returns c = search told-refused
-
-returns-2 : tie.Need-returns-2
-returns-2 c = search (told-below simpleOf)
-
 pub simple-tag-at-spec : {M : Type 1} → statement M
 simple-tag-at-spec =
-    tie.close (tie.spec (λ c κs. search needs) (λ c. search needs) (λ c. search needs) simple-in-requires
-    (λ c. search needs) returns (λ c. search needs) returns-2)
+    tie.close (tie.spec (λ c κs. search needs) (λ c. search needs) (λ c. search needs) (λ c κs. search readable-at)
+    (λ c. search needs) (λ c. search told-refused) (λ c. search needs) (λ c. search (told-below simpleOf)))
