@@ -2,6 +2,7 @@
 use Prim.Native.Nat.{ℕ}
 use mathlib.Core.List.{List}
 use lib.ListN.{length}
+use Rattle.locate_rules.specs.Steps.{way}
 use Rattle.locate_rules.specs.Asked.{Asked, asked}
 use Rattle.locate_rules.specs.Promise.{RecordPromise, ofBelow}
 use Rattle.locate_rules.specs.declared.steps.Step.the-variants.{Here, Nth}
@@ -15,7 +16,7 @@ use Rattle.attachments.specs.declared.attachment.AttachmentReply.{Attach
 -- masters holds for its direct children.
 module _ (s : List ℕ) (start size k : ℕ) where
   abbrev pub attachmentAsked : ℕ → Asked
-  attachmentAsked numbers = asked s start size 0x61A7 numbers (Nth 0x61A7 k) Here Here
+  attachmentAsked numbers = asked s start size 0x61A7 numbers (way (Nth 0x61A7 k) Here Here)
 
 -- ---- the promises
 

@@ -1,21 +1,15 @@
 -- What is proved of the definitions beside the contracts: the statements of the theorems.
 use Prim.Native.Nat.{ℕ}
-use mathlib.Core.Path.{_≡_}
 use mathlib.Core.List.{List}
-use lib.ListN.{length}
 use Rattle.locate_rules.specs.Promise.{ofBelow}
-use Rattle.locate_rules.specs.Theorems.{Addressed}
+use Rattle.locate_rules.specs.Theorems.{OneReply, Addressed}
 use Rattle.attachments.specs.Records.{attachmentOf}
-use Rattle.attachments.specs.Promise.{attachmentAsked}
-use Rattle.attachments.specs.Promise.{AttachmentPromise}
-use Rattle.attachments.specs.declared.attachment.AttachmentReply.{AttachmentReply}
+use Rattle.attachments.specs.Promise.{attachmentAsked, AttachmentPromise}
 
 -- Any two replies and tables that a promise permits to one question are equal (document 01, Strength of the promises).
 -- The numbers that stood in the lent table do not matter, only how many there are.
 abbrev pub OneAttachment : Type 0
-OneAttachment =
-    (s : List ℕ) (start size k : ℕ) (t u : List ℕ) (r r′ : AttachmentReply) (t′ u′ : List ℕ) → length t ≡ length u
-    → AttachmentPromise s start size k t r t′ → AttachmentPromise s start size k u r′ u′ → (r ≡ r′) × (t′ ≡ u′)
+OneAttachment = (s : List ℕ) (start size k : ℕ) → OneReply (AttachmentPromise s start size k)
 
 -- Every address in a record that is told is the payload's place of one of the rows that the table holds at exit.
 pub record AttachmentsAddressed : Type 0 where

@@ -1,6 +1,6 @@
 -- A master inside the master of a record: its rows stand among those that were read, and its fields are those of its
 -- own rows. Assumes nothing.
-use Prim.Native.Nat.{ℕ, suc, _+_, _≤_}
+use Prim.Native.Nat.{ℕ, suc, _+_, _^_, _≤_, _<_}
 use mathlib.Core.Path.{_≡_, sym, ap, _∙_, subst}
 use mathlib.Core.List.{List}
 use native.Mathlib.Omega.{arith}
@@ -32,6 +32,9 @@ module _ {s t : List ℕ} {rows : ℕ} {b : Below} (h : Stands s t rows b) (id :
       let l : b .parent ≤ length (rowsOf t rows) = omega (arith, h .below .some, h .below .held) in
       let k = last-known (rowsOf t rows) (b .parent) id Master l n r (sym a ∙ inner-is) in
       omega arith
+
+  pub inner-fits : {n : ℕ} {r : Row} → c ≡ ChildAt n r → rows < 2 ^ 64 → n + 1 < 2 ^ 64
+  inner-fits a u = let k = inner-known a in omega arith
 
 pub inner-readable : {s t : List ℕ} {rows n : ℕ} {inner : Below} → Filled s t rows → BelowIs t rows n inner
     → Readable s t inner

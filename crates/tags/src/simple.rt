@@ -19,7 +19,7 @@ use locate_rules::Way;
 use tags_rules::SimpleReply;
 use tags_rules::SimpleTag;
 
-pub fn simple_in(recording: &[u8], table: &[u64], master: Below) -> SimpleTag
+pub fn simple_tag_in(recording: &[u8], table: &[u64], master: Below) -> SimpleTag
     requires { ⌜ Readable (now recording) (now table) master ⌝ }
     ensures { λ r. ⌜ simpleValues r ≡ simpleOf (now (recording .entry))
         (master .parent) (rowsIn (now (table .entry)) master) ⌝ }
@@ -63,7 +63,7 @@ pub fn simple_tag_at(
     match locate(recording, start, size, ids::TAG, way, table) {
         Located::Refused(refusal) => SimpleReply::Refused(refusal),
         Located::At { master, rows } => SimpleReply::Simple {
-            tag: simple_in(recording, table, master),
+            tag: simple_tag_in(recording, table, master),
             rows: rows as u64,
         },
     }

@@ -1,10 +1,15 @@
 // A member of one of the uid lists that say what a tag applies to.
 ghost use mathlib.Core.Path.{_≡_};
-ghost use Rattle.tags_rules.specs.Records.{memberId};
+ghost use Rattle.fields_rules.specs.Contract.{Readable};
+ghost use Rattle.fields_rules.specs.Values.{numberIn};
+ghost use Rattle.fields_rules.specs.Told.{numberTold};
+ghost use Rattle.tags_rules.specs.Records.{memberId, memberIn};
 ghost use Rattle.tags_rules.specs.Promise.{UidPromise};
 use children::nth_child;
 use fields::uint_in;
+use fields_rules::Below;
 use fields_rules::Child;
+use fields_rules::Number;
 use kinds::Kind;
 use kinds::ids;
 use locate::locate;
@@ -26,6 +31,17 @@ fn member_id(list: UidList) -> u32
         UidList::Edition => ids::TAG_EDITION_UID,
         UidList::Chapter => ids::TAG_CHAPTER_UID,
         UidList::Attachment => ids::TAG_ATTACHMENT_UID,
+    }
+}
+
+// Member i of a uid list of the Targets `targets`; unset where there is none.
+pub fn uid_in(recording: &[u8], table: &[u64], targets: Below, list: UidList, i: u64) -> Number
+    requires { ⌜ Readable (now recording) (now table) targets ⌝ }
+    ensures { λ r. ⌜ numberTold r ≡ numberIn (now (recording .entry)) (memberIn (now (table .entry)) targets list i) ⌝ }
+{
+    match nth_child(table, targets, member_id(list), Kind::Uint, i) {
+        Child::Absent => Number::Unset,
+        Child::At { number: _, row } => Number::Is(uint_in(recording, row)),
     }
 }
 
@@ -52,19 +68,17 @@ pub fn uid_at(
     };
     match locate(recording, start, size, ids::TAG, way, table) {
         Located::Refused(refusal) => UidReply::Refused(refusal),
-        Located::At { master, rows } => {
-            match nth_child(table, master, member_id(list), Kind::Uint, i) {
-                Child::Absent => {
-                    clear(table);
-                    UidReply::Refused(Refusal {
-                        cause: Cause::Outside,
-                    })
-                }
-                Child::At { number: _, row } => UidReply::Uid {
-                    uid: uint_in(recording, row),
-                    rows: rows as u64,
-                },
+        Located::At { master, rows } => match uid_in(recording, table, master, list, i) {
+            Number::Unset => {
+                clear(table);
+                UidReply::Refused(Refusal {
+                    cause: Cause::Outside,
+                })
             }
-        }
+            Number::Is(uid) => UidReply::Uid {
+                uid,
+                rows: rows as u64,
+            },
+        },
     }
 }

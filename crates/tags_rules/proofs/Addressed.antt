@@ -51,9 +51,9 @@ pub tags-addressed : TagsAddressed
 unfolding AllPlaced uidOf
 tags-addressed =
     record {
-      tag = λ s start size k. asked-addressed _ s start size _ _ _ _ (tag-placed s);
+      tag = λ s start size k. asked-addressed _ (tag-placed s) s start size _ _;
       uid = λ s start size k list i.
-          listed-addressed _ s start size _ _ _ _
-          (λ rs parent l. (number-placed s rs parent l (memberOf list i rs parent), tt)) (memberOf list i);
-      simple = λ s start size k i. asked-addressed _ s start size _ _ _ _ (simple-placed s);
+          listed-addressed _ (λ rs parent l. (number-placed s rs parent l (memberOf list i rs parent), tt)) s start size
+          _ _ (memberOf list i);
+      simple = λ s start size k i. asked-addressed _ (simple-placed s) s start size _ _;
     }

@@ -1,6 +1,6 @@
 -- A tag: its Targets, and the members of their uid lists. Assumes nothing.
 use Prim.Native.Nat.{ℕ, _+_}
-use mathlib.Core.Path.{_≡_, sym, ap, _∙_}
+use mathlib.Core.Path.{_≡_, refl, sym, ap, _∙_}
 use mathlib.Core.List.{List, [], _∷_, _++_}
 use mathlib.Core.Bool.{true, false}
 use lib.ListN.{length}
@@ -14,108 +14,125 @@ use Rattle.elements_rules.proofs.Numbered.{length-rows-of}
 use Rattle.elements_rules.proofs.Whole.{zeros-as}
 use Rattle.fields_rules.specs.Children.{children, nthOf, rowsIn}
 use Rattle.fields_rules.specs.Contract.{BelowIs}
-use Rattle.fields_rules.specs.Values.{Value, number, flag, count, uintIn, numberIn}
+use Rattle.fields_rules.specs.Values.{Value, unset, number, flag, count, uintIn, numberIn}
 use Rattle.fields_rules.specs.Fields.{countOf}
+use Rattle.fields_rules.specs.Told.{numberTold}
 use Rattle.fields_rules.specs.declared.child.Below.{Below}
 use Rattle.fields_rules.specs.declared.child.Child.{Child}
 use Rattle.fields_rules.specs.declared.child.Child.the-variants.{At as ChildAt, Absent as NoChild}
+use Rattle.fields_rules.specs.declared.field.Number.{Number}
+use Rattle.fields_rules.specs.declared.field.Number.the-variants.{Unset, Is}
 use Rattle.locate_rules.specs.Asked.{Asked, found, refusing, hasMember, listed, tableAfter}
 use Rattle.locate_rules.specs.Told.{fields, refuses}
 use Rattle.locate_rules.specs.Contract.{Stands, LocateMet}
 use Rattle.locate_rules.specs.Promise.{answerOf, RecordPromise}
+use Rattle.locate_rules.specs.declared.steps.Located.{Located}
 use Rattle.locate_rules.specs.declared.steps.Located.the-variants.{At, Refused}
 use Rattle.locate_rules.proofs.Inner.{lastInner, inner-is, inner-fields}
-use Rattle.tags_rules.specs.Records.{targetOf, targetsIn, targetsOf, tagOf, memberId, memberOf, uidOf}
-use Rattle.tags_rules.specs.Told.{targetValues, targetsValues}
-use Rattle.tags_rules.specs.declared.tag.Target.{Target}
-use Rattle.tags_rules.specs.declared.tag.Targets.{Targets}
+use Rattle.locate_rules.proofs.Told.{stands-at}
+use Rattle.tags_rules.specs.Records.{targetOf, targetsIn, targetsOf, tagOf, memberId, memberIn, memberOf, uidOf}
 use Rattle.tags_rules.specs.declared.uid.UidList.{UidList}
 
-module _ (s t : List ℕ) (rows : ℕ) (b : Below) (h : Stands s t rows b) where
+module _ {s t : List ℕ} {rows : ℕ} {b : Below} (h : Stands s t rows b) where
   -- ---- the last Targets
 
-  targets-by : (c : Child) → c ≡ lastInner s t rows b h 0x63C0
-      → targetsIn s (rowsOf t rows) (b .parent) c ≡ targetsOf s (rowsOf t rows) (b .parent)
-  unfolding targetsOf
-  targets-by c e = ap (targetsIn s (rowsOf t rows) (b .parent)) (inner-is s t rows b h 0x63C0 c e)
+  module _ {c : Child} (e : c ≡ lastInner t b 0x63C0) where
+    targets-by : targetsIn s (rowsOf t rows) (b .parent) c ≡ targetsOf s (rowsOf t rows) (b .parent)
+    unfolding targetsOf
+    targets-by = ap (targetsIn s (rowsOf t rows) (b .parent)) (inner-is h 0x63C0 e)
 
-  pub no-targets : NoChild ≡ lastInner s t rows b h 0x63C0
-      → flag false ∷ [] ≡ targetsOf s (rowsOf t rows) (b .parent)
-  no-targets e = targets-by NoChild e
+    pub no-targets : c ≡ NoChild → flag false ∷ [] ≡ targetsOf s (rowsOf t rows) (b .parent)
+    no-targets a = ap (targetsIn s (rowsOf t rows) (b .parent)) (sym a) ∙ targets-by
 
-  pub are-targets :
-      (n : ℕ) (r : Row) (inner : Below) (x : Target) → ChildAt n r ≡ lastInner s t rows b h 0x63C0
-      → BelowIs t rows (n + 1) inner → targetValues x ≡ targetOf s (inner .parent) (rowsIn t inner)
-      → flag true ∷ targetValues x ≡ targetsOf s (rowsOf t rows) (b .parent)
-  are-targets n r inner x e m q =
-      ap (λ (v : List Value). flag true ∷ v) (inner-fields s t rows b h (targetOf s) (targetValues x) n inner m q)
-      ∙ targets-by (ChildAt n r) e
+    pub are-targets :
+        {n : ℕ} {r : Row} {inner : Below} {vs : List Value} → c ≡ ChildAt n r → BelowIs t rows (n + 1) inner
+        → vs ≡ targetOf s (inner .parent) (rowsIn t inner)
+        → flag true ∷ vs ≡ targetsOf s (rowsOf t rows) (b .parent)
+    are-targets {n} a m q =
+        ap (λ (v : List Value). flag true ∷ v) (inner-fields (targetOf s) t rows n m q)
+        ∙ ap (targetsIn s (rowsOf t rows) (b .parent)) (sym a) ∙ targets-by
 
   pub tag-is :
-      (x : Targets) (n : ℕ) → targetsValues x ≡ targetsOf s (rowsOf t rows) (b .parent)
+      {vs : List Value} {n : ℕ} → vs ≡ targetsOf s (rowsOf t rows) (b .parent)
       → n ≡ length (children (b .parent) 0x67C8 Master (rowsIn t b))
-      → targetsValues x ++ (count n ∷ []) ≡ tagOf s (rowsOf t rows) (b .parent)
+      → vs ++ (count n ∷ []) ≡ tagOf s (rowsOf t rows) (b .parent)
   unfolding tagOf countOf
-  tag-is x n e q =
+  tag-is {vs} {n} e q =
       ap (λ (v : List Value). v ++ (count n ∷ [])) e
       ∙ ap (λ (m : ℕ). targetsOf s (rowsOf t rows) (b .parent) ++ (count m ∷ []))
       (q ∙ ap (λ (y : List Row). length (children (b .parent) 0x67C8 Master y)) (h .below .are))
 
 -- ---- the members of a uid list
 
-module _ (s : List ℕ) (a : Asked) (numbers : ℕ) (list : UidList) (i : ℕ) where
-  pub uid-refused :
-      (t′ : List ℕ) (e : Refusal) → LocateMet s a numbers (Refused e) t′
-      → RecordPromise (uidOf s list i) (listed a (memberOf list i)) numbers (refuses e) t′
-  uid-refused t′ e p =
-      let d : listed a (memberOf list i) ≡ refusing e = ap (λ (x : Asked). listed x (memberOf list i)) (p .reply) in
+-- As it is looked up.
+module _ (s t : List ℕ) (b : Below) (list : UidList) (i : ℕ) {c : Child} {id : ℕ} (k : id ≡ memberId list)
+    (e : c ≡ nthOf i (children (b .parent) id Uint (rowsIn t b))) where
+  looked-up : c ≡ memberIn t b list i
+  looked-up = e ∙ ap (λ (x : ℕ). nthOf i (children (b .parent) x Uint (rowsIn t b))) k
+
+  pub member-unset : c ≡ NoChild → unset ≡ numberIn s (memberIn t b list i)
+  member-unset a = ap (numberIn s) (sym a ∙ looked-up)
+
+  pub member-is : {n v : ℕ} {r : Row} → c ≡ ChildAt n r → v ≡ uintIn s r → number v ≡ numberIn s (memberIn t b list i)
+  member-is a q = ap number q ∙ ap (numberIn s) (sym a ∙ looked-up)
+
+-- As it is asked for.
+module _ (s : List ℕ) (x : Asked) where
+  no-member : (c : Child) → unset ≡ numberIn s c → hasMember x c ≡ refusing noRecord
+  no-member NoChild q = refl
+  no-member (ChildAt n r) q = cc
+
+  a-member : (c : Child) (v : ℕ) → number v ≡ numberIn s c → hasMember x c ≡ x
+  a-member NoChild v q = cc
+  a-member (ChildAt n r) v q = refl
+
+module _ (s : List ℕ) {a : Asked} {numbers : ℕ} {r : Located} {t₁ : List ℕ} (p : LocateMet s a numbers r t₁)
+    (list : UidList) (i : ℕ) where
+  abbrev question : Asked
+  question = listed a (memberOf list i)
+
+  pub uid-refused : {e : Refusal} → r ≡ Refused e
+      → RecordPromise (uidOf s list i) question numbers (refuses e) t₁
+  uid-refused {e} q =
+      let w : a ≡ refusing e = (rw q at p) .reply in
+      let d : question ≡ refusing e = ap (λ (x : Asked). listed x (memberOf list i)) w in
       record {
         reply = sym (ap (answerOf (uidOf s list i)) d);
-        table = p .table ∙ ap (tableAfter numbers) (p .reply) ∙ sym (ap (tableAfter numbers) d);
+        table = p .table ∙ ap (tableAfter numbers) (w ∙ sym d);
       }
 
-  module _
-      (t₁ : List ℕ) (n : ℕ) (b : Below) (p : LocateMet s a numbers (At b n) t₁) (id : ℕ)
-      (k : id ≡ memberId list)
-    where
-      is-member : (c : Child) → c ≡ nthOf i (children (b .parent) id Uint (rowsIn t₁ b))
-          → c ≡ memberOf list i (rowsOf t₁ n) (b .parent)
-      is-member c e =
-          e ∙ ap (λ (x : ℕ). nthOf i (children (b .parent) x Uint (rowsIn t₁ b))) k
-          ∙ ap (λ (x : List Row). nthOf i (children (b .parent) (memberId list) Uint x)) (p .reply .1 .below .are)
+  module _ {b : Below} {n : ℕ} (q : r ≡ At b n) (m : Number)
+      (e : numberTold m ≡ numberIn s (memberIn t₁ b list i)) where
+    abbrev member : Child
+    member = memberOf list i (rowsOf t₁ n) (b .parent)
 
-      -- The member that the question comes to.
-      asks : (c : Child) → c ≡ nthOf i (children (b .parent) id Uint (rowsIn t₁ b))
-          → listed a (memberOf list i) ≡ hasMember (found (rowsOf t₁ n) (b .parent)) c
-      asks c e =
-          ap (λ (x : Asked). listed x (memberOf list i)) (p .reply .0)
-          ∙ ap (hasMember (found (rowsOf t₁ n) (b .parent))) (sym (is-member c e))
+    told : numberTold m ≡ numberIn s member
+    told =
+        e ∙ ap (λ (x : List Row). numberIn s (nthOf i (children (b .parent) (memberId list) Uint x)))
+        (stands-at p q .below .are)
 
-      pub uid-none :
-          (t′ : List ℕ) (e : Refusal) → length t₁ ≡ numbers
-          → NoChild ≡ nthOf i (children (b .parent) id Uint (rowsIn t₁ b))
-          → e ≡ noRecord → t′ ≡ zeros (length t₁)
-          → RecordPromise (uidOf s list i) (listed a (memberOf list i)) numbers (refuses e) t′
-      uid-none t′ e l q w z =
-          let d : listed a (memberOf list i) ≡ refusing e = asks NoChild q ∙ ap refusing (sym w) in
-          record {
-            reply = sym (ap (answerOf (uidOf s list i)) d);
-            table = z ∙ zeros-as l ∙ sym (ap (tableAfter numbers) d);
-          }
+    -- The member that the question comes to.
+    asks : question ≡ hasMember (found (rowsOf t₁ n) (b .parent)) member
+    asks = ap (λ (x : Asked). listed x (memberOf list i)) ((rw q at p) .reply .0)
 
-      pub uid-found :
-          (m : ℕ) (r : Row) (v : ℕ) → ChildAt m r ≡ nthOf i (children (b .parent) id Uint (rowsIn t₁ b))
-          → v ≡ uintIn s r
-          → RecordPromise (uidOf s list i) (listed a (memberOf list i)) numbers (fields (number v ∷ []) n) t₁
-      unfolding uidOf
-      uid-found m r v q w =
-          let d : listed a (memberOf list i) ≡ found (rowsOf t₁ n) (b .parent) = asks (ChildAt m r) q in
-          record {
-            reply =
-                ap (λ (x : ℕ). fields (number x ∷ []) n) w
-                ∙ ap (λ (c : Child). fields (numberIn s c ∷ []) n) (is-member (ChildAt m r) q)
-                ∙ ap (fields (numberIn s (memberOf list i (rowsOf t₁ n) (b .parent)) ∷ []))
-                (sym (length-rows-of t₁ n))
-                ∙ sym (ap (answerOf (uidOf s list i)) d);
-            table = p .table ∙ ap (tableAfter numbers) (p .reply .0) ∙ sym (ap (tableAfter numbers) d);
-          }
+    pub uid-none : {f : Refusal} {t′ : List ℕ} → m ≡ Unset → f ≡ noRecord → length t₁ ≡ numbers
+        → t′ ≡ zeros (length t₁) → RecordPromise (uidOf s list i) question numbers (refuses f) t′
+    uid-none {f} u w l z =
+        let d : question ≡ refusing f = asks ∙ no-member s _ member (rw u at told) ∙ ap refusing (sym w) in
+        record {
+          reply = sym (ap (answerOf (uidOf s list i)) d);
+          table = z ∙ zeros-as l ∙ sym (ap (tableAfter numbers) d);
+        }
+
+    pub uid-found : {v : ℕ} → m ≡ Is v → RecordPromise (uidOf s list i) question numbers (fields (number v ∷ []) n) t₁
+    unfolding uidOf
+    uid-found {v} u =
+        let w : number v ≡ numberIn s member = rw u at told in
+        let d : question ≡ found (rowsOf t₁ n) (b .parent) = asks ∙ a-member s _ member v w in
+        record {
+          reply =
+              ap (λ (x : Value). fields (x ∷ []) n) w
+              ∙ ap (fields (numberIn s member ∷ [])) (sym (length-rows-of t₁ n))
+              ∙ sym (ap (answerOf (uidOf s list i)) d);
+          table = p .table ∙ ap (tableAfter numbers) ((rw q at p) .reply .0 ∙ sym d);
+        }

@@ -2,6 +2,7 @@
 use Prim.Native.Nat.{ℕ}
 use mathlib.Core.List.{List}
 use lib.ListN.{length}
+use Rattle.locate_rules.specs.Steps.{way}
 use Rattle.locate_rules.specs.Asked.{Asked, asked, listed}
 use Rattle.locate_rules.specs.Promise.{RecordPromise, ofBelow}
 use Rattle.locate_rules.specs.declared.steps.Step.the-variants.{Here, Nth, Last}
@@ -18,15 +19,15 @@ use Rattle.tags_rules.specs.declared.simple.SimpleReply.{SimpleReply}
 -- holds for its direct children; then a step for each level.
 module _ (s : List ℕ) (start size k : ℕ) where
   abbrev pub tagAsked : ℕ → Asked
-  tagAsked numbers = asked s start size 0x7373 numbers (Nth 0x7373 k) Here Here
+  tagAsked numbers = asked s start size 0x7373 numbers (way (Nth 0x7373 k) Here Here)
 
   -- A member of a list of the last Targets.
   abbrev pub uidAsked : UidList → ℕ → ℕ → Asked
   uidAsked list i numbers =
-      listed (asked s start size 0x7373 numbers (Nth 0x7373 k) (Last 0x63C0) Here) (memberOf list i)
+      listed (asked s start size 0x7373 numbers (way (Nth 0x7373 k) (Last 0x63C0) Here)) (memberOf list i)
 
   abbrev pub simpleAsked : ℕ → ℕ → Asked
-  simpleAsked i numbers = asked s start size 0x7373 numbers (Nth 0x7373 k) (Nth 0x67C8 i) Here
+  simpleAsked i numbers = asked s start size 0x7373 numbers (way (Nth 0x7373 k) (Nth 0x67C8 i) Here)
 
 -- ---- the promises
 

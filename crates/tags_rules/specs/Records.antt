@@ -5,9 +5,10 @@ use mathlib.Core.List.{List, [], _∷_, _++_}
 use mathlib.Core.Bool.{true, false}
 use Rattle.kinds.specs.declared.kind.Kind.the-variants.{Master, Uint, String, Utf8}
 use Rattle.elements_rules.specs.declared.row.Row.{Row}
-use Rattle.fields_rules.specs.Children.{subtree, children, nthOf}
+use Rattle.fields_rules.specs.Children.{subtree, children, nthOf, rowsIn}
 use Rattle.fields_rules.specs.Values.{Value, flag, numberIn}
 use Rattle.fields_rules.specs.Fields.{lastChild, numberOf, flagOf, contentOf, languageOf, valueOf, countOf}
+use Rattle.fields_rules.specs.declared.child.Below.{Below}
 use Rattle.fields_rules.specs.declared.child.Child.{Child}
 use Rattle.fields_rules.specs.declared.child.Child.the-variants.{At as ChildAt, Absent as NoChild}
 use Rattle.tags_rules.specs.declared.uid.UidList.{UidList}
@@ -56,9 +57,12 @@ memberId Edition = 0x63C9
 memberId Chapter = 0x63C4
 memberId Attachment = 0x63C6
 
--- The i-th member of a uid list below the master.
+-- The i-th member of a uid list below the master; and of a master's rows in a table.
 abbrev pub memberOf : UidList → ℕ → List Row → ℕ → Child
 memberOf list i rs parent = nthOf i (children parent (memberId list) Uint (subtree rs parent))
+
+abbrev pub memberIn : List ℕ → Below → UidList → ℕ → Child
+memberIn t b list i = nthOf i (children (b .parent) (memberId list) Uint (rowsIn t b))
 
 unfoldable pub uidOf : List ℕ → UidList → ℕ → List Row → ℕ → List Value
 uidOf s list i rs parent = numberIn s (memberOf list i rs parent) ∷ []

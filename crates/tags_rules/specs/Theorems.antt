@@ -1,35 +1,23 @@
 -- What is proved of the definitions beside the contracts: the statements of the theorems.
 use Prim.Native.Nat.{ℕ}
-use mathlib.Core.Path.{_≡_}
 use mathlib.Core.List.{List}
-use lib.ListN.{length}
 use Rattle.locate_rules.specs.Promise.{ofBelow}
-use Rattle.locate_rules.specs.Theorems.{Addressed}
+use Rattle.locate_rules.specs.Theorems.{OneReply, Addressed}
 use Rattle.tags_rules.specs.Records.{tagOf, uidOf, simpleOf}
 use Rattle.tags_rules.specs.Promise.{tagAsked, uidAsked, simpleAsked}
 use Rattle.tags_rules.specs.Promise.{TagPromise, UidPromise, SimplePromise}
-use Rattle.tags_rules.specs.declared.tag.TagReply.{TagReply}
 use Rattle.tags_rules.specs.declared.uid.UidList.{UidList}
-use Rattle.tags_rules.specs.declared.uid.UidReply.{UidReply}
-use Rattle.tags_rules.specs.declared.simple.SimpleReply.{SimpleReply}
 
 -- Any two replies and tables that a promise permits to one question are equal (document 01, Strength of the promises).
 -- The numbers that stood in the lent table do not matter, only how many there are.
 abbrev pub OneTag : Type 0
-OneTag =
-    (s : List ℕ) (start size k : ℕ) (t u : List ℕ) (r r′ : TagReply) (t′ u′ : List ℕ) → length t ≡ length u
-    → TagPromise s start size k t r t′ → TagPromise s start size k u r′ u′ → (r ≡ r′) × (t′ ≡ u′)
+OneTag = (s : List ℕ) (start size k : ℕ) → OneReply (TagPromise s start size k)
 
 abbrev pub OneUid : Type 0
-OneUid =
-    (s : List ℕ) (start size k : ℕ) (list : UidList) (i : ℕ) (t u : List ℕ) (r r′ : UidReply) (t′ u′ : List ℕ)
-    → length t ≡ length u
-    → UidPromise s start size k list i t r t′ → UidPromise s start size k list i u r′ u′ → (r ≡ r′) × (t′ ≡ u′)
+OneUid = (s : List ℕ) (start size k : ℕ) (list : UidList) (i : ℕ) → OneReply (UidPromise s start size k list i)
 
 abbrev pub OneSimple : Type 0
-OneSimple =
-    (s : List ℕ) (start size k i : ℕ) (t u : List ℕ) (r r′ : SimpleReply) (t′ u′ : List ℕ) → length t ≡ length u
-    → SimplePromise s start size k i t r t′ → SimplePromise s start size k i u r′ u′ → (r ≡ r′) × (t′ ≡ u′)
+OneSimple = (s : List ℕ) (start size k i : ℕ) → OneReply (SimplePromise s start size k i)
 
 -- Every address in a record that is told is the payload's place of one of the rows that the table holds at exit.
 pub record TagsAddressed : Type 0 where
