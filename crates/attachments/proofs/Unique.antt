@@ -1,10 +1,12 @@
--- Any two replies and tables that a promise permits to one question are equal. Assumes nothing.
+-- Any two replies and tables that a promise permits to one question are equal, and its refusals are listed. Assumes
+-- nothing.
 use mathlib.Core.Path.{_≡_}
+use Rattle.refusals.proofs.Listed.{listed}
 use Rattle.fields_rules.proofs.Once.{content-once}
-use Rattle.locate_rules.proofs.Unique.{same-refused, one-reply}
+use Rattle.locate_rules.proofs.Unique.{one-reply}
 use Rattle.attachments.specs.Told.{attachmentValues, attachmentTold}
 use Rattle.attachments.specs.Promise.{attachmentAsked}
-use Rattle.attachments.specs.Theorems.{OneAttachment}
+use Rattle.attachments.specs.Theorems.{OneAttachment, RefusesListed}
 use Rattle.attachments.specs.declared.attachment.Attachment.{Attachment}
 use Rattle.attachments.specs.declared.attachment.AttachmentReply.{AttachmentReply}
 use Rattle.attachments.specs.declared.attachment.AttachmentReply.the-variants.{Attachment as IsAttachment}
@@ -24,7 +26,10 @@ attachment-told : (r r′ : AttachmentReply) → attachmentTold r ≡ attachment
 attachment-told (IsAttachment a n) (IsAttachment b m) q = cc (attachment-once a b (cc))
 attachment-told (IsAttachment a n) (NoAttachment e) q = cc
 attachment-told (NoAttachment e) (IsAttachment b m) q = cc
-attachment-told (NoAttachment e) (NoAttachment f) q = cc (same-refused e f q)
+attachment-told (NoAttachment e) (NoAttachment f) q = cc
 
 pub attachment-unique : OneAttachment
 attachment-unique s start size k = one-reply _ (attachmentAsked s start size k) attachmentTold attachment-told
+
+pub refuses-listed : RefusesListed
+refuses-listed = record { attachment = λ s start size k t e t′ p. listed e }

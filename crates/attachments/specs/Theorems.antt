@@ -2,14 +2,19 @@
 use Prim.Native.Nat.{ℕ}
 use mathlib.Core.List.{List}
 use Rattle.locate_rules.specs.Promise.{ofBelow}
-use Rattle.locate_rules.specs.Theorems.{OneReply, Addressed}
+use Rattle.locate_rules.specs.Theorems.{OneReply, OnlyListed, Addressed}
 use Rattle.attachments.specs.Records.{attachmentOf}
 use Rattle.attachments.specs.Promise.{attachmentAsked, AttachmentPromise}
+use Rattle.attachments.specs.declared.attachment.AttachmentReply.the-variants.{Refused as NoAttachment}
 
 -- Any two replies and tables that a promise permits to one question are equal (document 01, Strength of the promises).
 -- The numbers that stood in the lent table do not matter, only how many there are.
 abbrev pub OneAttachment : Type 0
 OneAttachment = (s : List ℕ) (start size k : ℕ) → OneReply (AttachmentPromise s start size k)
+
+-- A refusal among the replies that a promise permits is one of document 01's list.
+pub record RefusesListed : Type 0 where
+  pub attachment : (s : List ℕ) (start size k : ℕ) → OnlyListed NoAttachment (AttachmentPromise s start size k)
 
 -- Every address in a record that is told is the payload's place of one of the rows that the table holds at exit.
 pub record AttachmentsAddressed : Type 0 where

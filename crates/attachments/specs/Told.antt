@@ -2,7 +2,7 @@
 use mathlib.Core.List.{List, [], _∷_}
 use Rattle.fields_rules.specs.Values.{Value}
 use Rattle.fields_rules.specs.Told.{contentTold}
-use Rattle.locate_rules.specs.Told.{Answer, fields, refuses}
+use Rattle.locate_rules.specs.Told.{Answer, fields, refusal}
 use Rattle.attachments.specs.declared.attachment.Attachment.{Attachment}
 use Rattle.attachments.specs.declared.attachment.AttachmentReply.{AttachmentReply}
 use Rattle.attachments.specs.declared.attachment.AttachmentReply.the-variants.{Attachment as IsAttachment}
@@ -18,4 +18,4 @@ attachmentValues a =
 
 abbrev pub attachmentTold : AttachmentReply → Answer
 attachmentTold (IsAttachment a rows) = fields (attachmentValues a) rows
-attachmentTold (NoAttachment e) = refuses e
+attachmentTold (NoAttachment e) = refusal e

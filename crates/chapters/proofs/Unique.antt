@@ -1,11 +1,13 @@
--- Any two replies and tables that a promise permits to one question are equal. Assumes nothing.
+-- Any two replies and tables that a promise permits to one question are equal, and its refusals are listed. Assumes
+-- nothing.
 use mathlib.Core.Path.{_≡_}
+use Rattle.refusals.proofs.Listed.{listed}
 use Rattle.fields_rules.proofs.Once.{number-once, flag-once, content-once, language-once, count-once}
-use Rattle.locate_rules.proofs.Unique.{same-refused, one-reply}
+use Rattle.locate_rules.proofs.Unique.{one-reply}
 use Rattle.chapters.specs.Told.{editionValues, chapterValues, displayValues}
 use Rattle.chapters.specs.Told.{editionTold, chapterTold, displayTold}
 use Rattle.chapters.specs.Promise.{editionAsked, chapterAsked, displayAsked}
-use Rattle.chapters.specs.Theorems.{OneEdition, OneChapter, OneDisplay}
+use Rattle.chapters.specs.Theorems.{OneEdition, OneChapter, OneDisplay, RefusesListed}
 use Rattle.chapters.specs.declared.edition.ChapterEdition.{ChapterEdition}
 use Rattle.chapters.specs.declared.edition.EditionReply.{EditionReply}
 use Rattle.chapters.specs.declared.edition.EditionReply.the-variants.{Edition as IsEdition, Refused as NoEdition}
@@ -54,19 +56,19 @@ edition-told : (r r′ : EditionReply) → editionTold r ≡ editionTold r′ �
 edition-told (IsEdition a n) (IsEdition b m) q = cc (edition-once a b (cc))
 edition-told (IsEdition a n) (NoEdition e) q = cc
 edition-told (NoEdition e) (IsEdition b m) q = cc
-edition-told (NoEdition e) (NoEdition f) q = cc (same-refused e f q)
+edition-told (NoEdition e) (NoEdition f) q = cc
 
 chapter-told : (r r′ : ChapterReply) → chapterTold r ≡ chapterTold r′ → r ≡ r′
 chapter-told (IsChapter a n) (IsChapter b m) q = cc (chapter-once a b (cc))
 chapter-told (IsChapter a n) (NoChapter e) q = cc
 chapter-told (NoChapter e) (IsChapter b m) q = cc
-chapter-told (NoChapter e) (NoChapter f) q = cc (same-refused e f q)
+chapter-told (NoChapter e) (NoChapter f) q = cc
 
 display-told : (r r′ : DisplayReply) → displayTold r ≡ displayTold r′ → r ≡ r′
 display-told (IsDisplay a n) (IsDisplay b m) q = cc (display-once a b (cc))
 display-told (IsDisplay a n) (NoDisplay e) q = cc
 display-told (NoDisplay e) (IsDisplay b m) q = cc
-display-told (NoDisplay e) (NoDisplay f) q = cc (same-refused e f q)
+display-told (NoDisplay e) (NoDisplay f) q = cc
 
 -- ---- the theorems
 
@@ -78,3 +80,11 @@ chapter-unique s start size k i = one-reply _ (chapterAsked s start size k i) ch
 
 pub display-unique : OneDisplay
 display-unique s start size k i j = one-reply _ (displayAsked s start size k i j) displayTold display-told
+
+pub refuses-listed : RefusesListed
+refuses-listed =
+    record {
+      edition = λ s start size k t e t′ p. listed e;
+      chapter = λ s start size k i t e t′ p. listed e;
+      display = λ s start size k i j t e t′ p. listed e;
+    }

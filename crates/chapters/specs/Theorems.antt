@@ -10,7 +10,7 @@ use Rattle.fields_rules.specs.declared.field.Content.{Content}
 use Rattle.fields_rules.specs.declared.field.Content.the-variants.{Unset, At as SetAt}
 use Rattle.locate_rules.specs.Asked.{found}
 use Rattle.locate_rules.specs.Promise.{ofBelow}
-use Rattle.locate_rules.specs.Theorems.{OneReply, Addressed}
+use Rattle.locate_rules.specs.Theorems.{OneReply, OnlyListed, Addressed}
 use Rattle.chapters.specs.Records.{editionOf, chapterOf, displayOf}
 use Rattle.chapters.specs.First.{firstString}
 use Rattle.chapters.specs.Promise.{editionAsked, chapterAsked, displayAsked}
@@ -19,6 +19,9 @@ use Rattle.chapters.specs.declared.display.DisplayReply.{DisplayReply}
 use Rattle.chapters.specs.declared.display.DisplayReply.the-variants.{Display, Refused}
 use Rattle.chapters.specs.declared.first.FirstString.{FirstString}
 use Rattle.chapters.specs.declared.first.FirstString.the-variants.{Absent, At}
+use Rattle.chapters.specs.declared.edition.EditionReply.the-variants.{Refused as NoEdition}
+use Rattle.chapters.specs.declared.chapter.ChapterReply.the-variants.{Refused as NoChapter}
+use Rattle.chapters.specs.declared.display.DisplayReply.the-variants.{Refused as NoDisplay}
 
 -- Any two replies and tables that a promise permits to one question are equal (document 01, Strength of the promises).
 -- The numbers that stood in the lent table do not matter, only how many there are.
@@ -30,6 +33,12 @@ OneChapter = (s : List ℕ) (start size k i : ℕ) → OneReply (ChapterPromise 
 
 abbrev pub OneDisplay : Type 0
 OneDisplay = (s : List ℕ) (start size k i j : ℕ) → OneReply (DisplayPromise s start size k i j)
+
+-- A refusal among the replies that a promise permits is one of document 01's list.
+pub record RefusesListed : Type 0 where
+  pub edition : (s : List ℕ) (start size k : ℕ) → OnlyListed NoEdition (EditionPromise s start size k)
+  pub chapter : (s : List ℕ) (start size k i : ℕ) → OnlyListed NoChapter (ChapterPromise s start size k i)
+  pub display : (s : List ℕ) (start size k i j : ℕ) → OnlyListed NoDisplay (DisplayPromise s start size k i j)
 
 -- Every address in a record that is told is the payload's place of one of the rows that the table holds at exit.
 pub record ChaptersAddressed : Type 0 where

@@ -2,7 +2,7 @@
 use mathlib.Core.List.{List, [], _∷_}
 use Rattle.fields_rules.specs.Values.{Value, count}
 use Rattle.fields_rules.specs.Told.{numberTold, flagTold, contentTold, languageTold}
-use Rattle.locate_rules.specs.Told.{Answer, fields, refuses}
+use Rattle.locate_rules.specs.Told.{Answer, fields, refusal}
 use Rattle.chapters.specs.declared.edition.ChapterEdition.{ChapterEdition}
 use Rattle.chapters.specs.declared.edition.EditionReply.{EditionReply}
 use Rattle.chapters.specs.declared.edition.EditionReply.the-variants.{Edition as IsEdition, Refused as NoEdition}
@@ -43,12 +43,12 @@ displayValues d = contentTold (d .string) ∷ languageTold (d .language) ∷ []
 
 abbrev pub editionTold : EditionReply → Answer
 editionTold (IsEdition a rows) = fields (editionValues a) rows
-editionTold (NoEdition e) = refuses e
+editionTold (NoEdition e) = refusal e
 
 abbrev pub chapterTold : ChapterReply → Answer
 chapterTold (IsChapter a rows) = fields (chapterValues a) rows
-chapterTold (NoChapter e) = refuses e
+chapterTold (NoChapter e) = refusal e
 
 abbrev pub displayTold : DisplayReply → Answer
 displayTold (IsDisplay a rows) = fields (displayValues a) rows
-displayTold (NoDisplay e) = refuses e
+displayTold (NoDisplay e) = refusal e

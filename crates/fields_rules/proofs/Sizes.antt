@@ -6,12 +6,13 @@ use mathlib.Core.Bool.{Bool, true, false, cond, not, _||_}
 use mathlib.Core.Logic.{_⊎_, inl, inr}
 use lib.Dec.{leb, eqb}
 use borrow.Author.Tests.{leb-true, eqb-true}
+use Rattle.refusals.specs.declared.refusal.Cause.{Cause}
 use Rattle.kinds.specs.Kinds.{numberOf}
 use Rattle.kinds.specs.Entries.{kindOf}
 use Rattle.kinds.specs.declared.kind.Kind.{Kind}
 use Rattle.kinds.specs.declared.kind.Kind.the-variants.{Uint, Float}
 use Rattle.kinds.proofs.Numbers.{kind-back}
-use Rattle.bodies_rules.specs.Bodies.{Told, refuses, bodyOf}
+use Rattle.bodies_rules.specs.Bodies.{Told, refused, bodyOf}
 use Rattle.elements_rules.specs.Stands.{IsValue}
 use Rattle.elements_rules.specs.declared.row.Row.{Row}
 use Rattle.fields_rules.specs.Contract.{Holds}
@@ -25,14 +26,13 @@ module _ (s : List ℕ) (r : Row) where
       (h .sound .value (ap (λ (n : ℕ). not (eqb n 1)) (h .is) ∙ q))
 
   -- A value passes the test of its size.
-  tested : (b : Bool) (told : Told) (e : ℕ) → IsValue (cond b told (refuses (record { number = e; id = 0 })))
-      → b ≡ true
-  tested true told e v = refl
-  tested false told e v = absurd v
+  tested : (b : Bool) (told : Told) (cause : Cause) → IsValue (cond b told (refused cause)) → b ≡ true
+  tested true told cause v = refl
+  tested false told cause v = absurd v
 
   pub uint-size : Holds s Uint r → r .payload ≤ 8
   unfolding bodyOf
-  uint-size h = leb-true (r .payload) 8 (tested (leb (r .payload) 8) _ 4 (value-of Uint refl h))
+  uint-size h = leb-true (r .payload) 8 (tested (leb (r .payload) 8) _ _ (value-of Uint refl h))
 
   either : (a b : Bool) → (a || b) ≡ true → (a ≡ true) ⊎ (b ≡ true)
   either true b e = inl refl
@@ -42,7 +42,7 @@ module _ (s : List ℕ) (r : Row) where
   unfolding bodyOf
   float-size h =
       go (either (eqb (r .payload) 4) (eqb (r .payload) 8)
-      (tested (eqb (r .payload) 4 || eqb (r .payload) 8) _ 5 (value-of Float refl h)))
+      (tested (eqb (r .payload) 4 || eqb (r .payload) 8) _ _ (value-of Float refl h)))
     where
       go : (eqb (r .payload) 4 ≡ true) ⊎ (eqb (r .payload) 8 ≡ true) → (r .payload ≡ 4) ⊎ (r .payload ≡ 8)
       go (inl e) = inl (eqb-true (r .payload) 4 e)

@@ -1,7 +1,7 @@
 -- A record that is told leaves the table that the public read leaves, and counts its rows. Assumes nothing.
 use Prim.Native.Nat.{ℕ}
 use mathlib.Core.Path.{_≡_, refl, sym, ap, _∙_}
-use mathlib.Core.List.{List, [], _∷_}
+use mathlib.Core.List.{List}
 use native.Mathlib.Omega.{arith}
 use lib.ListN.{length}
 use Rattle.refusals.specs.Reply.{accepted}
@@ -29,7 +29,7 @@ module _
       let e : length rs ≡ n = cc in
       let r = record-is-read s start size parent t w rs master h in
       record {
-        reply = ap (λ (m : ℕ). accepted (m ∷ [])) (sym e) ∙ r .reply;
+        reply = ap accepted (sym e) ∙ r .reply;
         table = p .table ∙ r .table;
       }
 

@@ -1,14 +1,13 @@
 -- A question settled: what `locate` came to, and the table that is left. Assumes nothing.
 use Prim.Native.Nat.{ℕ, _-_, _*_}
 use mathlib.Core.Path.{_≡_, refl, sym, ap, _∙_}
-use mathlib.Core.List.{List, [], _∷_, _++_}
+use mathlib.Core.List.{List, _++_}
 use native.Mathlib.Omega.{arith}
 use lib.ListN.{length}
 use borrow.Author.Tests.{not-false}
 use Rattle.refusals.specs.Refusals.{noRecord}
 use Rattle.refusals.specs.Reply.{accepted, refusal}
 use Rattle.refusals.specs.declared.refusal.Refusal.{Refusal}
-use Rattle.header.proofs.Unique.{same-refusal}
 use Rattle.elements_rules.specs.Forest.{count}
 use Rattle.elements_rules.specs.Reading.{Outcome, done, refused}
 use Rattle.elements_rules.specs.Rows.{rows, width, flatten, rowsOf}
@@ -43,8 +42,8 @@ use Rattle.locate_rules.specs.declared.steps.Located.the-variants.{At, R
 
 -- What a reply that refuses says of the outcome.
 told-refused : (e : Refusal) (o : Outcome) → refusal e ≡ replyOf o → o ≡ refused e
-told-refused e (done f) q = let z : _≡_ {A = ℕ} 0 1 = cc in absurd (omega arith)
-told-refused e (refused g) q = ap refused (sym (same-refusal e g (cc) (cc)))
+told-refused e (done f) q = cc
+told-refused e (refused g) q = cc
 
 -- The table that an accepted read leaves, whichever reply tells of it.
 module _ {s : List ℕ} {start size parent : ℕ} {t t₁ : List ℕ} {r : ReadReply}
@@ -167,7 +166,7 @@ record-is-read s start size parent t w rs master q =
         let e : rs ≡ us = settled-found us (reached us w) rs master q in
         let n : length rs ≡ count f = ap length e ∙ length-rows 0 0 start 0 f in
         record {
-          reply = ap (λ (m : ℕ). accepted (m ∷ [])) n ∙ sym (ap replyOf h);
+          reply = ap accepted n ∙ sym (ap replyOf h);
           table =
               ap (λ (x : List Row). flatten x ++ zeros (length t - length rs * width)) e
               ∙ ap (λ (m : ℕ). flatten us ++ zeros (length t - m * width)) n

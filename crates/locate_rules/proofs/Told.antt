@@ -12,7 +12,7 @@ use Rattle.fields_rules.specs.Contract.{Readable}
 use Rattle.fields_rules.specs.Values.{Value}
 use Rattle.fields_rules.specs.declared.child.Below.{Below}
 use Rattle.locate_rules.specs.Asked.{Asked}
-use Rattle.locate_rules.specs.Told.{fields, refuses}
+use Rattle.locate_rules.specs.Told.{fields, refusal}
 use Rattle.locate_rules.specs.Contract.{Stands, LocateMet}
 use Rattle.locate_rules.specs.Promise.{answerOf, RecordPromise, ofBelow}
 use Rattle.locate_rules.specs.declared.steps.Located.{Located}
@@ -21,7 +21,7 @@ use Rattle.locate_rules.proofs.Ways.{readable}
 
 module _ {s : List ℕ} {a : Asked} {numbers : ℕ} {r : Located} {t′ : List ℕ} (p : LocateMet s a numbers r t′) where
   pub told-refused : {values : List Row → ℕ → List Value} {e : Refusal} → r ≡ Refused e
-      → RecordPromise values a numbers (refuses e) t′
+      → RecordPromise values a numbers (refusal e) t′
   told-refused {values} q = record { reply = sym (ap (answerOf values) ((rw q at p) .reply)); table = p .table }
 
   module _ {b : Below} {n : ℕ} (q : r ≡ At b n) where

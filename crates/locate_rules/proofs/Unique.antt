@@ -3,17 +3,12 @@ use Prim.Native.Nat.{ℕ}
 use mathlib.Core.Path.{_≡_, sym, ap, _∙_}
 use mathlib.Core.List.{List}
 use lib.ListN.{length}
-use Rattle.refusals.specs.declared.refusal.Refusal.{Refusal}
-use Rattle.header.proofs.Unique.{same-refusal}
 use Rattle.elements_rules.specs.declared.row.Row.{Row}
 use Rattle.fields_rules.specs.Values.{Value}
 use Rattle.locate_rules.specs.Asked.{Asked, tableAfter}
-use Rattle.locate_rules.specs.Told.{Answer, refuses}
+use Rattle.locate_rules.specs.Told.{Answer}
 use Rattle.locate_rules.specs.Promise.{answerOf, RecordPromise}
 use Rattle.locate_rules.specs.Theorems.{OneAnswer, OneReply}
-
-pub same-refused : (e f : Refusal) → refuses e ≡ refuses f → e ≡ f
-same-refused e f q = same-refusal e f (cc) (cc)
 
 -- The question of one length of the table is that of another.
 pub one-answer : OneAnswer

@@ -7,12 +7,12 @@ use Rattle.elements_rules.specs.declared.row.Row.{Row}
 use Rattle.fields_rules.specs.Children.{subtree}
 use Rattle.fields_rules.specs.Values.{Value}
 use Rattle.locate_rules.specs.Asked.{Asked, found, refusing, tableAfter}
-use Rattle.locate_rules.specs.Told.{Answer, fields, refuses}
+use Rattle.locate_rules.specs.Told.{Answer, fields, refusal}
 
 -- The answer: the fields of the master that was asked for, and how many rows were read.
 abbrev pub answerOf : (List Row → ℕ → List Value) → Asked → Answer
 answerOf values (found rs parent) = fields (values rs parent) (length rs)
-answerOf values (refusing e) = refuses e
+answerOf values (refusing e) = refusal e
 
 -- The reply, told in document 01's terms, and the table at exit, for a table of so many numbers.
 pub record RecordPromise

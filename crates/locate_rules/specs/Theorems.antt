@@ -3,6 +3,8 @@ use Prim.Native.Nat.{ℕ, _+_, _<_}
 use mathlib.Core.Path.{_≡_}
 use mathlib.Core.List.{List, [], _∷_}
 use lib.ListN.{length}
+use Rattle.refusals.specs.Theorems.{Listed}
+use Rattle.refusals.specs.declared.refusal.Refusal.{Refusal}
 use Rattle.elements_rules.specs.Rows.{rowsOf, nth}
 use Rattle.elements_rules.specs.Promise.{ReadPromise}
 use Rattle.elements_rules.specs.declared.row.Row.{Row}
@@ -27,6 +29,10 @@ abbrev pub OneReply : {R : Type 0} → (List ℕ → R → List ℕ → Type 0) 
 OneReply {R} Permits =
     (t u : List ℕ) (r r′ : R) (t′ u′ : List ℕ) → length t ≡ length u → Permits t r t′ → Permits u r′ u′
     → (r ≡ r′) × (t′ ≡ u′)
+
+-- A refusal among the replies that a promise permits is one of document 01's list.
+abbrev pub OnlyListed : {R : Type 0} → (Refusal → R) → (List ℕ → R → List ℕ → Type 0) → Type 0
+OnlyListed refused Permits = (t : List ℕ) (e : Refusal) (t′ : List ℕ) → Permits t (refused e) t′ → Listed e
 
 -- ---- each thing that is named has its address
 

@@ -4,6 +4,7 @@ use Prim.Native.Nat.{ℕ}
 use mathlib.Core.List.{List, [], _∷_}
 use lib.ListN.{length}
 use lib.Ieee.{binary64, ofBits}
+use Rattle.refusals.specs.Refusals.{noRecord}
 use Rattle.fields_rules.specs.Values.{unset, real}
 use Rattle.locate_rules.specs.Told.{Answer, fields, refusal}
 use Rattle.locate_rules.specs.Promise.{answerOf, ofBelow}
@@ -23,5 +24,5 @@ abbrev pub cases : List Case
 cases =
     -- A float of 4 bytes is widened; audio has only record 0.
     audio rateOfOne 0 (fields (real (ofBits binary64 0x3FF0000000000000) ∷ unset ∷ unset ∷ []) 1)
-    ∷ audio rateOfOne 1 (refusal 15 0)
+    ∷ audio rateOfOne 1 (refusal noRecord)
     ∷ []

@@ -2,7 +2,7 @@
 use mathlib.Core.List.{List, [], _∷_}
 use Rattle.fields_rules.specs.Values.{Value, unset, number}
 use Rattle.fields_rules.specs.Told.{numberTold, flagTold, realTold}
-use Rattle.locate_rules.specs.Told.{Answer, fields, refuses}
+use Rattle.locate_rules.specs.Told.{Answer, fields, refusal}
 use Rattle.codes.specs.Stereo.{stereoNumber}
 use Rattle.media_rules.specs.declared.audio.Audio.{Audio}
 use Rattle.media_rules.specs.declared.audio.AudioReply.{AudioReply}
@@ -37,4 +37,4 @@ videoValues v =
 
 abbrev pub audioTold : AudioReply → Answer
 audioTold (IsAudio a rows) = fields (audioValues a) rows
-audioTold (NoAudio e) = refuses e
+audioTold (NoAudio e) = refusal e

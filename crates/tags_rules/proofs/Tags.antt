@@ -23,7 +23,7 @@ use Rattle.fields_rules.specs.declared.child.Child.the-variants.{At as ChildAt,
 use Rattle.fields_rules.specs.declared.field.Number.{Number}
 use Rattle.fields_rules.specs.declared.field.Number.the-variants.{Unset, Is}
 use Rattle.locate_rules.specs.Asked.{Asked, found, refusing, hasMember, listed, tableAfter}
-use Rattle.locate_rules.specs.Told.{fields, refuses}
+use Rattle.locate_rules.specs.Told.{fields, refusal}
 use Rattle.locate_rules.specs.Contract.{Stands, LocateMet}
 use Rattle.locate_rules.specs.Promise.{answerOf, RecordPromise}
 use Rattle.locate_rules.specs.declared.steps.Located.{Located}
@@ -92,7 +92,7 @@ module _ (s : List ℕ) {a : Asked} {numbers : ℕ} {r : Located} {t₁ : List �
   question = listed a (memberOf list i)
 
   pub uid-refused : {e : Refusal} → r ≡ Refused e
-      → RecordPromise (uidOf s list i) question numbers (refuses e) t₁
+      → RecordPromise (uidOf s list i) question numbers (refusal e) t₁
   uid-refused {e} q =
       let w : a ≡ refusing e = (rw q at p) .reply in
       let d : question ≡ refusing e = ap (λ (x : Asked). listed x (memberOf list i)) w in
@@ -116,7 +116,7 @@ module _ (s : List ℕ) {a : Asked} {numbers : ℕ} {r : Located} {t₁ : List �
     asks = ap (λ (x : Asked). listed x (memberOf list i)) ((rw q at p) .reply .0)
 
     pub uid-none : {f : Refusal} {t′ : List ℕ} → m ≡ Unset → f ≡ noRecord → length t₁ ≡ numbers
-        → t′ ≡ zeros (length t₁) → RecordPromise (uidOf s list i) question numbers (refuses f) t′
+        → t′ ≡ zeros (length t₁) → RecordPromise (uidOf s list i) question numbers (refusal f) t′
     uid-none {f} u w l z =
         let d : question ≡ refusing f = asks ∙ no-member s _ member (rw u at told) ∙ ap refusing (sym w) in
         record {

@@ -1,15 +1,17 @@
--- Any two replies and tables that a promise permits to one question are equal. Assumes nothing.
+-- Any two replies and tables that a promise permits to one question are equal, and its refusals are listed. Assumes
+-- nothing.
 use Prim.Native.Nat.{ℕ}
 use mathlib.Core.Path.{_≡_, refl, ap}
 use mathlib.Core.List.{[], _∷_, _++_}
 use native.Mathlib.Omega.{arith}
 use Rattle.fields_rules.specs.Values.{count}
+use Rattle.refusals.proofs.Listed.{listed}
 use Rattle.fields_rules.proofs.Once.{number-once, flag-once, content-once, language-once, value-once, count-once}
-use Rattle.locate_rules.proofs.Unique.{same-refused, one-reply}
+use Rattle.locate_rules.proofs.Unique.{one-reply}
 use Rattle.tags_rules.specs.Told.{targetValues, targetsValues, tagValues, simpleValues}
 use Rattle.tags_rules.specs.Told.{tagTold, uidTold, simpleTold}
 use Rattle.tags_rules.specs.Promise.{tagAsked, uidAsked, simpleAsked}
-use Rattle.tags_rules.specs.Theorems.{OneTag, OneUid, OneSimple}
+use Rattle.tags_rules.specs.Theorems.{OneTag, OneUid, OneSimple, RefusesListed}
 use Rattle.tags_rules.specs.declared.simple.SimpleTag.{SimpleTag}
 use Rattle.tags_rules.specs.declared.simple.SimpleReply.{SimpleReply}
 use Rattle.tags_rules.specs.declared.simple.SimpleReply.the-variants.{Simple as IsSimple, Refused as NoSimple}
@@ -62,19 +64,19 @@ simple-told : (r r′ : SimpleReply) → simpleTold r ≡ simpleTold r′ → r 
 simple-told (IsSimple a n) (IsSimple b m) q = cc (simple-once a b (cc))
 simple-told (IsSimple a n) (NoSimple e) q = cc
 simple-told (NoSimple e) (IsSimple b m) q = cc
-simple-told (NoSimple e) (NoSimple f) q = cc (same-refused e f q)
+simple-told (NoSimple e) (NoSimple f) q = cc
 
 tag-told : (r r′ : TagReply) → tagTold r ≡ tagTold r′ → r ≡ r′
 tag-told (IsTag a n) (IsTag b m) q = cc (tag-once a b (cc))
 tag-told (IsTag a n) (NoTag e) q = cc
 tag-told (NoTag e) (IsTag b m) q = cc
-tag-told (NoTag e) (NoTag f) q = cc (same-refused e f q)
+tag-told (NoTag e) (NoTag f) q = cc
 
 uid-told : (r r′ : UidReply) → uidTold r ≡ uidTold r′ → r ≡ r′
 uid-told (Uid a n) (Uid b m) q = cc
 uid-told (Uid a n) (NoUid e) q = cc
 uid-told (NoUid e) (Uid b m) q = cc
-uid-told (NoUid e) (NoUid f) q = cc (same-refused e f q)
+uid-told (NoUid e) (NoUid f) q = cc
 
 -- ---- the theorems
 
@@ -86,3 +88,11 @@ uid-unique s start size k list i = one-reply _ (uidAsked s start size k list i) 
 
 pub simple-unique : OneSimple
 simple-unique s start size k i = one-reply _ (simpleAsked s start size k i) simpleTold simple-told
+
+pub refuses-listed : RefusesListed
+refuses-listed =
+    record {
+      tag = λ s start size k t e t′ p. listed e;
+      uid = λ s start size k list i t e t′ p. listed e;
+      simple = λ s start size k i t e t′ p. listed e;
+    }

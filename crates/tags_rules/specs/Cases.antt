@@ -4,6 +4,7 @@ use Prim.Native.Nat.{ℕ}
 use mathlib.Core.List.{List, [], _∷_}
 use mathlib.Core.Bool.{true, false}
 use lib.ListN.{length}
+use Rattle.refusals.specs.Refusals.{noRecord}
 use Rattle.fields_rules.specs.Values.{unset, number, flag, text, binary, count}
 use Rattle.locate_rules.specs.Told.{Answer, fields, refusal}
 use Rattle.locate_rules.specs.Promise.{answerOf, ofBelow}
@@ -45,13 +46,13 @@ cases =
     -- Only the last Targets counts: no track uids, and no member.
     tag twoTargets 0
     (fields (flag true ∷ unset ∷ unset ∷ count 0 ∷ count 0 ∷ count 0 ∷ count 0 ∷ count 0 ∷ []) 4)
-    ∷ uid twoTargets 0 Track 0 (refusal 15 0)
+    ∷ uid twoTargets 0 Track 0 (refusal noRecord)
     -- The members of a list in their order.
     ∷ uid twoUids 0 Track 0 (fields (number 7 ∷ []) 4)
     ∷ uid twoUids 0 Track 1 (fields (number 8 ∷ []) 4)
     -- A list member of a tag without Targets.
     ∷ tag bytesThenText 0 (fields (flag false ∷ count 1 ∷ []) 4)
-    ∷ uid bytesThenText 0 Track 0 (refusal 15 0)
+    ∷ uid bytesThenText 0 Track 0 (refusal noRecord)
     -- The last of a text and bytes is the value.
     ∷ simple bytesThenText 0 0 (fields (unset ∷ unset ∷ unset ∷ text 13 0 ∷ []) 4)
     ∷ simple textThenBytes 0 0 (fields (unset ∷ unset ∷ unset ∷ binary 12 1 ∷ []) 4)

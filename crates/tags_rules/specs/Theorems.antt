@@ -2,11 +2,14 @@
 use Prim.Native.Nat.{ℕ}
 use mathlib.Core.List.{List}
 use Rattle.locate_rules.specs.Promise.{ofBelow}
-use Rattle.locate_rules.specs.Theorems.{OneReply, Addressed}
+use Rattle.locate_rules.specs.Theorems.{OneReply, OnlyListed, Addressed}
 use Rattle.tags_rules.specs.Records.{tagOf, uidOf, simpleOf}
 use Rattle.tags_rules.specs.Promise.{tagAsked, uidAsked, simpleAsked}
 use Rattle.tags_rules.specs.Promise.{TagPromise, UidPromise, SimplePromise}
 use Rattle.tags_rules.specs.declared.uid.UidList.{UidList}
+use Rattle.tags_rules.specs.declared.tag.TagReply.the-variants.{Refused as NoTag}
+use Rattle.tags_rules.specs.declared.uid.UidReply.the-variants.{Refused as NoUid}
+use Rattle.tags_rules.specs.declared.simple.SimpleReply.the-variants.{Refused as NoSimple}
 
 -- Any two replies and tables that a promise permits to one question are equal (document 01, Strength of the promises).
 -- The numbers that stood in the lent table do not matter, only how many there are.
@@ -18,6 +21,12 @@ OneUid = (s : List ℕ) (start size k : ℕ) (list : UidList) (i : ℕ) → OneR
 
 abbrev pub OneSimple : Type 0
 OneSimple = (s : List ℕ) (start size k i : ℕ) → OneReply (SimplePromise s start size k i)
+
+-- A refusal among the replies that a promise permits is one of document 01's list.
+pub record RefusesListed : Type 0 where
+  pub tag : (s : List ℕ) (start size k : ℕ) → OnlyListed NoTag (TagPromise s start size k)
+  pub uid : (s : List ℕ) (start size k : ℕ) (list : UidList) (i : ℕ) → OnlyListed NoUid (UidPromise s start size k list i)
+  pub simple : (s : List ℕ) (start size k i : ℕ) → OnlyListed NoSimple (SimplePromise s start size k i)
 
 -- Every address in a record that is told is the payload's place of one of the rows that the table holds at exit.
 pub record TagsAddressed : Type 0 where

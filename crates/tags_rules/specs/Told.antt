@@ -3,7 +3,7 @@ use mathlib.Core.List.{List, [], _∷_, _++_}
 use mathlib.Core.Bool.{true, false}
 use Rattle.fields_rules.specs.Values.{Value, number, flag, count}
 use Rattle.fields_rules.specs.Told.{numberTold, flagTold, contentTold, languageTold, valueTold}
-use Rattle.locate_rules.specs.Told.{Answer, fields, refuses}
+use Rattle.locate_rules.specs.Told.{Answer, fields, refusal}
 use Rattle.tags_rules.specs.declared.tag.Target.{Target}
 use Rattle.tags_rules.specs.declared.tag.Targets.{Targets}
 use Rattle.tags_rules.specs.declared.tag.Targets.the-variants.{Unset, Set}
@@ -43,12 +43,12 @@ tagValues t = targetsValues (t .targets) ++ (count (t .simple) ∷ [])
 
 abbrev pub tagTold : TagReply → Answer
 tagTold (IsTag a rows) = fields (tagValues a) rows
-tagTold (NoTag e) = refuses e
+tagTold (NoTag e) = refusal e
 
 abbrev pub uidTold : UidReply → Answer
 uidTold (Uid uid rows) = fields (number uid ∷ []) rows
-uidTold (NoUid e) = refuses e
+uidTold (NoUid e) = refusal e
 
 abbrev pub simpleTold : SimpleReply → Answer
 simpleTold (IsSimple a rows) = fields (simpleValues a) rows
-simpleTold (NoSimple e) = refuses e
+simpleTold (NoSimple e) = refusal e

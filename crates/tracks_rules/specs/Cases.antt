@@ -5,6 +5,8 @@ use mathlib.Core.List.{List, [], _∷_}
 use mathlib.Core.Bool.{true, false}
 use lib.ListN.{length}
 use lib.Ieee.{binary64, ofBits}
+use Rattle.refusals.specs.Refusals.{because, noRecord}
+use Rattle.refusals.specs.declared.refusal.Cause.the-variants.{InvalidUint}
 use Rattle.fields_rules.specs.Values.{Value, unset, number, flag, content, iso, ietf, real}
 use Rattle.locate_rules.specs.Told.{Answer, fields, refusal}
 use Rattle.locate_rules.specs.Promise.{answerOf}
@@ -86,7 +88,7 @@ cases =
     track twoEntries 0 (fields bare 7)
     -- The last child sets a field; any number but 0 is yes.
     ∷ track twoEntries 1 (fields (few (number 2) (number 17) (flag true) (content 19 1) unset (unset ∷ [])) 7)
-    ∷ track twoEntries 2 (refusal 15 0)
+    ∷ track twoEntries 2 (refusal noRecord)
     -- Any other number is the type Unknown; an ISO 639 language never replaces an IETF one.
     ∷ track languages 0 (fields (few unset (number 0) unset unset (ietf 9 1) (unset ∷ [])) 4)
     -- The last settings count, whichever they are.
@@ -104,9 +106,9 @@ cases =
     ∷ track full 0 (fields fullValues 16)
     -- What an earlier E0 held is not kept; an entry inside an entry is none of Tracks, and sets nothing.
     ∷ track twoVideos 0 (fields (few unset unset unset unset unset (video unset unset unset)) 6)
-    ∷ track twoVideos 1 (refusal 15 0)
+    ∷ track twoVideos 1 (refusal noRecord)
     -- The full set of masters holds for the direct children of Tracks: an E0 there has a row below it.
     ∷ track (0xE0 ∷ 0x83 ∷ 0xB0 ∷ 0x81 ∷ 0x05 ∷ 0xAE ∷ 0x80 ∷ []) 0 (fields bare 3)
     -- The read's refusals come before 15: here a number of 9 bytes, and no second entry.
-    ∷ track (0xAE ∷ 0x82 ∷ 0xD7 ∷ 0x89 ∷ []) 1 (refusal 4 0)
+    ∷ track (0xAE ∷ 0x82 ∷ 0xD7 ∷ 0x89 ∷ []) 1 (refusal (because InvalidUint))
     ∷ []

@@ -2,7 +2,7 @@
 use mathlib.Core.List.{List, [], _∷_}
 use Rattle.fields_rules.specs.Values.{Value, unset, number}
 use Rattle.fields_rules.specs.Told.{numberTold, flagTold, contentTold, languageTold}
-use Rattle.locate_rules.specs.Told.{Answer, fields, refuses}
+use Rattle.locate_rules.specs.Told.{Answer, fields, refusal}
 use Rattle.media_rules.specs.Told.{audioValues, videoValues}
 use Rattle.tracks_rules.specs.Typed.{typeNumber}
 use Rattle.tracks_rules.specs.declared.typed.Typed.{Typed}
@@ -50,4 +50,4 @@ trackValues t =
 
 abbrev pub trackTold : TrackReply → Answer
 trackTold (IsTrack a rows) = fields (trackValues a) rows
-trackTold (NoTrack e) = refuses e
+trackTold (NoTrack e) = refusal e

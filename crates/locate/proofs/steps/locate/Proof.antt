@@ -7,5 +7,5 @@ use Rattle.locate.proofs.steps.locate.Tie as tie
 pub locate-spec : {M : Type 1} → statement M
 locate-spec =
     tie.close (tie.spec (λ c κs. search needs) (λ c. search needs) (λ c. search needs) (λ c κs. search read-ordered)
-    (λ c. search needs) (λ c κs. search needs) (λ c κs. search needs) (λ c. search needs) (λ c. search needs)
-    (λ c. search read-refused) (λ c. search needs) (λ c. search found-none) (λ c. search needs) (λ c. search found-at))
+    (λ c. search needs) (λ c κs. search needs) (λ c. search needs) (λ c. search needs) (λ c. search read-refused)
+    (λ c. search needs) (λ c. search found-none) (λ c. search needs) (λ c. search found-at))

@@ -8,5 +8,5 @@ use Rattle.tags.proofs.uid.uid_at.Tie as tie
 pub uid-at-spec : {M : Type 1} → statement M
 uid-at-spec =
     tie.close (tie.spec (λ c κs. search needs) (λ c. search needs) (λ c. search needs) (λ c κs. search readable-at)
-    (λ c. search needs) (λ c κs. search needs) (λ c κs. search needs) (λ c. search needs) (λ c. search needs)
-    (λ c. search uid-refused) (λ c. search needs) (λ c. search uid-none) (λ c. search needs) (λ c. search uid-found))
+    (λ c. search needs) (λ c κs. search needs) (λ c. search needs) (λ c. search needs) (λ c. search uid-refused)
+    (λ c. search needs) (λ c. search uid-none) (λ c. search needs) (λ c. search uid-found))
