@@ -7,29 +7,24 @@ use Rattle.codes.specs.declared.tracktype.Tracktype.{Tracktype}
 use Rattle.codes.specs.declared.tracktype.Tracktype.the-variants.{Video, Audio, Complex, Logo}
 use Rattle.codes.specs.declared.tracktype.Tracktype.the-variants.{Subtitle, Buttons, Control, Unknown}
 
--- A type with its number.
-pub record Entry : Type 0 where
-  pub number : ℕ
-  pub type : Tracktype
+-- The number of each type; Unknown has 0, which no type has.
+abbrev pub typeNumber : Tracktype → ℕ
+typeNumber Video = 1
+typeNumber Audio = 2
+typeNumber Complex = 3
+typeNumber Logo = 16
+typeNumber Subtitle = 17
+typeNumber Buttons = 18
+typeNumber Control = 32
+typeNumber Unknown = 0
 
-abbrev row : ℕ → Tracktype → Entry
-row number type = record { number = number; type = type }
-
-abbrev pub types : List Entry
-types =
-    row 1 Video
-    ∷ row 2 Audio
-    ∷ row 3 Complex
-    ∷ row 16 Logo
-    ∷ row 17 Subtitle
-    ∷ row 18 Buttons
-    ∷ row 32 Control
-    ∷ []
+abbrev pub types : List Tracktype
+types = Video ∷ Audio ∷ Complex ∷ Logo ∷ Subtitle ∷ Buttons ∷ Control ∷ []
 
 -- The type with a number; any other number is Unknown.
-unfoldable pub typeIn : List Entry → ℕ → Tracktype
+unfoldable pub typeIn : List Tracktype → ℕ → Tracktype
 typeIn [] n = Unknown
-typeIn (t ∷ ts) n = cond (eqb n (t .number)) (t .type) (typeIn ts n)
+typeIn (t ∷ ts) n = cond (eqb n (typeNumber t)) t (typeIn ts n)
 
 abbrev pub tracktypeOf : ℕ → Tracktype
 tracktypeOf n = typeIn types n

@@ -1,7 +1,7 @@
 // The settings of a track (document 01, Records; document 02, C-11), audio and video.
 //
 // The question takes the place of an E1 payload, reads it into a lent table and builds the record asked for.
-// `audio_in` and `video_in` are for the crate above, which builds them from rows that were read.
+// The builders are for the crates above, which ask many records of one read.
 mod audio;
 mod stereo;
 mod video;

@@ -2,6 +2,7 @@
 use Prim.Native.Nat.{ℕ}
 use mathlib.Core.List.{List}
 use lib.ListN.{length}
+use Rattle.locate_rules.specs.Steps.{way}
 use Rattle.locate_rules.specs.Asked.{Asked, asked}
 use Rattle.locate_rules.specs.Promise.{RecordPromise, ofBelow}
 use Rattle.locate_rules.specs.declared.steps.Step.the-variants.{Here, Only}
@@ -15,7 +16,7 @@ use Rattle.media_rules.specs.declared.audio.AudioReply.{AudioReply}
 module _ (s : List ℕ) (start size k : ℕ) where
   -- The whole payload is the one record.
   abbrev pub audioAsked : ℕ → Asked
-  audioAsked numbers = asked s start size 0xE1 numbers (Only k) Here Here
+  audioAsked numbers = asked s start size 0xE1 numbers (way (Only k) Here Here)
 
 -- ---- the promises
 

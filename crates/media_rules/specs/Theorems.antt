@@ -1,20 +1,20 @@
 -- What is proved of the definitions beside the contracts: the statements of the theorems.
 use Prim.Native.Nat.{ℕ}
-use mathlib.Core.Path.{_≡_}
 use mathlib.Core.List.{List}
-use lib.ListN.{length}
 use Rattle.locate_rules.specs.Promise.{ofBelow}
-use Rattle.locate_rules.specs.Theorems.{Addressed}
+use Rattle.locate_rules.specs.Theorems.{OneReply, OnlyListed, Addressed}
 use Rattle.media_rules.specs.Records.{audioOf}
 use Rattle.media_rules.specs.Promise.{audioAsked, AudioPromise}
-use Rattle.media_rules.specs.declared.audio.AudioReply.{AudioReply}
+use Rattle.media_rules.specs.declared.audio.AudioReply.the-variants.{Refused as NoAudio}
 
 -- Any two replies and tables that a promise permits to one question are equal (document 01, Strength of the promises).
 -- The numbers that stood in the lent table do not matter, only how many there are.
 abbrev pub OneAudio : Type 0
-OneAudio =
-    (s : List ℕ) (start size k : ℕ) (t u : List ℕ) (r r′ : AudioReply) (t′ u′ : List ℕ) → length t ≡ length u
-    → AudioPromise s start size k t r t′ → AudioPromise s start size k u r′ u′ → (r ≡ r′) × (t′ ≡ u′)
+OneAudio = (s : List ℕ) (start size k : ℕ) → OneReply (AudioPromise s start size k)
+
+-- A refusal among the replies that the promise permits is one of document 01's list.
+pub record RefusesListed : Type 0 where
+  pub audio : (s : List ℕ) (start size k : ℕ) → OnlyListed NoAudio (AudioPromise s start size k)
 
 -- Every address in a record that is told is the payload's place of one of the rows that the table holds at exit.
 pub record MediaAddressed : Type 0 where
