@@ -2,11 +2,11 @@
 use Prim.Native.Nat.{ℕ}
 use mathlib.Core.Path.{_≡_, ap}
 use mathlib.Core.List.{List, _∷_}
-use lib.ListN.{length}
+use lib.ListN.{length, drop, getD}
 use Rattle.kinds.specs.declared.kind.Kind.{Kind}
 use Rattle.elements_rules.specs.declared.row.Row.{Row}
 use Rattle.fields_rules.specs.Children.{children}
-use Rattle.fields_rules.specs.Values.{Value, count}
+use Rattle.fields_rules.specs.Values.{Value, unset, count}
 use Rattle.fields_rules.specs.Fields.{countOf}
 
 pub then : {a b : Value} {l m : List Value} → a ≡ b → l ≡ m → a ∷ l ≡ b ∷ m
@@ -17,13 +17,9 @@ pub counted : (s : List ℕ) (parent : ℕ) (below : List Row) (id : ℕ) (kind 
 unfolding countOf
 counted s parent below id kind n e = ap count e
 
--- ---- and apart again
+-- And one by its number; those behind it.
+pub told-at : {l m : List Value} (k : ℕ) → l ≡ m → getD l k unset ≡ getD m k unset
+told-at k q = ap (λ (x : List Value). getD x k unset) q
 
-pub first : {a b : Value} {l m : List Value} → a ∷ l ≡ b ∷ m → a ≡ b
-first {a} {b} {l} {m} q = cc
-
-pub rest : {a b : Value} {l m : List Value} → a ∷ l ≡ b ∷ m → l ≡ m
-rest {a} {b} {l} {m} q = cc
-
-pub count-once : (n m : ℕ) → count n ≡ count m → n ≡ m
-count-once n m q = cc
+pub told-from : {l m : List Value} (k : ℕ) → l ≡ m → drop k l ≡ drop k m
+told-from k q = ap (drop k) q

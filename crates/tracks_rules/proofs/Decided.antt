@@ -1,5 +1,5 @@
 -- The Video or Audio that decides on the settings of a track, and the settings that it holds. Assumes nothing.
-use Prim.Native.Nat.{ℕ, _+_, _≤_, _<_}
+use Prim.Native.Nat.{ℕ, _+_, _^_, _≤_, _<_}
 use mathlib.Core.Path.{_≡_, refl, sym, ap, _∙_, subst}
 use mathlib.Core.List.{List, [], _∷_}
 use mathlib.Core.Bool.{Bool, true, false, cond}
@@ -27,16 +27,23 @@ use Rattle.tracks_rules.specs.declared.settings.Deciding.the-variants.{N
 pub decided-by : (v v′ a a′ : Child) → v ≡ v′ → a ≡ a′ → decided v′ a′ ≡ decided v a
 decided-by v v′ a a′ p q = sym (ap (λ (x : Child). decided x a) p ∙ ap (decided v′) q)
 
-module _ (v a : Child) (n m : ℕ) (r q : Row) (p : v ≡ ChildAt n r) (e : a ≡ ChildAt m q) where
-  pub audio-later : n < m → Audio m ≡ decided v a
-  audio-later l =
-      let z : cond (ltb n m) (Audio m) (Video n) ≡ Audio m = rw (lt-ltb n m l) refl in
-      sym z ∙ decided-by v (ChildAt n r) a (ChildAt m q) p e
+module _ {v a : Child} where
+  pub video-alone : {n : ℕ} {r : Row} → v ≡ ChildAt n r → a ≡ NoChild → Video n ≡ decided v a
+  video-alone {n} {r} p e = decided-by v (ChildAt n r) a NoChild p e
 
-  pub video-later : m ≤ n → Video n ≡ decided v a
-  video-later l =
-      let z : cond (ltb n m) (Audio m) (Video n) ≡ Video n = rw (le-ltb n m l) refl in
-      sym z ∙ decided-by v (ChildAt n r) a (ChildAt m q) p e
+  pub audio-alone : {m : ℕ} {q : Row} → v ≡ NoChild → a ≡ ChildAt m q → Audio m ≡ decided v a
+  audio-alone {m} {q} p e = decided-by v NoChild a (ChildAt m q) p e
+
+  module _ {n m : ℕ} {r q : Row} (p : v ≡ ChildAt n r) (e : a ≡ ChildAt m q) where
+    pub audio-later : n < m → Audio m ≡ decided v a
+    audio-later l =
+        let z : cond (ltb n m) (Audio m) (Video n) ≡ Audio m = rw (lt-ltb n m l) refl in
+        sym z ∙ decided-by v (ChildAt n r) a (ChildAt m q) p e
+
+    pub video-later : m ≤ n → Video n ≡ decided v a
+    video-later l =
+        let z : cond (ltb n m) (Audio m) (Video n) ≡ Video n = rw (le-ltb n m l) refl in
+        sym z ∙ decided-by v (ChildAt n r) a (ChildAt m q) p e
 
 -- ---- what decides is there: what holds of the last Video or Audio holds of it
 
@@ -63,52 +70,51 @@ module _ (P : ℕ → Type 0) where
 
 -- ---- the settings below a master
 
-module _ (s t : List ℕ) (rows : ℕ) (b : Below) (h : Stands s t rows b) (v a : Child)
-    (p : v ≡ lastInner s t rows b h 0xE0) (q : a ≡ lastInner s t rows b h 0xE1)
-  where
-    pub video-known : (n : ℕ) → Video n ≡ decided v a → n + 1 ≤ rows
-    video-known n d =
-        video-is (λ m. m + 1 ≤ rows) v a n (λ m r e. inner-known s t rows b h 0xE0 m r (e ∙ p)) d
+module _ {s t : List ℕ} {rows : ℕ} {b : Below} (h : Stands s t rows b) {v a : Child}
+    (p : v ≡ lastInner t b 0xE0) (q : a ≡ lastInner t b 0xE1) {d : Deciding} (e : d ≡ decided v a) where
+  pub video-known : {n : ℕ} → d ≡ Video n → n + 1 ≤ rows
+  video-known {n} w =
+      video-is (λ m. m + 1 ≤ rows) v a n (λ m r f. inner-known h 0xE0 p (sym f)) (sym w ∙ e)
 
-    pub audio-known : (n : ℕ) → Audio n ≡ decided v a → n + 1 ≤ rows
-    audio-known n d =
-        audio-is (λ m. m + 1 ≤ rows) v a n (λ m r e. inner-known s t rows b h 0xE1 m r (e ∙ q)) d
+  pub audio-known : {n : ℕ} → d ≡ Audio n → n + 1 ≤ rows
+  audio-known {n} w =
+      audio-is (λ m. m + 1 ≤ rows) v a n (λ m r f. inner-known h 0xE1 q (sym f)) (sym w ∙ e)
 
-    settings-by : (d : Deciding) → d ≡ decided v a
-        → settingsIn s (rowsOf t rows) (b .parent) d ≡ settingsOf s (rowsOf t rows) (b .parent)
-    unfolding settingsOf
-    settings-by d e =
-        ap (settingsIn s (rowsOf t rows) (b .parent))
-        (e
-        ∙ sym (decided-by v _ a _ (inner-is s t rows b h 0xE0 v p) (inner-is s t rows b h 0xE1 a q)))
+  pub video-fits : {n : ℕ} → d ≡ Video n → rows < 2 ^ 64 → n + 1 < 2 ^ 64
+  video-fits w u = let k = video-known w in omega arith
 
-    pub no-settings : None ≡ decided v a → unset ∷ [] ≡ settingsOf s (rowsOf t rows) (b .parent)
-    no-settings e = settings-by None e
+  pub audio-fits : {n : ℕ} → d ≡ Audio n → rows < 2 ^ 64 → n + 1 < 2 ^ 64
+  audio-fits w u = let k = audio-known w in omega arith
 
-    module _ (n : ℕ) (inner : Below) (i : BelowIs t rows (n + 1) inner) (vs : List Value) where
-      pub video-settings :
-          Video n ≡ decided v a → vs ≡ videoOf s (inner .parent) (rowsIn t inner)
-          → number 1 ∷ vs ≡ settingsOf s (rowsOf t rows) (b .parent)
-      video-settings e w =
-          ap (λ (x : List Value). number 1 ∷ x) (inner-fields s t rows b h (videoOf s) vs n inner i w)
-          ∙ settings-by (Video n) e
+  settings-by : (c : Deciding) → d ≡ c
+      → settingsIn s (rowsOf t rows) (b .parent) c ≡ settingsOf s (rowsOf t rows) (b .parent)
+  unfolding settingsOf
+  settings-by c w =
+      ap (settingsIn s (rowsOf t rows) (b .parent))
+      (sym w ∙ e ∙ sym (decided-by v _ a _ (inner-is h 0xE0 p) (inner-is h 0xE1 q)))
 
-      pub audio-settings :
-          Audio n ≡ decided v a → vs ≡ audioOf s (inner .parent) (rowsIn t inner)
-          → number 2 ∷ vs ≡ settingsOf s (rowsOf t rows) (b .parent)
-      audio-settings e w =
-          ap (λ (x : List Value). number 2 ∷ x) (inner-fields s t rows b h (audioOf s) vs n inner i w)
-          ∙ settings-by (Audio n) e
+  pub no-settings : d ≡ None → unset ∷ [] ≡ settingsOf s (rowsOf t rows) (b .parent)
+  no-settings w = settings-by None w
+
+  module _ {n : ℕ} {inner : Below} (i : BelowIs t rows (n + 1) inner) {vs : List Value} where
+    pub video-settings : d ≡ Video n → vs ≡ videoOf s (inner .parent) (rowsIn t inner)
+        → number 1 ∷ vs ≡ settingsOf s (rowsOf t rows) (b .parent)
+    video-settings w f =
+        ap (λ (x : List Value). number 1 ∷ x) (inner-fields (videoOf s) t rows n i f) ∙ settings-by (Video n) w
+
+    pub audio-settings : d ≡ Audio n → vs ≡ audioOf s (inner .parent) (rowsIn t inner)
+        → number 2 ∷ vs ≡ settingsOf s (rowsOf t rows) (b .parent)
+    audio-settings w f =
+        ap (λ (x : List Value). number 2 ∷ x) (inner-fields (audioOf s) t rows n i f) ∙ settings-by (Audio n) w
 
 -- ---- the track itself
 
 -- Its fields are built of the rows below it, which stand among those that were read.
 pub track-is :
-    (s t : List ℕ) (rows : ℕ) (b : Below) → Stands s t rows b → (vs settings : List Value)
-    → settings ≡ settingsOf s (rowsOf t rows) (b .parent)
-    → vs ≡ entryOf s (b .parent) (rowsIn t b) settings
+    {s t : List ℕ} {rows : ℕ} {b : Below} {vs settings : List Value} → Stands s t rows b
+    → settings ≡ settingsOf s (rowsOf t rows) (b .parent) → vs ≡ entryOf s (b .parent) (rowsIn t b) settings
     → vs ≡ trackOf s (rowsOf t rows) (b .parent)
 unfolding trackOf
-track-is s t rows b h vs settings e q =
+track-is {s} {t} {rows} {b} h e q =
     q ∙ ap (entryOf s (b .parent) (rowsIn t b)) e
     ∙ ap (λ (x : List Row). entryOf s (b .parent) x (settingsOf s (rowsOf t rows) (b .parent))) (h .below .are)

@@ -33,11 +33,11 @@ module _ (parent : ℕ) (below : List Row) where
       go : (b : Bool) → ltb (parent + k) (parent + j) ≡ b → Decides parent below (decided v a)
       go true e =
           let n = ltb-true (parent + k) (parent + j) e in
-          audio j o g (sym (audio-later v a (parent + k) (parent + j) _ _ p q n))
+          audio j o g (sym (audio-later p q n))
           (λ m h b. (after m (omega (arith, h, n)) b, behind m (omega (arith, h)) b))
       go false e =
           let n = ltb-false (parent + k) (parent + j) e in
-          video k l f (sym (video-later v a (parent + k) (parent + j) _ _ p q n))
+          video k l f (sym (video-later p q n))
           (λ m h b. (after m (omega (arith, h)) b, behind m (omega (arith, h, n)) b))
 
 pub last-decides : LastDecides

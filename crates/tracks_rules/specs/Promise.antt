@@ -2,6 +2,7 @@
 use Prim.Native.Nat.{ℕ}
 use mathlib.Core.List.{List}
 use lib.ListN.{length}
+use Rattle.locate_rules.specs.Steps.{way}
 use Rattle.locate_rules.specs.Asked.{Asked, asked}
 use Rattle.locate_rules.specs.Promise.{RecordPromise}
 use Rattle.locate_rules.specs.declared.steps.Step.the-variants.{Here, Nth}
@@ -14,7 +15,7 @@ use Rattle.tracks_rules.specs.declared.track.TrackReply.{TrackReply}
 -- It reads the payload under AE, the id that document 01, Kinds, gives for Tracks, so that the full set of masters
 -- holds for its direct children; then goes to the k-th entry.
 abbrev pub trackAsked : List ℕ → ℕ → ℕ → ℕ → ℕ → Asked
-trackAsked s start size k numbers = asked s start size 0xAE numbers (Nth 0xAE k) Here Here
+trackAsked s start size k numbers = asked s start size 0xAE numbers (way (Nth 0xAE k) Here Here)
 
 -- ---- the promise
 

@@ -8,20 +8,22 @@ use Rattle.kinds.specs.declared.kind.Kind.the-variants.{Master}
 use Rattle.elements_rules.specs.Rows.{nth}
 use Rattle.elements_rules.specs.declared.row.Row.{Row}
 use Rattle.fields_rules.specs.Children.{fits, children, lastOf}
-use Rattle.locate_rules.specs.Theorems.{Addressed}
+use Rattle.locate_rules.specs.Theorems.{OneReply, OnlyListed, Addressed}
 use Rattle.tracks_rules.specs.Settings.{decided}
 use Rattle.tracks_rules.specs.Records.{trackOf}
 use Rattle.tracks_rules.specs.Promise.{trackAsked, TrackPromise}
 use Rattle.tracks_rules.specs.declared.settings.Deciding.{Deciding}
 use Rattle.tracks_rules.specs.declared.settings.Deciding.the-variants.{None, Video, Audio}
-use Rattle.tracks_rules.specs.declared.track.TrackReply.{TrackReply}
+use Rattle.tracks_rules.specs.declared.track.TrackReply.the-variants.{Refused as NoTrack}
 
 -- Any two replies and tables that the promise permits to one question are equal (document 01, Strength of the
 -- promises). The numbers that stood in the lent table do not matter, only how many there are.
 abbrev pub OneTrack : Type 0
-OneTrack =
-    (s : List ℕ) (start size k : ℕ) (t u : List ℕ) (r r′ : TrackReply) (t′ u′ : List ℕ) → length t ≡ length u
-    → TrackPromise s start size k t r t′ → TrackPromise s start size k u r′ u′ → (r ≡ r′) × (t′ ≡ u′)
+OneTrack = (s : List ℕ) (start size k : ℕ) → OneReply (TrackPromise s start size k)
+
+-- A refusal among the replies that the promise permits is one of document 01's list.
+pub record RefusesListed : Type 0 where
+  pub track : (s : List ℕ) (start size k : ℕ) → OnlyListed NoTrack (TrackPromise s start size k)
 
 -- Every address in a record that is told is the payload's place of one of the rows that the table holds at exit.
 abbrev pub TrackAddressed : Type 0

@@ -3,8 +3,8 @@ use mathlib.Core.List.{List, [], _∷_}
 use Rattle.fields_rules.specs.Values.{Value, unset, number}
 use Rattle.fields_rules.specs.Told.{numberTold, flagTold, contentTold, languageTold}
 use Rattle.locate_rules.specs.Told.{Answer, fields, refusal}
+use Rattle.codes.specs.Tracktypes.{typeNumber}
 use Rattle.media_rules.specs.Told.{audioValues, videoValues}
-use Rattle.tracks_rules.specs.Typed.{typeNumber}
 use Rattle.tracks_rules.specs.declared.typed.Typed.{Typed}
 use Rattle.tracks_rules.specs.declared.typed.Typed.the-variants.{Unset, Is}
 use Rattle.tracks_rules.specs.declared.settings.Settings.{Settings}

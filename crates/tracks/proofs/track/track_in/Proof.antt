@@ -1,5 +1,5 @@
 -- `track_in` meets its contract: field by field. Assumes nothing.
-use mathlib.Core.Path.{refl, _∙_}
+use mathlib.Core.Path.{refl}
 use Rattle.locate_rules.proofs.Ways.{readable}
 use Rattle.locate_rules.proofs.Lists.{then}
 use Rattle.media_rules.proofs.Said.{said-of}
@@ -14,19 +14,19 @@ content-field-requires-2 : tie.Need-content-field-requires-2
 content-field-requires-2 c κs =
     let near = c .before .before .before .before .before .before in
     let start = near .before .before .before .before .before .before .before in
-    readable _ _ _ _ (start .pre)
+    readable (start .pre)
 
 content-field-requires-3 : tie.Need-content-field-requires-3
 content-field-requires-3 c κs =
     let near = c .before .before .before .before .before .before .before in
     let start = near .before .before .before .before .before .before .before in
-    readable _ _ _ _ (start .pre)
+    readable (start .pre)
 
 content-field-requires-4 : tie.Need-content-field-requires-4
 content-field-requires-4 c κs =
     let near = c .before .before .before .before .before .before .before in
     let start = near .before .before .before .before .before .before .before .before in
-    readable _ _ _ _ (start .pre)
+    readable (start .pre)
 
 settings-in-requires : tie.Need-settings-in-requires
 settings-in-requires c κs =
@@ -53,10 +53,10 @@ returns c =
     let content-field2 = c .before .before .before .content-field2 in
     let content-field3 = c .before .before .content-field3 in
     let content-field4 = c .before .content-field4 in
-    track-is _ _ _ _ (start .pre) _ _ (c .settings-in .ensures)
+    track-is (start .pre) (c .settings-in .ensures)
     (then (number-field .ensures)
     (then (number-field2 .ensures)
-    (then (typed-of .ensures ∙ said-of typed _ _ _ _ (number-field3 .result) (number-field3 .ensures))
+    (then (said-of typed _ _ _ _ (number-field3 .result) (typed-of .ensures) (number-field3 .ensures))
     (then (flag-field .ensures)
     (then (flag-field2 .ensures)
     (then (flag-field3 .ensures)
