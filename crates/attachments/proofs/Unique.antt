@@ -6,7 +6,7 @@ use Rattle.fields_rules.proofs.Once.{content-once}
 use Rattle.locate_rules.proofs.Unique.{one-reply}
 use Rattle.attachments.specs.Told.{attachmentValues, attachmentTold}
 use Rattle.attachments.specs.Promise.{attachmentAsked}
-use Rattle.attachments.specs.Theorems.{OneAttachment, RefusesListed}
+use Rattle.attachments.specs.Theorems.{OneAttachment, AttachmentsRefuseListed}
 use Rattle.attachments.specs.declared.attachment.Attachment.{Attachment}
 use Rattle.attachments.specs.declared.attachment.AttachmentReply.{AttachmentReply}
 use Rattle.attachments.specs.declared.attachment.AttachmentReply.the-variants.{Attachment as IsAttachment}
@@ -31,5 +31,5 @@ attachment-told (NoAttachment e) (NoAttachment f) q = cc
 pub attachment-unique : OneAttachment
 attachment-unique s start size k = one-reply _ (attachmentAsked s start size k) attachmentTold attachment-told
 
-pub refuses-listed : RefusesListed
-refuses-listed = record { attachment = λ s start size k t e t′ p. listed e }
+pub attachments-refuse-listed : AttachmentsRefuseListed
+attachments-refuse-listed = record { attachment = λ s start size k t e t′ p. listed e }

@@ -13,7 +13,7 @@ abbrev pub OneAttachment : Type 0
 OneAttachment = (s : List ℕ) (start size k : ℕ) → OneReply (AttachmentPromise s start size k)
 
 -- A refusal among the replies that a promise permits is one of document 01's list.
-pub record RefusesListed : Type 0 where
+pub record AttachmentsRefuseListed : Type 0 where
   pub attachment : (s : List ℕ) (start size k : ℕ) → OnlyListed NoAttachment (AttachmentPromise s start size k)
 
 -- Every address in a record that is told is the payload's place of one of the rows that the table holds at exit.

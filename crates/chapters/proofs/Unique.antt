@@ -7,7 +7,7 @@ use Rattle.locate_rules.proofs.Unique.{one-reply}
 use Rattle.chapters.specs.Told.{editionValues, chapterValues, displayValues}
 use Rattle.chapters.specs.Told.{editionTold, chapterTold, displayTold}
 use Rattle.chapters.specs.Promise.{editionAsked, chapterAsked, displayAsked}
-use Rattle.chapters.specs.Theorems.{OneEdition, OneChapter, OneDisplay, RefusesListed}
+use Rattle.chapters.specs.Theorems.{OneEdition, OneChapter, OneDisplay, ChaptersRefuseListed}
 use Rattle.chapters.specs.declared.edition.ChapterEdition.{ChapterEdition}
 use Rattle.chapters.specs.declared.edition.EditionReply.{EditionReply}
 use Rattle.chapters.specs.declared.edition.EditionReply.the-variants.{Edition as IsEdition, Refused as NoEdition}
@@ -81,8 +81,8 @@ chapter-unique s start size k i = one-reply _ (chapterAsked s start size k i) ch
 pub display-unique : OneDisplay
 display-unique s start size k i j = one-reply _ (displayAsked s start size k i j) displayTold display-told
 
-pub refuses-listed : RefusesListed
-refuses-listed =
+pub chapters-refuse-listed : ChaptersRefuseListed
+chapters-refuse-listed =
     record {
       edition = λ s start size k t e t′ p. listed e;
       chapter = λ s start size k i t e t′ p. listed e;

@@ -35,7 +35,7 @@ abbrev pub OneDisplay : Type 0
 OneDisplay = (s : List ℕ) (start size k i j : ℕ) → OneReply (DisplayPromise s start size k i j)
 
 -- A refusal among the replies that a promise permits is one of document 01's list.
-pub record RefusesListed : Type 0 where
+pub record ChaptersRefuseListed : Type 0 where
   pub edition : (s : List ℕ) (start size k : ℕ) → OnlyListed NoEdition (EditionPromise s start size k)
   pub chapter : (s : List ℕ) (start size k i : ℕ) → OnlyListed NoChapter (ChapterPromise s start size k i)
   pub display : (s : List ℕ) (start size k i j : ℕ) → OnlyListed NoDisplay (DisplayPromise s start size k i j)

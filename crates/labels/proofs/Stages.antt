@@ -14,12 +14,12 @@ use Rattle.labels.specs.Promise.{LabelPromise}
 use Rattle.labels.specs.Theorems.{LabelIsShown}
 use Rattle.labels.proofs.Texts.{text-inside}
 
-module _ (s : List ℕ) (string : Content) (own : List ℕ) where
+module _ (s own : List ℕ) {string : Content} where
   pub label-unset : string ≡ Unset → LabelPromise s string own own
   unfolding labelOf
   label-unset e = record { reply = sym (ap (λ (x : Content). labelOf s x own) e) }
 
-  module _ (r : Range) (e : string ≡ At r) where
+  module _ {r : Range} (e : string ≡ At r) where
     pub label-outside : length s < r .at + r .length → LabelPromise s string own own
     unfolding labelOf
     label-outside l =

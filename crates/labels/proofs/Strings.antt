@@ -75,12 +75,12 @@ stage-is-shown s start size k i j t d rows t′ g p w =
     let (rs, master, a, m, q) =
     string-from s (displayAsked s start size k i j (length t)) (length t) d rows g (p .reply) w in
     let (n, r, c, at, long) = from-child (lastOf (children master 0x85 Utf8 (subtree rs master))) g q in
-    let known = subst Known-in a (asked-in s start size 0x45B9 (length t) _ _ _) in
+    let known = subst Known-in a (asked-in s start size 0x45B9 (length t) _) in
     let (there, row) = child-row s rs master known 0x85 Utf8 n r (sym c) in
     let kind = fits-kind master 0x85 Utf8 r (last-is master 0x85 Utf8 (subtree rs master) n r (sym c) .fit) in
     let u = p .table ∙ ap (tableAfter (length t)) a in
     let read = subst (ReadPromise s start size 0x45B9 t (Rows (length rs))) (sym u)
-    (record-is-read s start size 0x45B9 t _ _ _ rs master a) in
+    (record-is-read s start size 0x45B9 t _ rs master a) in
     let held = ap (λ (x : List ℕ). rowsOf x (length rs)) u ∙ rows-back rs (zeros (length t - length rs * width)) in
     let place = text-row s start size 0x45B9 t rs t′ read held n r there row kind
     ∙ ap (λ (x : ℕ). range x (r .payload)) at ∙ ap (range (g .at)) long in

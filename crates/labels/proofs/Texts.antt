@@ -8,12 +8,14 @@ use lib.ListN.{length, take, drop}
 use lib.Dec.{eqb}
 use borrow.Author.Tests.{eq-eqb, ne-eqb}
 use Rattle.refusals.specs.Refusals.{badArgument}
+use Rattle.refusals.specs.Reply.{refusal}
 use Rattle.refusals.specs.declared.refusal.Refusal.{Refusal}
 use Rattle.bodies_rules.specs.declared.body.Range.{Range}
 use Rattle.elements_rules.specs.Rows.{width, rowAt}
 use Rattle.elements_rules.specs.declared.row.Row.{Row}
 use Rattle.places_rules.specs.Payload.{PayloadRange, range, refused, payloadRange, bytesOf}
-use Rattle.places_rules.specs.Promise.{valuesOf, rangeTold, RangePromise}
+use Rattle.places_rules.specs.Promise.{valuesOf, RangePromise}
+use Rattle.places_rules.specs.declared.payload.RangeReply.{RangeReply}
 use Rattle.places_rules.specs.declared.payload.RangeReply.the-variants.{Range as RangeIs, Refused}
 use Rattle.places_rules.proofs.Ranges.{Inside, told-range, told-none, place-inside, place-refused, place-row}
 use Rattle.labels.specs.Shown.{isText, textRange}
@@ -37,36 +39,32 @@ module _ (s t : List ℕ) (k : ℕ) where
   unfolding textRange
   text-of b e = rw e
 
-  -- The row that has a range is one of the table's.
-  pub row-there : (g : Range) → RangePromise s t k (RangeIs g) → k < length t / width
-  row-there g p = place-row s t k (g .at) (g .length) (told-range (payloadRange s t k) g (p .reply))
+  module _ {q : RangeReply} (p : RangePromise s t k q) where
+    -- The row that has a range is one of the table's.
+    pub row-there : {g : Range} → q ≡ RangeIs g → k < length t / width
+    row-there {g} e =
+        place-row s t k (g .at) (g .length) (told-range (payloadRange s t k) g ((rw e at p) .reply))
 
-  -- Without a range there is no text either: both are 14.
-  pub no-range : (e : Refusal) → RangePromise s t k (Refused e) → TextPromise s t k (Refused e)
-  no-range e p = record { reply = go (isText (rowAt t k .kind)) refl (payloadRange s t k) refl (p .reply) }
-    where
-      go : (b : Bool) → isText (rowAt t k .kind) ≡ b → (q : PayloadRange) → payloadRange s t k ≡ q
-          → rangeTold (Refused e) ≡ valuesOf q → rangeTold (Refused e) ≡ valuesOf (textRange s t k)
-      go true d q w x = x ∙ sym (ap valuesOf (text-of true d ∙ w))
-      go false d (range a n) w x = let z : _≡_ {A = ℕ} 0 1 = cc in absurd (omega arith)
-      go false d (refused f) w x =
-          x ∙ ap (λ (y : Refusal). valuesOf (refused y)) (place-refused s t k f w)
-          ∙ sym (ap valuesOf (text-of false d))
+    -- Without a range there is no text either: both are 14.
+    pub no-range : {e : Refusal} → q ≡ Refused e → TextPromise s t k (Refused e)
+    no-range {e} f =
+        record { reply = go (isText (rowAt t k .kind)) refl (payloadRange s t k) refl ((rw f at p) .reply) }
+      where
+        go : (b : Bool) → isText (rowAt t k .kind) ≡ b → (x : PayloadRange) → payloadRange s t k ≡ x
+            → refusal e ≡ valuesOf x → refusal e ≡ valuesOf (textRange s t k)
+        go true d x w y = y ∙ sym (ap valuesOf (text-of true d ∙ w))
+        go false d (range a n) w y = cc
+        go false d (refused f) w y = cc (place-refused s t k f w, text-of false d)
 
-  module _ (g : Range) (p : RangePromise s t k (RangeIs g)) (r : Row) (q : r ≡ rowAt t k) where
-    pub is-shown : true ≡ isText (r .kind) → TextPromise s t k (RangeIs g)
-    is-shown e =
-        record {
-          reply = p .reply ∙ sym (ap valuesOf (text-of true (ap (λ (x : Row). isText (x .kind)) (sym q) ∙ sym e)));
-        }
+    module _ {r : Row} (w : r ≡ rowAt t k) {b : Bool} (o : b ≡ isText (r .kind)) where
+      by-row : isText (rowAt t k .kind) ≡ b
+      by-row = sym (o ∙ ap (λ (x : Row). isText (x .kind)) w)
 
-    pub no-text : (e : Refusal) → false ≡ isText (r .kind) → e ≡ badArgument → TextPromise s t k (Refused e)
-    no-text e d b =
-        record {
-          reply =
-              ap (λ (x : Refusal). rangeTold (Refused x)) b
-              ∙ sym (ap valuesOf (text-of false (ap (λ (x : Row). isText (x .kind)) (sym q) ∙ sym d)));
-        }
+      pub is-shown : {g : Range} → q ≡ RangeIs g → b ≡ true → TextPromise s t k (RangeIs g)
+      is-shown e y = record { reply = (rw e at p) .reply ∙ sym (ap valuesOf (text-of true (by-row ∙ y))) }
+
+      pub no-text : b ≡ false → TextPromise s t k (Refused badArgument)
+      no-text y = record { reply = sym (ap valuesOf (text-of false (by-row ∙ y))) }
 
   -- ---- the part that is handed back
 
@@ -75,22 +73,23 @@ module _ (s t : List ℕ) (k : ℕ) where
     where
       go : (b : Bool) → isText (rowAt t k .kind) ≡ b → payloadRange s t k ≡ range at n
       go true d = sym (text-of true d) ∙ e
-      go false d =
-          let w : refused badArgument ≡ range at n = sym (text-of false d) ∙ e in
-          let z : _≡_ {A = ℕ} 0 1 = cc in absurd (omega arith)
+      go false d = cc (text-of false d)
 
   pub text-inside : (at n : ℕ) → textRange s t k ≡ range at n → Inside s at n
   text-inside at n e = place-inside s t k at n (text-place at n e)
 
-  pub shown-inside : (g : Range) → TextPromise s t k (RangeIs g) → Inside s (g .at) (g .length)
-  shown-inside g p = text-inside (g .at) (g .length) (told-range (textRange s t k) g (p .reply))
+  module _ {q : RangeReply} (p : TextPromise s t k q) where
+    module _ {g : Range} (e : q ≡ RangeIs g) where
+      shown-at : textRange s t k ≡ range (g .at) (g .length)
+      shown-at = told-range (textRange s t k) g ((rw e at p) .reply)
 
-  pub shown-is :
-      (g : Range) → TextPromise s t k (RangeIs g)
-      → ShownPromise s t k (take (g .at + g .length - g .at) (drop (g .at) s))
-  shown-is g p =
-      let e : g .at + g .length - g .at ≡ g .length = omega arith in
-      record { reply = rw e (sym (ap (bytesOf s) (told-range (textRange s t k) g (p .reply)))) }
+      pub shown-inside : Inside s (g .at) (g .length)
+      shown-inside = text-inside (g .at) (g .length) shown-at
 
-  pub shown-none : (e : Refusal) → TextPromise s t k (Refused e) → ShownPromise s t k []
-  shown-none e p = record { reply = told-none s (textRange s t k) e (p .reply) }
+      pub shown-is : ShownPromise s t k (take (g .at + g .length - g .at) (drop (g .at) s))
+      shown-is =
+          let n : g .at + g .length - g .at ≡ g .length = omega arith in
+          record { reply = rw n (sym (ap (bytesOf s) shown-at)) }
+
+    pub shown-none : {e : Refusal} → q ≡ Refused e → ShownPromise s t k []
+    shown-none {e} f = record { reply = told-none s (textRange s t k) e ((rw f at p) .reply) }

@@ -2,9 +2,12 @@
 use Prim.Native.Nat.{ℕ, _<_}
 use mathlib.Core.Path.{_≡_}
 use mathlib.Core.List.{List}
+use Rattle.refusals.specs.Theorems.{Listed}
+use Rattle.refusals.specs.declared.refusal.Refusal.{Refusal}
 use Rattle.bodies_rules.specs.declared.body.Range.{Range}
 use Rattle.places_rules.specs.Payload.{range, bytesOf}
 use Rattle.places_rules.specs.declared.payload.RangeReply.{RangeReply}
+use Rattle.places_rules.specs.declared.payload.RangeReply.the-variants.{Refused}
 use Rattle.fields_rules.specs.declared.field.Content.{Content}
 use Rattle.fields_rules.specs.declared.field.Content.the-variants.{At}
 use Rattle.chapters.specs.Promise.{DisplayPromise}
@@ -26,6 +29,10 @@ abbrev pub OneLabel : Type 0
 OneLabel =
     (s : List ℕ) (string : Content) (own part part′ : List ℕ) → LabelPromise s string own part
     → LabelPromise s string own part′ → part ≡ part′
+
+-- A refusal among the replies that the promise permits is one of document 01's list.
+pub record LabelsRefuseListed : Type 0 where
+  pub text : (s t : List ℕ) (row : ℕ) (e : Refusal) → TextPromise s t row (Refused e) → Listed e
 
 -- The label of a string that a text row holds is that row's shown text, whatever the caller's own label is.
 abbrev pub LabelIsShown : Type 0

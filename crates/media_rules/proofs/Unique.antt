@@ -7,7 +7,7 @@ use Rattle.fields_rules.proofs.Once.{number-once, flag-once, real-once}
 use Rattle.locate_rules.proofs.Unique.{one-reply}
 use Rattle.media_rules.specs.Told.{stereoTold, audioValues, videoValues, audioTold}
 use Rattle.media_rules.specs.Promise.{audioAsked}
-use Rattle.media_rules.specs.Theorems.{OneAudio, RefusesListed}
+use Rattle.media_rules.specs.Theorems.{OneAudio, MediaRefuseListed}
 use Rattle.media_rules.specs.declared.audio.Audio.{Audio}
 use Rattle.media_rules.specs.declared.audio.AudioReply.{AudioReply}
 use Rattle.media_rules.specs.declared.audio.AudioReply.the-variants.{Audio as IsAudio, Refused as NoAudio}
@@ -56,5 +56,5 @@ audio-told (NoAudio e) (NoAudio f) q = cc
 pub audio-unique : OneAudio
 audio-unique s start size k = one-reply _ (audioAsked s start size k) audioTold audio-told
 
-pub refuses-listed : RefusesListed
-refuses-listed = record { audio = λ s start size k t e t′ p. listed e }
+pub media-refuse-listed : MediaRefuseListed
+media-refuse-listed = record { audio = λ s start size k t e t′ p. listed e }

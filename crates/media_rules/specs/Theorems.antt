@@ -13,7 +13,7 @@ abbrev pub OneAudio : Type 0
 OneAudio = (s : List ℕ) (start size k : ℕ) → OneReply (AudioPromise s start size k)
 
 -- A refusal among the replies that the promise permits is one of document 01's list.
-pub record RefusesListed : Type 0 where
+pub record MediaRefuseListed : Type 0 where
   pub audio : (s : List ℕ) (start size k : ℕ) → OnlyListed NoAudio (AudioPromise s start size k)
 
 -- Every address in a record that is told is the payload's place of one of the rows that the table holds at exit.

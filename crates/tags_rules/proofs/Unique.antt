@@ -11,7 +11,7 @@ use Rattle.locate_rules.proofs.Unique.{one-reply}
 use Rattle.tags_rules.specs.Told.{targetValues, targetsValues, tagValues, simpleValues}
 use Rattle.tags_rules.specs.Told.{tagTold, uidTold, simpleTold}
 use Rattle.tags_rules.specs.Promise.{tagAsked, uidAsked, simpleAsked}
-use Rattle.tags_rules.specs.Theorems.{OneTag, OneUid, OneSimple, RefusesListed}
+use Rattle.tags_rules.specs.Theorems.{OneTag, OneUid, OneSimple, TagsRefuseListed}
 use Rattle.tags_rules.specs.declared.simple.SimpleTag.{SimpleTag}
 use Rattle.tags_rules.specs.declared.simple.SimpleReply.{SimpleReply}
 use Rattle.tags_rules.specs.declared.simple.SimpleReply.the-variants.{Simple as IsSimple, Refused as NoSimple}
@@ -89,8 +89,8 @@ uid-unique s start size k list i = one-reply _ (uidAsked s start size k list i) 
 pub simple-unique : OneSimple
 simple-unique s start size k i = one-reply _ (simpleAsked s start size k i) simpleTold simple-told
 
-pub refuses-listed : RefusesListed
-refuses-listed =
+pub tags-refuse-listed : TagsRefuseListed
+tags-refuse-listed =
     record {
       tag = λ s start size k t e t′ p. listed e;
       uid = λ s start size k list i t e t′ p. listed e;

@@ -23,7 +23,7 @@ abbrev pub OneSimple : Type 0
 OneSimple = (s : List ℕ) (start size k i : ℕ) → OneReply (SimplePromise s start size k i)
 
 -- A refusal among the replies that a promise permits is one of document 01's list.
-pub record RefusesListed : Type 0 where
+pub record TagsRefuseListed : Type 0 where
   pub tag : (s : List ℕ) (start size k : ℕ) → OnlyListed NoTag (TagPromise s start size k)
   pub uid : (s : List ℕ) (start size k : ℕ) (list : UidList) (i : ℕ) → OnlyListed NoUid (UidPromise s start size k list i)
   pub simple : (s : List ℕ) (start size k i : ℕ) → OnlyListed NoSimple (SimplePromise s start size k i)

@@ -9,7 +9,7 @@ use Rattle.locate_rules.proofs.Unique.{one-reply}
 use Rattle.media_rules.proofs.Unique.{audio-once, video-once}
 use Rattle.tracks_rules.specs.Told.{typedTold, settingsValues, trackValues, trackTold}
 use Rattle.tracks_rules.specs.Promise.{trackAsked}
-use Rattle.tracks_rules.specs.Theorems.{OneTrack, RefusesListed}
+use Rattle.tracks_rules.specs.Theorems.{OneTrack, TracksRefuseListed}
 use Rattle.tracks_rules.specs.declared.typed.Typed.{Typed}
 use Rattle.tracks_rules.specs.declared.typed.Typed.the-variants.{Unset, Is}
 use Rattle.tracks_rules.specs.declared.settings.Settings.{Settings}
@@ -74,5 +74,5 @@ track-told (NoTrack e) (NoTrack f) q = cc
 pub track-unique : OneTrack
 track-unique s start size k = one-reply _ (trackAsked s start size k) trackTold track-told
 
-pub refuses-listed : RefusesListed
-refuses-listed = record { track = λ s start size k t e t′ p. listed e }
+pub tracks-refuse-listed : TracksRefuseListed
+tracks-refuse-listed = record { track = λ s start size k t e t′ p. listed e }

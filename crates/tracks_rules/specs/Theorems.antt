@@ -22,7 +22,7 @@ abbrev pub OneTrack : Type 0
 OneTrack = (s : List ℕ) (start size k : ℕ) → OneReply (TrackPromise s start size k)
 
 -- A refusal among the replies that the promise permits is one of document 01's list.
-pub record RefusesListed : Type 0 where
+pub record TracksRefuseListed : Type 0 where
   pub track : (s : List ℕ) (start size k : ℕ) → OnlyListed NoTrack (TrackPromise s start size k)
 
 -- Every address in a record that is told is the payload's place of one of the rows that the table holds at exit.
