@@ -14,7 +14,8 @@ use Rattle.codes.specs.declared.stereo.StereoMode.the-variants.{RowInter
 use Rattle.codes.specs.declared.stereo.StereoMode.the-variants.{Anaglyph, Interlaced}
 use Rattle.codes.specs.declared.tracktype.Tracktype.{Tracktype}
 use Rattle.codes.specs.declared.tracktype.Tracktype.the-variants.{Video as VideoType, Audio as AudioType}
-use Rattle.codes.specs.declared.tracktype.Tracktype.the-variants.{Complex, Logo, Subtitle, Buttons, Control, Unknown}
+use Rattle.codes.specs.declared.tracktype.Tracktype.the-variants.{Complex, Logo, Subtitle, Buttons, Control}
+use Rattle.codes.specs.declared.tracktype.Tracktype.the-variants.{Unknown}
 
 -- ---- a stereo mode has a number of its own
 

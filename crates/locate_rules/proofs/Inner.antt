@@ -21,7 +21,8 @@ use Rattle.locate_rules.proofs.Ways.{last-known, readable}
 abbrev pub lastInner : List ℕ → Below → ℕ → Child
 lastInner t b id = lastOf (children (b .parent) id Master (rowsIn t b))
 
-module _ {s t : List ℕ} {rows : ℕ} {b : Below} (h : Stands s t rows b) (id : ℕ) {c : Child} (e : c ≡ lastInner t b id) where
+module _ {s t : List ℕ} {rows : ℕ} {b : Below} (h : Stands s t rows b) (id : ℕ) {c : Child}
+    (e : c ≡ lastInner t b id) where
   -- It is the one that the definitions name.
   pub inner-is : c ≡ lastOf (children (b .parent) id Master (subtree (rowsOf t rows) (b .parent)))
   inner-is = e ∙ ap (λ (x : List Row). lastOf (children (b .parent) id Master x)) (h .below .are)

@@ -125,7 +125,8 @@ filled-after-read s start size parent t n t′ p = read-filled p refl
 -- ---- one level further: from a master that was found, the third step leads on
 
 module _ (first second third : Step) where
-  further-from : (us : List Row) (at : Spot) (rs : List Row) (master : ℕ) → settled us (entered us at Here) ≡ found rs master
+  further-from : (us : List Row) (at : Spot) (rs : List Row) (master : ℕ)
+      → settled us (entered us at Here) ≡ found rs master
       → settled us (entered us at third) ≡ settled rs (stepped rs master third)
   further-from us Absent rs master q = cc
   further-from us (SpotAt p) rs master q =

@@ -25,7 +25,8 @@ OneSimple = (s : List ℕ) (start size k i : ℕ) → OneReply (SimplePromise s 
 -- A refusal among the replies that a promise permits is one of document 01's list.
 pub record TagsRefuseListed : Type 0 where
   pub tag : (s : List ℕ) (start size k : ℕ) → OnlyListed NoTag (TagPromise s start size k)
-  pub uid : (s : List ℕ) (start size k : ℕ) (list : UidList) (i : ℕ) → OnlyListed NoUid (UidPromise s start size k list i)
+  pub uid :
+      (s : List ℕ) (start size k : ℕ) (list : UidList) (i : ℕ) → OnlyListed NoUid (UidPromise s start size k list i)
   pub simple : (s : List ℕ) (start size k i : ℕ) → OnlyListed NoSimple (SimplePromise s start size k i)
 
 -- Every address in a record that is told is the payload's place of one of the rows that the table holds at exit.

@@ -32,8 +32,9 @@ returns c =
     let if1 = c .before .before .before .before .if1 in
     let row-at = c .before .before .before .row-at in
     let is-child = c .before .before .is-child in
-    nth-here _ _ _ _
-    (turn-here pre (loop .inv) (if1 .taken) (row-at .ensures) (is-child .ensures) (c .before .if2 .taken)) (c .if3 .taken)
+    let here =
+    turn-here pre (loop .inv) (if1 .taken) (row-at .ensures) (is-child .ensures) (c .before .if2 .taken) in
+    nth-here _ _ _ _ here (c .if3 .taken)
 
 returns-2 : tie.Need-returns-2 Inv-loop μ-loop
 unfolding nthOf

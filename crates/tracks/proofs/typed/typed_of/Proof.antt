@@ -12,7 +12,8 @@ use Rattle.tracks.proofs.typed.typed_of.Tie as tie
 returns : tie.Need-returns-2
 unfolding typed
 returns c =
-    said-is typed (c .before .before .number .given .1) (ap (λ (x : Tracktype). number (typeNumber x)) (c .new .ensures))
+    said-is typed (c .before .before .number .given .1)
+    (ap (λ (x : Tracktype). number (typeNumber x)) (c .new .ensures))
 
 pub typed-of-spec : {M : Type 1} → statement M
 typed-of-spec =
