@@ -23,7 +23,7 @@ use Rattle.elements_rules.proofs.Readback.{Accepted, accepted-read}
 use Rattle.elements_rules.proofs.Sound.{rows-sound}
 use Rattle.elements_rules.proofs.Whole.{zeros-as}
 use Rattle.fields_rules.proofs.Enough.{all-jump}
-use Rattle.fields_rules.specs.Contract.{Ordered}
+use Rattle.fields_rules.specs.Contract.{Ordered, Readable}
 use Rattle.fields_rules.specs.declared.child.Below.{Below}
 use Rattle.locate_rules.specs.Steps.{stepped, entered, way, reached}
 use Rattle.locate_rules.specs.Asked.{Asked, found, refusing, settled, sought, asked, tableAfter}
@@ -37,6 +37,7 @@ use Rattle.locate_rules.specs.declared.steps.Spot.the-variants.{Absent, 
 use Rattle.locate_rules.specs.declared.steps.Found.{Found}
 use Rattle.locate_rules.specs.declared.steps.Found.the-variants.{Absent as Nowhere, At as FoundAt}
 use Rattle.locate_rules.specs.declared.steps.Located.the-variants.{At, Refused}
+use Rattle.locate_rules.proofs.Ways.{readable}
 
 -- ---- the reading
 
@@ -64,10 +65,13 @@ module _ {s : List ℕ} {start size parent : ℕ} {t t₁ : List ℕ} {r : ReadR
         sound = rows-sound s start size parent t n t₁ (rw q at p);
       }
 
--- A master that was found in it.
-pub found-stands : {s t : List ℕ} {n : ℕ} {w : Way} {f : Found} {b : Below} → Filled s t n → FindMet t n w f
-    → f ≡ FoundAt b → Stands s t n b
-found-stands h m q = record { filled = h; below = (rw q at m) .leads .1 }
+  -- A master that was found in it, for the builders of records.
+  module _ {w : Way} {f : Found} (m : FindMet t₁ n w f) {b : Below} (a : f ≡ FoundAt b) where
+    pub found-stands : Stands s t₁ n b
+    found-stands = record { filled = read-filled; below = (rw a at m) .leads .1 }
+
+    pub found-readable : Readable s t₁ b
+    found-readable = readable found-stands
 
 module _ {s : List ℕ} {start size parent : ℕ} {t t₁ : List ℕ} {r : ReadReply}
     (p : ReadPromise s start size parent t r t₁) (w : Way) where
@@ -115,7 +119,7 @@ module _ {s : List ℕ} {start size parent : ℕ} {t t₁ : List ℕ} {r : ReadR
       found-at {b} a =
           let d = came (SpotAt (b .parent)) ((rw a at m) .leads .0) in
           record {
-            reply = (d, found-stands (read-filled p q) m a);
+            reply = (d, found-stands p q m a);
             table = kept ∙ sym (ap (tableAfter (length t)) d);
           }
 
