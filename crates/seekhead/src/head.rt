@@ -1,22 +1,25 @@
 // One seek head: the latest positions that its entries give.
 ghost use mathlib.Core.Path.{_≡_};
 ghost use mathlib.Core.List.{[], _∷_};
-ghost use Rattle.seekhead_rules.specs.Table.{later as laterOf};
-ghost use Rattle.seekhead_rules.specs.Contract.{Readable, ChildMet, inserted, headAt};
+ghost use Rattle.seekhead_rules.specs.Table.{later as laterOf, positionsFrom};
+ghost use Rattle.seekhead_rules.specs.Contract.{Readable, childTold, inserted, headTold};
 use crate::seek::seek_body;
 use crate::skim::skim_body;
-use bodies_rules::BodyRead;
+use elements::element_header;
 use header::Cursor;
-use header::Header;
+use header::Headed;
 use header::HeaderRead;
 use kinds::ids;
 use refusals::Cause;
 use refusals::Refusal;
 use seekhead_rules::HeadRead;
 use seekhead_rules::Latest;
+use seekhead_rules::Positions;
 use seekhead_rules::Seek;
 use seekhead_rules::SeekRead;
 use seekhead_rules::Seektable;
+use seekhead_rules::SkimRead;
+use seekhead_rules::Wanted;
 
 // The latest position of an id, after one more entry: the last Seek of an id wins.
 fn later(old: Latest, id: u32, seek: Seek) -> Latest
@@ -28,14 +31,32 @@ fn later(old: Latest, id: u32, seek: Seek) -> Latest
     old
 }
 
+// The positions of the wanted ids, after one more entry.
+fn later_each(old: Positions, wanted: Wanted, seek: Seek) -> Positions
+    ensures { λ r. ⌜ r ≡ positionsFrom wanted old (seek ∷ []) ⌝ }
+{
+    let first = old.first;
+    let second = old.second;
+    let third = old.third;
+    let fourth = old.fourth;
+    let fifth = old.fifth;
+    Positions {
+        first: later(first, wanted.first, seek),
+        second: later(second, wanted.second, seek),
+        third: later(third, wanted.third, seek),
+        fourth: later(fourth, wanted.fourth, seek),
+        fifth: later(fifth, wanted.fifth, seek),
+    }
+}
+
 // The table with one more entry.
-fn insert(table: Seektable, wanted: u32, seek: Seek) -> Seektable
+fn insert(table: Seektable, wanted: Wanted, seek: Seek) -> Seektable
     ensures { λ r. ⌜ r ≡ inserted wanted table (seek ∷ []) ⌝ }
 {
-    let part = table.part;
+    let parts = table.parts;
     let head = table.head;
     Seektable {
-        part: later(part, wanted, seek),
+        parts: later_each(parts, wanted, seek),
         head: later(head, ids::SEEKHEAD, seek),
     }
 }
@@ -44,65 +65,63 @@ fn insert(table: Seektable, wanted: u32, seek: Seek) -> Seektable
 fn head_child(
     recording: &[u8],
     kinds: &[u64],
-    wanted: u32,
+    wanted: Wanted,
     table: Seektable,
-    header: Header,
-    payload: Cursor,
+    child: Headed,
 ) -> HeadRead
-    requires { ⌜ Readable (now recording) (now kinds) payload ⌝ }
-    ensures { λ r. ⌜ ChildMet (now (recording .entry)) wanted table header payload r ⌝ }
+    requires { ⌜ Readable (now recording) (now kinds) child ⌝ }
+    ensures { λ r. ⌜ r ≡ childTold (now (recording .entry)) wanted table child ⌝ }
 {
-    if header.id == ids::SEEK {
-        return match seek_body(recording, kinds, payload, header.size) {
+    if child.header.id == ids::SEEK {
+        return match seek_body(recording, kinds, child) {
             SeekRead::Refused(refusal) => HeadRead::Refused(refusal),
             SeekRead::Read(seek) => HeadRead::Read(insert(table, wanted, seek)),
         };
     }
-    match skim_body(recording, kinds, header, payload, ids::SEGMENT, 0) {
-        BodyRead::Refused(refusal) => HeadRead::Refused(refusal),
-        BodyRead::Read(_, _) => HeadRead::Read(table),
+    match skim_body(recording, kinds, child, ids::SEGMENT, 0) {
+        SkimRead::Refused(refusal) => HeadRead::Refused(refusal),
+        SkimRead::Read(_) => HeadRead::Read(table),
     }
 }
 
-// The table with the entries of a head, whose payload of `size` bytes is at a place.
+// The positions of the wanted ids with those of a head whose header was read, and its entry for a further head.
 pub fn head_body(
     recording: &[u8],
     kinds: &[u64],
-    wanted: u32,
-    old: Seektable,
-    from: Cursor,
-    size: u64,
+    wanted: Wanted,
+    parts: Positions,
+    head: Headed,
 ) -> HeadRead
-    requires { ⌜ Readable (now recording) (now kinds) from ⌝ }
-    ensures { λ r. ⌜ r ≡ headAt (now (recording .entry)) wanted old (from .at) size ⌝ }
+    requires { ⌜ Readable (now recording) (now kinds) head ⌝ }
+    ensures { λ r. ⌜ r ≡ headTold (now (recording .entry)) wanted parts head ⌝ }
 {
-    let mut place = from;
-    let mut left = size;
-    let mut table = old;
-    while left > 0 {
-        match place.header(recording) {
+    let mut at = head.payload.at;
+    let end = at + head.header.size;
+    let mut table = Seektable {
+        parts,
+        head: Latest::Nowhere,
+    };
+    while at < end {
+        let place = Cursor { at };
+        match element_header(recording, place) {
             HeaderRead::Refused(refusal) => {
                 return HeadRead::Refused(refusal);
             }
-            HeaderRead::Read(header, payload) => {
-                match head_child(recording, kinds, wanted, table, header, payload) {
-                    HeadRead::Refused(refusal) => {
-                        return HeadRead::Refused(refusal);
-                    }
-                    HeadRead::Read(more) => {
-                        let used = header.length + header.size;
-                        if left < used {
-                            return HeadRead::Refused(Refusal {
-                                cause: Cause::Overrun,
-                            });
-                        }
-                        left -= used;
-                        let next = payload.at + header.size;
-                        place = Cursor { at: next };
-                        table = more;
-                    }
+            HeaderRead::Read(child) => match head_child(recording, kinds, wanted, table, child) {
+                HeadRead::Refused(refusal) => {
+                    return HeadRead::Refused(refusal);
                 }
-            }
+                HeadRead::Read(more) => {
+                    let next = child.payload.at + child.header.size;
+                    if end < next {
+                        return HeadRead::Refused(Refusal {
+                            cause: Cause::Overrun,
+                        });
+                    }
+                    at = next;
+                    table = more;
+                }
+            },
         }
     }
     HeadRead::Read(table)

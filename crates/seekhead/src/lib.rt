@@ -1,4 +1,4 @@
-// One seek head (document 01, Seek tables and the search): what its entries are, and the table of a search with them.
+// One seek head (document 01, Seek tables and the search): its entries, and the positions of the wanted ids by them.
 //
 // The crate above follows the chain of heads and hands each to `head_body`.
 mod head;

@@ -1,16 +1,15 @@
 // A Seek: an entry of a seek head.
 ghost use mathlib.Core.Path.{_≡_};
-ghost use Prim.Native.Nat.{_+_, _≤_, min};
-ghost use lib.ListN.{length};
-ghost use Rattle.bodies_rules.specs.Promise.{valuesOf};
+ghost use Prim.Native.Nat.{min};
+ghost use Rattle.bodies_rules.specs.Bodies.{body as bodyIs};
 ghost use Rattle.seekhead_rules.specs.Seeks.{lastFour, noted as notedOf};
-ghost use Rattle.seekhead_rules.specs.Contract.{Readable, BytesInside, MemberMet, seekAt};
+ghost use Rattle.seekhead_rules.specs.Contract.{Readable, Whole, memberTold, seekTold};
 use crate::skim::skim_body;
 use bodies_rules::Body;
-use bodies_rules::BodyRead;
-use bodies_rules::Range;
+use bodies_rules::Value;
+use elements::element_header;
 use header::Cursor;
-use header::Header;
+use header::Headed;
 use header::HeaderRead;
 use header::big_endian;
 use kinds::ids;
@@ -18,6 +17,7 @@ use refusals::Cause;
 use refusals::Refusal;
 use seekhead_rules::Seek;
 use seekhead_rules::SeekRead;
+use seekhead_rules::SkimRead;
 
 // The smaller of two numbers.
 fn fewer(x: u64, y: u64) -> u64
@@ -29,99 +29,89 @@ fn fewer(x: u64, y: u64) -> u64
     y
 }
 
-// The last four bytes of a range as a number; all of them where there are fewer.
-fn last_four(recording: &[u8], range: Range) -> u32
-    requires { ⌜ range .at + range .length ≤ length (now recording) ⌝ }
-    ensures { λ r. ⌜ r ≡ lastFour (now (recording .entry)) (range .at) (range .length) ⌝ }
+// The last four bytes of an element's payload as a number; all of them where there are fewer.
+fn last_four(recording: &[u8], element: Headed) -> u32
+    requires { ⌜ Whole (now recording) element ⌝ }
+    ensures { λ r. ⌜ r ≡ lastFour (now (recording .entry)) (element .payload .at) (element .header .size) ⌝ }
 {
-    let n = fewer(range.length, 4);
-    let first = range.at + (range.length - n);
+    let size = element.header.size;
+    let n = fewer(size, 4);
+    let first = element.payload.at + (size - n);
     big_endian(recording, first as usize, n as usize) as u32
 }
 
-// A Seek with one more of its members, by id and case: the last SeekID and the last SeekPosition win.
-fn noted(recording: &[u8], seek: Seek, id: u32, body: Body) -> Seek
-    requires { ⌜ BytesInside (now recording) body ⌝ }
-    ensures { λ r. ⌜ r ≡ notedOf (now (recording .entry)) id (valuesOf body) seek ⌝ }
+// A Seek with one more of its members, by what it holds: the last SeekID and the last SeekPosition win.
+fn noted(recording: &[u8], seek: Seek, member: Headed, body: Body) -> Seek
+    requires { ⌜ Whole (now recording) member ⌝ }
+    ensures { λ r. ⌜ r ≡ notedOf (now (recording .entry)) member (bodyIs body) seek ⌝ }
 {
     match body {
-        Body::Bytes(range) => {
-            if id == ids::SEEKID {
-                let named = last_four(recording, range);
-                return Seek {
-                    id: named,
-                    position: seek.position,
-                };
+        Body::Value(value) => match value {
+            Value::Bytes(_) => {
+                if member.header.id == ids::SEEKID {
+                    let named = last_four(recording, member);
+                    return Seek {
+                        id: named,
+                        position: seek.position,
+                    };
+                }
+                seek
             }
-            seek
-        }
-        Body::Unsigned(position) => {
-            if id == ids::SEEKPOSITION {
-                return Seek {
-                    id: seek.id,
-                    position,
-                };
+            Value::Unsigned(position) => {
+                if member.header.id == ids::SEEKPOSITION {
+                    return Seek {
+                        id: seek.id,
+                        position,
+                    };
+                }
+                seek
             }
-            seek
-        }
-        Body::Integer(_) => seek,
-        Body::Float(_) => seek,
-        Body::Date(_) => seek,
-        Body::Text(_) => seek,
+            Value::Integer(_) => seek,
+            Value::Float(_) => seek,
+            Value::Date(_) => seek,
+            Value::Text(_) => seek,
+        },
         Body::Master => seek,
     }
 }
 
 // A Seek with the member whose header was read.
-fn seek_member(
-    recording: &[u8],
-    kinds: &[u64],
-    seek: Seek,
-    header: Header,
-    payload: Cursor,
-) -> SeekRead
-    requires { ⌜ Readable (now recording) (now kinds) payload ⌝ }
-    ensures { λ r. ⌜ MemberMet (now (recording .entry)) seek header payload r ⌝ }
+fn seek_member(recording: &[u8], kinds: &[u64], seek: Seek, member: Headed) -> SeekRead
+    requires { ⌜ Readable (now recording) (now kinds) member ⌝ }
+    ensures { λ r. ⌜ r ≡ memberTold (now (recording .entry)) seek member ⌝ }
 {
-    match skim_body(recording, kinds, header, payload, ids::SEEK, 1) {
-        BodyRead::Refused(refusal) => SeekRead::Refused(refusal),
-        BodyRead::Read(body, _) => SeekRead::Read(noted(recording, seek, header.id, body)),
+    match skim_body(recording, kinds, member, ids::SEEK, 1) {
+        SkimRead::Refused(refusal) => SeekRead::Refused(refusal),
+        SkimRead::Read(body) => SeekRead::Read(noted(recording, seek, member, body)),
     }
 }
 
-// The members of a Seek, in a payload of `size` bytes at a place.
-pub fn seek_body(recording: &[u8], kinds: &[u64], from: Cursor, size: u64) -> SeekRead
-    requires { ⌜ Readable (now recording) (now kinds) from ⌝ }
-    ensures { λ r. ⌜ r ≡ seekAt (now (recording .entry)) (from .at) size ⌝ }
+// A Seek whose header was read, with its members.
+pub fn seek_body(recording: &[u8], kinds: &[u64], element: Headed) -> SeekRead
+    requires { ⌜ Readable (now recording) (now kinds) element ⌝ }
+    ensures { λ r. ⌜ r ≡ seekTold (now (recording .entry)) element ⌝ }
 {
-    let mut place = from;
-    let mut left = size;
+    let mut at = element.payload.at;
+    let end = at + element.header.size;
     let mut seek = Seek { id: 0, position: 0 };
-    while left > 0 {
-        match place.header(recording) {
+    while at < end {
+        let place = Cursor { at };
+        match element_header(recording, place) {
             HeaderRead::Refused(refusal) => {
                 return SeekRead::Refused(refusal);
             }
-            HeaderRead::Read(header, payload) => match seek_member(
-                recording,
-                kinds,
-                seek,
-                header,
-                payload,
-            ) {
+            HeaderRead::Read(member) => match seek_member(recording, kinds, seek, member) {
                 SeekRead::Refused(refusal) => {
                     return SeekRead::Refused(refusal);
                 }
                 SeekRead::Read(more) => {
-                    let used = header.length + header.size;
-                    if left < used {
+                    let next = member.payload.at + member.header.size;
+                    if end < next {
                         return SeekRead::Refused(Refusal {
                             cause: Cause::Overrun,
                         });
                     }
-                    left -= used;
-                    let next = payload.at + header.size;
-                    place = Cursor { at: next };
+                    at = next;
                     seek = more;
                 }
             },

@@ -7,30 +7,31 @@ use elements::master_body;
 use elements_rules::Above;
 use elements_rules::ElementRead;
 use elements_rules::Mode;
-use header::Cursor;
-use header::Header;
+use header::Headed;
 use kinds::MASTER;
 use kinds::kind_in;
+use refusals::Refusal;
+use seekhead_rules::SkimRead;
 
 // The body of an element whose header was read, under a parent id and at a depth. A master's elements are read too.
 pub fn skim_body(
     recording: &[u8],
     kinds: &[u64],
-    header: Header,
-    payload: Cursor,
+    element: Headed,
     parent: u32,
     depth: u64,
-) -> BodyRead
-    requires { ⌜ Readable (now recording) (now kinds) payload ⌝ }
+) -> SkimRead
+    requires { ⌜ Readable (now recording) (now kinds) element ⌝ }
     requires { ⌜ Shallow depth ⌝ }
-    ensures { λ r. ⌜ Skimmed (now (recording .entry)) header payload parent depth r ⌝ }
+    ensures { λ r. ⌜ Skimmed (now (recording .entry)) depth parent element r ⌝ }
 {
-    let id = header.id;
-    let kind = kind_in(kinds, id, parent);
+    let header = element.header;
+    let kind = kind_in(kinds, header.id, parent);
     if kind.number() == MASTER {
+        let payload = element.payload;
         let below = depth + 1;
         let above = Above {
-            id,
+            id: header.id,
             row: 0,
             depth: below,
         };
@@ -47,9 +48,12 @@ pub fn skim_body(
             0,
             above,
         ) {
-            ElementRead::Refused(refusal) => BodyRead::Refused(refusal),
-            ElementRead::Read { rows: _, next } => BodyRead::Read(Body::Master, next),
+            ElementRead::Refused(refusal) => SkimRead::Refused(refusal),
+            ElementRead::Read { rows: _, next: _ } => SkimRead::Read(Body::Master),
         };
     }
-    read_body(payload, recording, header, kind)
+    match read_body(recording, element, kind) {
+        BodyRead::Refused(cause) => SkimRead::Refused(Refusal { cause }),
+        BodyRead::Read(body, _) => SkimRead::Read(body),
+    }
 }

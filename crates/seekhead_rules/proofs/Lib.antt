@@ -1,7 +1,6 @@
 -- The laws that the proofs of `seekhead` share.
 pub mod Uncounted
 pub mod Positions
-pub mod Passing
+pub mod Levels
 pub mod Skims
-pub mod Entries
 pub mod Members

@@ -1,134 +1,110 @@
--- One member of a Seek and one child of a head, by what follows the header. Assumes nothing.
-use Prim.Native.Nat.{ℕ, _+_, _≤_}
+-- The two levels of a seek head, its children and the members of a Seek: what one of them makes, by what follows its
+-- header. Assumes nothing.
+use Prim.Native.Nat.{ℕ, _+_}
 use mathlib.Core.Path.{_≡_, refl, sym, ap, _∙_}
-use mathlib.Core.List.{List, [], _∷_}
+use mathlib.Core.List.{List, [], _∷_, _++_, append-assoc, append-nil}
 use mathlib.Core.Bool.{Bool, true, false, cond, _||_}
+use native.Mathlib.Nat.{add-zero}
 use native.Mathlib.Omega.{arith}
 use lib.ListN.{length}
 use lib.Dec.{leb, eqb}
 use borrow.Author.Tests.{ne-eqb}
-use Rattle.header.specs.declared.cursor.Cursor.{Cursor}
 use Rattle.header.specs.declared.cursor.Header.{Header}
 use Rattle.refusals.specs.declared.refusal.Refusal.{Refusal}
 use Rattle.kinds.specs.Elements.{elements}
 use Rattle.kinds.specs.Kinds.{numberOf, kindIn, member, keeps, kindUnder}
-use Rattle.kinds.specs.declared.kind.Kind.{Kind}
-use Rattle.kinds.specs.declared.kind.Kind.the-variants as K
-use Rattle.bodies_rules.specs.Bodies.{Told, integer, unsigned, float, date, text, bytes, master, refusal, bodyOf}
-use Rattle.bodies_rules.specs.Bodies.{payload, number, ifThere, textOf}
-use Rattle.bodies_rules.specs.Numbers.{signedOf, floatOf}
-use Rattle.bodies_rules.specs.Promise.{valuesOf}
+use Rattle.bodies_rules.specs.Bodies.{Told, body, bodyOf}
 use Rattle.bodies_rules.specs.declared.body.Body.{Body}
-use Rattle.bodies_rules.specs.declared.body.Body.the-variants.{Integer, Unsigned, Float, Date, Text, Bytes, Master}
-use Rattle.utf8.specs.Utf8.{utf8}
-use Rattle.elements_rules.specs.Forest.{Forest}
-use Rattle.elements_rules.specs.Reading.{Outcome, done, refused, elementOf}
-use Rattle.elements_rules.proofs.Bodies.{master-body}
-use Rattle.elements_rules.proofs.Standing.{stands-inside, body-stands}
-use Rattle.seekhead_rules.specs.Seeks.{segmentId, seekId, withoutRows, seekBody, noted, noSeek, withMembers}
-use Rattle.seekhead_rules.specs.Seeks.{entryOf}
-use Rattle.seekhead_rules.specs.Table.{latestFrom}
-use Rattle.seekhead_rules.specs.Contract.{inner, Holds, BytesInside, MemberMet, seekTold, inserted, ChildMet}
+use Rattle.elements_rules.specs.Forest.{Forest, none, node, whole, span, join}
+use Rattle.elements_rules.specs.Reading.{Outcome, done, refused, above, elementOf, depths}
+use Rattle.header.specs.Reads.{headerAt}
+use Rattle.seekhead_rules.specs.Seeks.{segmentId, seekHeadId, seekId, seekBody, noted, noSeek, withMembers}
+use Rattle.seekhead_rules.specs.Seeks.{entryOf, entries}
+use Rattle.seekhead_rules.specs.Table.{latestFrom, positionsFrom}
+use Rattle.seekhead_rules.specs.Contract.{elementAt, Holds, told, memberTold, seekTold, inserted}
+use Rattle.seekhead_rules.specs.Contract.{withEntries, childTold}
+use Rattle.header.specs.declared.cursor.Headed.{Headed}
+use Rattle.header.specs.declared.cursor.HeaderRead.the-variants.{Read}
 use Rattle.seekhead_rules.specs.declared.seek.Seek.{Seek}
+use Rattle.seekhead_rules.specs.declared.seek.SeekRead.{SeekRead}
 use Rattle.seekhead_rules.specs.declared.seek.SeekRead.the-variants.{Read as SeekIs, Refused as SeekRefused}
+use Rattle.seekhead_rules.specs.declared.head.Wanted.{Wanted}
 use Rattle.seekhead_rules.specs.declared.head.Seektable.{Seektable}
+use Rattle.seekhead_rules.specs.declared.head.HeadRead.{HeadRead}
 use Rattle.seekhead_rules.specs.declared.head.HeadRead.the-variants.{Read as HeadIs, Refused as HeadRefused}
+use Rattle.header.proofs.Inside.{header-there}
+use Rattle.seekhead_rules.proofs.Positions.{latest-append, positions-append, positions-none}
+use Rattle.seekhead_rules.proofs.Levels.{Level, Lawful, told-read, told-stopped}
+use Rattle.seekhead_rules.proofs.Skims.{by-elements}
 
--- An answer is a refusal or not.
-seek-not : {A : Type 0} {e : Refusal} {x : Seek} → SeekRefused e ≡ SeekIs x → A
-seek-not q = let z : _≡_ {A = ℕ} 0 1 = cc in let z′ : ⊥ = omega arith in absurd z′
+-- ---- what comes after what was gathered
 
-head-not : {A : Type 0} {e : Refusal} {x : Seektable} → HeadRefused e ≡ HeadIs x → A
-head-not q = let z : _≡_ {A = ℕ} 0 1 = cc in let z′ : ⊥ = omega arith in absurd z′
+members-join : (s : List ℕ) (at : ℕ) (f g : Forest) (seek : Seek)
+    → withMembers s at (join f g) seek ≡ withMembers s (at + span f) g (withMembers s at f seek)
+unfolding join span withMembers
+members-join s at none g seek = rw (add-zero at)
+members-join s at (node e kids rest) g seek =
+    let a : at + whole e + span rest ≡ at + (whole e + span rest) = omega arith in
+    rw (← a) (members-join s (at + whole e) rest g _)
+
+entries-join : (s : List ℕ) (at : ℕ) (f g : Forest)
+    → entries s at (join f g) ≡ entries s at f ++ entries s (at + span f) g
+unfolding join span entries
+entries-join s at none g = rw (add-zero at)
+entries-join s at (node e kids rest) g =
+    let a : at + whole e + span rest ≡ at + (whole e + span rest) = omega arith in
+    rw (entries-join s (at + whole e) rest g, a) (simp append-assoc)
+
+-- ---- the two levels
+
+abbrev pub members : List ℕ → Level
+members s =
+    record { A = Seek; R = SeekRead; read = SeekIs; stop = SeekRefused; depth = 1; parent = seekId; make = withMembers s }
+
+pub members-law : (s : List ℕ) → Lawful (members s)
+unfolding withMembers
+members-law s = record {
+  one = λ a b q. (cc);
+  other = λ a e q. let z : _≡_ {A = ℕ} 0 1 = cc in omega arith;
+  cause = λ e e′ q. (cc);
+  shallow = omega arith;
+  nothing = λ at seek. refl;
+  further = members-join s;
+}
+
+abbrev pub children : List ℕ → Wanted → Level
+children s wanted = record {
+  A = Seektable;
+  R = HeadRead;
+  read = HeadIs;
+  stop = HeadRefused;
+  depth = 0;
+  parent = segmentId;
+  make = withEntries s wanted;
+}
+
+pub children-law : (s : List ℕ) (wanted : Wanted) → Lawful (children s wanted)
+unfolding withEntries entries latestFrom
+children-law s wanted = record {
+  one = λ a b q. (cc);
+  other = λ a e q. let z : _≡_ {A = ℕ} 0 1 = cc in omega arith;
+  cause = λ e e′ q. (cc);
+  shallow = omega arith;
+  nothing = λ at table. rw (positions-none wanted (table .parts)) refl;
+  further = λ at f g table.
+      rw (entries-join s at f g, positions-append wanted (table .parts), latest-append seekHeadId (table .head)) refl;
+}
 
 -- ---- a member of a Seek
 
--- Whether a body is bytes.
-isBytes : Told → ℕ
-isBytes (bytes a l) = 1
-isBytes (integer z) = 0
-isBytes (unsigned v) = 0
-isBytes (float x) = 0
-isBytes (date z) = 0
-isBytes (text a l) = 0
-isBytes master = 0
-isBytes (refusal number id) = 0
-
-module _ (s : List ℕ) (at n a l : ℕ) where
-  -- If the body is bytes a l, they are the whole payload.
-  abbrev Whole : Told → Type 0
-  Whole t = bytes a l ≡ t → (a ≡ at) × (l ≡ n)
-
-  other : (t : Told) → isBytes t ≡ 0 → Whole t
-  unfolding isBytes
-  other t z q = let e : _≡_ {A = ℕ} 1 0 = ap isBytes q ∙ z in absurd (let x : ⊥ = omega arith in x)
-
-  either : (b : Bool) (t u : Told) → Whole t → Whole u → Whole (cond b t u)
-  either true t u x y = x
-  either false t u x y = y
-
-  same : bytes a l ≡ bytes at n → (a ≡ at) × (l ≡ n)
-  same q = (cc, cc)
-
-  if-there : (t : Told) → isBytes t ≡ 0 → Whole (ifThere s at n t)
-  unfolding isBytes
-  if-there t z = either (leb (at + n) (length s)) t (refusal 1 0) (other t z) (other (refusal 1 0) refl)
-
-  if-sized : (b : Bool) (t : Told) (number : ℕ) → isBytes t ≡ 0 → Whole (cond b (ifThere s at n t) (refusal number 0))
-  unfolding isBytes
-  if-sized b t number z = either b (ifThere s at n t) (refusal number 0) (if-there t z) (other (refusal number 0) refl)
-
-  if-text : Whole (ifThere s at n (cond (utf8 (payload s at n)) (text at n) (refusal 7 0)))
-  unfolding isBytes
-  if-text =
-      either (leb (at + n) (length s)) (textOf s at n) (refusal 1 0)
-      (either (utf8 (payload s at n)) (text at n) (refusal 7 0) (other (text at n) refl) (other (refusal 7 0) refl))
-      (other (refusal 1 0) refl)
-
-  -- A body of bytes is the whole payload.
-  bytes-whole : (k : Kind) → Whole (bodyOf s at n k)
-  unfolding bodyOf isBytes
-  bytes-whole K.Master = other master refl
-  bytes-whole K.Int = if-sized (leb n 8) (integer (signedOf n (number s at n))) 4 refl
-  bytes-whole K.Uint = if-sized (leb n 8) (unsigned (number s at n)) 4 refl
-  bytes-whole K.String = if-text
-  bytes-whole K.Utf8 = if-text
-  bytes-whole K.Binary = either (leb (at + n) (length s)) (bytes at n) (refusal 1 0) same (other (refusal 1 0) refl)
-  bytes-whole K.Float = if-sized (eqb n 4 || eqb n 8) (float (floatOf n (number s at n))) 5 refl
-  bytes-whole K.Date = if-sized (eqb n 8) (date (signedOf n (number s at n))) 6 refl
-
-module _ (s : List ℕ) (seek : Seek) (h : Header) (place : Cursor) where
-  pub bytes-inside : (b : Body) → Holds s h (place .at) seekId 1 b → BytesInside s b
-  bytes-inside (Bytes r) x =
-      let (a, l) = bytes-whole s (place .at) (h .size) (r .at) (r .length) (kindUnder (h .id) seekId) (x .body) in
-      omega (arith, x .inside)
-  bytes-inside (Integer z) x = tt
-  bytes-inside (Unsigned v) x = tt
-  bytes-inside (Float y) x = tt
-  bytes-inside (Date z) x = tt
-  bytes-inside (Text r) x = tt
-  bytes-inside Master x = tt
-
-  pub member-refusal : (e : Refusal) → inner s h (place .at) seekId 1 ≡ refused e
-      → MemberMet s seek h place (SeekRefused e)
-  member-refusal e q = record {
-    refusal = λ e′ w. let x : e ≡ e′ = cc in q ∙ ap refused x;
-    more = λ x w. seek-not w;
-  }
-
-  pub member-more : (b : Body) → Holds s h (place .at) seekId 1 b
-      → (r : Seek) → r ≡ noted s (h .id) (valuesOf b) seek → MemberMet s seek h place (SeekIs r)
-  member-more b x r q = record {
-    refusal = λ e w. seek-not (sym w);
-    more = λ y w.
-        let e : r ≡ y = cc in
-        record {
-          kids = x .kids;
-          holds = x .holds;
-          is = sym e ∙ q ∙ ap (λ (t : Told). noted s (h .id) t seek) (x .body);
-          inside = x .inside;
-        };
-  }
+pub member-more : (s : List ℕ) (seek : Seek) (e : Headed) → headerAt s (e .place .at) ≡ Read e
+    → (b : Body) → Holds s 1 seekId e b → (r : Seek) → r ≡ noted s e (body b) seek → SeekIs r ≡ memberTold s seek e
+unfolding withMembers
+member-more s seek e q b x r w =
+    let t = header-there s (e .place .at) e q in
+    rw (x .holds) (ap SeekIs (w ∙ ap (λ (y : Told). noted s e y seek) (x .is)
+    ∙ ap (λ (y : Headed).
+    noted s y (bodyOf s (y .payload .at) (e .header .size) (kindUnder (e .header .id) seekId)) seek) (t .is)))
 
 -- ---- a child of a head
 
@@ -137,61 +113,33 @@ seek-is-master : (h : Header) → h .id ≡ seekId → numberOf (kindUnder (h .i
 unfolding kindUnder member keeps kindIn elements
 seek-is-master h q = rw q refl
 
-module _ (s : List ℕ) (wanted : ℕ) (table : Seektable) (h : Header) (place : Cursor) where
-  pub child-refusal : (e : Refusal) → inner s h (place .at) segmentId 0 ≡ refused e
-      → ChildMet s wanted table h place (HeadRefused e)
-  child-refusal e q = record {
-    refusal = λ e′ w. let x : e ≡ e′ = cc in q ∙ ap refused x;
-    more = λ x w. head-not w;
-  }
-
-  child-is : (kids : Forest) (r : Seektable) → inner s h (place .at) segmentId 0 ≡ done kids
-      → r ≡ inserted wanted table (entryOf s (place .at) (elementOf segmentId h) kids)
-      → place .at + h .size ≤ length s → ChildMet s wanted table h place (HeadIs r)
-  child-is kids r k q i = record {
-    refusal = λ e w. head-not (sym w);
-    more = λ y w. let e : r ≡ y = cc in record { kids = kids; holds = k; is = sym e ∙ q; inside = i };
-  }
-
+module _ (s : List ℕ) (wanted : Wanted) (table : Seektable) (e : Headed) where
   -- What is no Seek adds nothing.
-  pub other-more : (h .id ≡ seekId → ⊥) → (b : Body) → Holds s h (place .at) segmentId 0 b
-      → ChildMet s wanted table h place (HeadIs table)
-  unfolding entryOf latestFrom
-  other-more o b x = child-is (x .kids) table (x .holds) (rw (ne-eqb (h .id) seekId o) refl) (x .inside)
+  pub other-more : (e .header .id ≡ seekId → ⊥) → (b : Body) → Holds s 0 segmentId e b
+      → HeadIs table ≡ childTold s wanted table e
+  unfolding withEntries entries entryOf latestFrom
+  other-more o b x =
+      rw (x .holds, ne-eqb (e .header .id) seekId o, positions-none wanted (table .parts)) refl
 
-  module _ (q : h .id ≡ seekId) where
-    -- The members of a Seek are the elements that it holds.
-    holds-members : inner s h (place .at) segmentId 0 ≡ seekBody s (place .at) (h .size)
-    unfolding inner seekBody
-    holds-members =
-        rw (master-body s (place .at) (h .size) (kindUnder (h .id) segmentId) (seek-is-master h q), q)
+  module _ (there : headerAt s (e .place .at) ≡ Read e) (q : e .header .id ≡ seekId) where
+    -- A Seek is its members.
+    by-members : elementAt s 0 segmentId (e .place .at) ≡ above (elementOf segmentId (e .header)) (seekBody s e)
+    by-members =
+        by-elements s 0 segmentId e there (omega arith) (seek-is-master (e .header) q) ∙ rw q refl
 
-    of-told : (o : Outcome) → {r : Refusal} → SeekRefused r ≡ seekTold s (place .at) o → o ≡ refused r
-    of-told (done f) w = seek-not w
-    of-told (refused e) w = cc
-
-    of-read : (o : Outcome) (x : Seek) → SeekIs x ≡ seekTold s (place .at) o
-        → (f : Forest) × (o ≡ done f) × (x ≡ withMembers s (place .at) f noSeek)
-    of-read (done f) x w = (f, refl, cc)
-    of-read (refused e) x w = seek-not (sym w)
-
-    pub seek-refusal : (e : Refusal) → SeekRefused e ≡ seekTold s (place .at) (seekBody s (place .at) (h .size))
-        → ChildMet s wanted table h place (HeadRefused e)
-    seek-refusal e w = child-refusal e (holds-members ∙ of-told _ w)
+    pub seek-refusal : (x : Refusal) → SeekRefused x ≡ seekTold s e → HeadRefused x ≡ childTold s wanted table e
+    seek-refusal x w = rw (by-members, told-stopped s (members s) (members-law s) _ x (seekBody s e) w) refl
 
     its-entry : (f : Forest)
-        → withMembers s (place .at) f noSeek ∷ [] ≡ entryOf s (place .at) (elementOf segmentId h) f
-    unfolding entryOf
-    its-entry f = rw q refl
+        → withMembers s (e .payload .at) f noSeek ∷ []
+        ≡ entries s (e .place .at) (node (elementOf segmentId (e .header)) f none)
+    unfolding entries entryOf
+    its-entry f = rw (q, header-there s (e .place .at) e there .behind) refl
 
-    pub seek-more : place .at ≤ length s
-        → (x : Seek) → SeekIs x ≡ seekTold s (place .at) (seekBody s (place .at) (h .size))
-        → (r : Seektable) → r ≡ inserted wanted table (x ∷ []) → ChildMet s wanted table h place (HeadIs r)
-    unfolding seekBody
-    seek-more i x w r e =
-        let (f, k, y) = of-read _ x w in
-        let (l, st) = body-stands s withoutRows 0 1 seekId (place .at) (h .size) 0 f i k in
-        let z = stands-inside s seekId (place .at) f st in
-        child-is f r (holds-members ∙ k)
-        (e ∙ ap (λ (v : Seek). inserted wanted table (v ∷ [])) y ∙ ap (inserted wanted table) (its-entry f))
-        (omega arith)
+    pub seek-more : (x : Seek) → SeekIs x ≡ seekTold s e
+        → (r : Seektable) → r ≡ inserted wanted table (x ∷ []) → HeadIs r ≡ childTold s wanted table e
+    unfolding withEntries
+    seek-more x w r i =
+        let (f, k, y) = told-read s (members s) (members-law s) _ x (seekBody s e) w in
+        rw (by-members, k) (ap HeadIs (i ∙ ap (λ (v : Seek). inserted wanted table (v ∷ [])) y
+        ∙ ap (inserted wanted table) (its-entry f)))

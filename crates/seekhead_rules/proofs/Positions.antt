@@ -1,19 +1,20 @@
 -- The latest position of an id, and the id of a Seek. Assumes nothing.
 use Prim.Native.Nat.{ℕ, zero, suc, _+_, _-_, _≤_, min}
 use mathlib.Core.Path.{_≡_, refl, sym, ap, _∙_}
-use mathlib.Core.List.{List, [], _∷_}
+use mathlib.Core.List.{List, [], _∷_, _++_}
 use native.Mathlib.Nat.{sub-zero}
 use native.Mathlib.Omega.{arith}
 use lib.ListN.{take, drop}
 use lib.Seq.{take-nil, drop-drop}
 use borrow.Author.Tests.{eq-eqb, ne-eqb}
-use Rattle.bodies_rules.specs.Bodies.{bytes, unsigned}
 use Rattle.header.specs.Vint.{bigEndian}
-use Rattle.seekhead_rules.specs.Seeks.{seekIdId, seekPositionId, lastFour, noted}
-use Rattle.seekhead_rules.specs.Table.{later}
+use Rattle.seekhead_rules.specs.Seeks.{lastFour}
+use Rattle.seekhead_rules.specs.Table.{later, latestFrom, latestEach, positionsFrom, PositionsEach}
 use Rattle.seekhead_rules.specs.declared.seek.Seek.{Seek}
 use Rattle.seekhead_rules.specs.declared.head.Latest.{Latest}
 use Rattle.seekhead_rules.specs.declared.head.Latest.the-variants.{At}
+use Rattle.seekhead_rules.specs.declared.head.Wanted.{Wanted}
+use Rattle.seekhead_rules.specs.declared.head.Positions.{Positions}
 
 -- ---- the last entry of an id wins
 
@@ -26,7 +27,36 @@ module _ (id : ℕ) (old : Latest) (seek : Seek) where
   unfolding later
   later-other q = rw (ne-eqb (seek .id) id q) refl
 
--- ---- the members of a Seek
+-- ---- more entries after others
+
+pub latest-append : (id : ℕ) (old : Latest) (es fs : List Seek)
+    → latestFrom id old (es ++ fs) ≡ latestFrom id (latestFrom id old es) fs
+unfolding latestFrom
+latest-append id old [] fs = refl
+latest-append id old (e ∷ es) fs = latest-append id (later id old e) es fs
+
+module _ (wanted : Wanted) where
+  pub positions-append : (old : Positions) (es fs : List Seek)
+      → positionsFrom wanted old (es ++ fs) ≡ positionsFrom wanted (positionsFrom wanted old es) fs
+  unfolding positionsFrom
+  positions-append old es fs =
+      rw (
+        latest-append (wanted .first) (old .first) es fs,
+        latest-append (wanted .second) (old .second) es fs,
+        latest-append (wanted .third) (old .third) es fs,
+        latest-append (wanted .fourth) (old .fourth) es fs,
+        latest-append (wanted .fifth) (old .fifth) es fs,
+      )
+
+  pub positions-none : (old : Positions) → positionsFrom wanted old [] ≡ old
+  unfolding positionsFrom latestFrom
+  positions-none old = refl
+
+pub positions-each : PositionsEach
+unfolding positionsFrom latestEach
+positions-each wanted seeks = refl
+
+-- ---- the id of a Seek
 
 -- The smaller of a number and 4.
 pub few : (n m : ℕ) → m ≡ min n 4 → (m ≤ n) × (m ≤ 4) × (m ≡ n - (n - 4))
@@ -46,18 +76,3 @@ last-octets s at n =
     let a : n - (n - 4) ≡ min n 4 = omega arith in
     let b : at + (n - 4) ≡ at + (n - min n 4) = omega arith in
     sym (ap bigEndian (drop-take (n - 4) n (drop at s) ∙ rw (drop-drop (n - 4) at s, a, b) refl))
-
-module _ (s : List ℕ) (id : ℕ) (seek : Seek) where
-  pub noted-id : (at n x : ℕ) → id ≡ seekIdId → x ≡ lastFour s at n
-      → record { id = x; position = seek .position } ≡ noted s id (bytes at n) seek
-  noted-id at n x q e = rw (eq-eqb id seekIdId q, e) refl
-
-  pub noted-position : (v : ℕ) → id ≡ seekPositionId
-      → record { id = seek .id; position = v } ≡ noted s id (unsigned v) seek
-  noted-position v q = rw (eq-eqb id seekPositionId q) refl
-
-  pub other-bytes : (at n : ℕ) → (id ≡ seekIdId → ⊥) → seek ≡ noted s id (bytes at n) seek
-  other-bytes at n q = rw (ne-eqb id seekIdId q) refl
-
-  pub other-number : (v : ℕ) → (id ≡ seekPositionId → ⊥) → seek ≡ noted s id (unsigned v) seek
-  other-number v q = rw (ne-eqb id seekPositionId q) refl

@@ -1,90 +1,124 @@
 -- What follows a header: a leaf's body, or a master's elements. Assumes nothing.
-use Prim.Native.Nat.{ℕ, _+_, _≤_}
-use mathlib.Core.Path.{_≡_, sym, ap, _∙_}
+use Prim.Native.Nat.{ℕ, _+_, _<_}
+use mathlib.Core.Path.{_≡_, refl, sym, ap, _∙_}
 use mathlib.Core.List.{List}
 use native.Mathlib.Omega.{arith}
-use lib.ListN.{length}
 use Rattle.header.specs.declared.cursor.Cursor.{Cursor}
-use Rattle.header.specs.declared.cursor.Header.{Header}
+use Rattle.refusals.specs.Refusals.{because}
+use Rattle.refusals.specs.declared.refusal.Cause.{Cause}
 use Rattle.refusals.specs.declared.refusal.Refusal.{Refusal}
 use Rattle.kinds.specs.Kinds.{numberOf, kindUnder}
-use Rattle.bodies_rules.specs.Bodies.{Told, integer, unsigned, float, date, text, bytes, master, refusal, bodyOf}
-use Rattle.bodies_rules.specs.Promise.{valuesOf}
+use Rattle.kinds.specs.declared.kind.Kind.{Kind}
+use Rattle.bodies_rules.specs.Bodies.{Told, body, master, bodyOf}
+use Rattle.bodies_rules.specs.Bodies.{refused as refusedBody}
 use Rattle.bodies_rules.specs.Reads.{readOf, bodyRead}
 use Rattle.bodies_rules.specs.declared.body.Body.{Body}
-use Rattle.bodies_rules.specs.declared.body.Body.the-variants.{Master}
-use Rattle.bodies_rules.specs.declared.body.BodyRead.{BodyRead}
-use Rattle.bodies_rules.specs.declared.body.BodyRead.the-variants.{Read, Refused}
+use Rattle.bodies_rules.specs.declared.body.Body.the-variants.{Value, Master}
+use Rattle.bodies_rules.specs.declared.body.BodyRead.the-variants.{Read, Refused as BodyRefused}
 use Rattle.elements_rules.specs.Forest.{none}
-use Rattle.elements_rules.specs.Reading.{Outcome, refused, masterBody}
+use Rattle.elements_rules.specs.Reading.{Outcome, refused, above, held, full, elementOf, depths}
 use Rattle.elements_rules.specs.Contract.{stepOf}
 use Rattle.elements_rules.specs.declared.element.ElementRead.the-variants.{Read as ElementIs, Refused as ElementRefused}
 use Rattle.elements_rules.proofs.Bodies.{master-body, held-refused, leaf-read}
 use Rattle.elements_rules.proofs.Standing.{stands-inside, body-stands}
-use Rattle.elements_rules.proofs.Reading.{told-read, told-refused}
-use Rattle.seekhead_rules.specs.Seeks.{withoutRows}
-use Rattle.seekhead_rules.specs.Contract.{inner, Skimmed}
+use Rattle.elements_rules.proofs.Reading.{el-body, told-read, told-refused}
+use Rattle.header.specs.Reads.{headerAt}
+use Rattle.seekhead_rules.specs.Seeks.{withoutRows, skimmed}
+use Rattle.seekhead_rules.specs.Contract.{elementAt, Skimmed}
+use Rattle.header.specs.declared.cursor.Headed.{Headed}
+use Rattle.header.specs.declared.cursor.HeaderRead.the-variants.{Read as HeaderIs}
+use Rattle.header.proofs.Inside.{header-there}
+use Rattle.seekhead_rules.specs.declared.skim.SkimRead.the-variants.{Read as Skim, Refused as SkimRefused}
+use Rattle.seekhead_rules.proofs.Uncounted.{body-uncounted}
 
--- A body that was read has the values of the definition.
-read-values : (at n : ℕ) (t : Told) (b : Body) (next : Cursor) → readOf at n t ≡ Read b next → valuesOf b ≡ t
-read-values at n (integer z) b next q = cc
-read-values at n (unsigned v) b next q = cc
-read-values at n (float x) b next q = cc
-read-values at n (date z) b next q = cc
-read-values at n (text a l) b next q = cc
-read-values at n (bytes a l) b next q = cc
-read-values at n master b next q = cc
-read-values at n (refusal number id) b next q = let x : _≡_ {A = ℕ} 0 1 = cc in absurd (omega arith)
+-- A body that was read is that of the definition.
+read-body : (at n : ℕ) (t : Told) (b : Body) (next : Cursor) → readOf at n t ≡ Read b next → body b ≡ t
+read-body at n (body (Value v)) b next q = cc
+read-body at n (body Master) b next q = cc
+read-body at n (refusedBody c) b next q = let x : _≡_ {A = ℕ} 0 1 = cc in absurd (omega arith)
 
-other-answer : {A : Type 0} {e : Refusal} {b : Body} {next : Cursor} → Refused e ≡ Read b next → A
+other-answer : {A : Type 0} {e : Refusal} {b : Body} → SkimRefused e ≡ Skim b → A
 other-answer q = let z : _≡_ {A = ℕ} 0 1 = cc in let z′ : ⊥ = omega arith in absurd z′
 
-module _ (s : List ℕ) (h : Header) (place : Cursor) (parent depth : ℕ) where
-  -- The elements of a master, and what it therefore holds.
-  abbrev elements-below : Outcome
-  elements-below = masterBody s withoutRows 0 (depth + 1) (h .id) (place .at) (h .size) 0
+module _ (s : List ℕ) (depth parent : ℕ) (e : Headed) (there : headerAt s (e .place .at) ≡ HeaderIs e)
+    (d : depth < depths) where
+  -- The elements of a master, and what the element is therefore.
+  abbrev below : Outcome
+  below = skimmed s (depth + 1) (e .header .id) e
 
-  pub skim-leaf : (r : BodyRead) → (numberOf (kindUnder (h .id) parent) ≡ 1 → ⊥)
-      → r ≡ bodyRead (kindUnder (h .id) parent) s (place .at) (h .size) → Skimmed s h place parent depth r
-  unfolding inner bodyRead
-  skim-leaf r m q = record {
-    refusal = λ e w. held-refused s (place .at) (h .size) (kindUnder (h .id) parent) e elements-below (sym q ∙ w);
-    body = λ b next w.
-        let l = leaf-read s (place .at) (h .size) (kindUnder (h .id) parent) elements-below b next m (sym q ∙ w) in
-        record {
-          kids = none;
-          holds = l .holds;
-          body = read-values (place .at) (h .size) _ b next (sym q ∙ w);
-          inside = l .inside;
-        };
+  abbrev kind : Kind
+  kind = kindUnder (e .header .id) parent
+
+  by-body : elementAt s depth parent (e .place .at)
+      ≡ above (elementOf parent (e .header)) (held (bodyOf s (e .payload .at) (e .header .size) kind) below)
+  unfolding full
+  by-body =
+      let t = header-there s (e .place .at) e there in
+      let h = e .header in
+      el-body s withoutRows 0 depth parent (e .place .at) 0 e there d refl
+      ∙ rw (t .behind, body-uncounted s 0 (depth + 1) (h .id) (e .place .at + h .length) (h .size) (0 + 1))
+
+  pub skim-leaf-refused : (c : Cause) → BodyRefused c ≡ bodyRead kind s (e .payload .at) (e .header .size)
+      → Skimmed s depth parent e (SkimRefused (because c))
+  skim-leaf-refused c q = record {
+    refusal = λ x w.
+        let z : because c ≡ x = cc in
+        by-body ∙ ap (above (elementOf parent (e .header)))
+        (held-refused s (e .payload .at) (e .header .size) kind c below (sym q) ∙ ap refused z);
+    body = λ b w. other-answer w;
   }
 
-  module _ (m : numberOf (kindUnder (h .id) parent) ≡ 1) where
-    is-master : bodyOf s (place .at) (h .size) (kindUnder (h .id) parent) ≡ master
-    is-master = master-body s (place .at) (h .size) (kindUnder (h .id) parent) m
+  pub skim-leaf : (b : Body) (next : Cursor) → (numberOf kind ≡ 1 → ⊥)
+      → Read b next ≡ bodyRead kind s (e .payload .at) (e .header .size) → Skimmed s depth parent e (Skim b)
+  unfolding bodyRead
+  skim-leaf b next m q =
+      let l = leaf-read s (e .payload .at) (e .header .size) kind below b next m (sym q) in
+      record {
+        refusal = λ x w. other-answer (sym w);
+        body = λ b′ w.
+            let y : b ≡ b′ = cc in
+            record {
+              kids = none;
+              holds = by-body ∙ ap (above (elementOf parent (e .header))) (l .holds);
+              is = ap body (sym y) ∙ read-body (e .payload .at) (e .header .size) _ b next (sym q);
+              inside = l .inside;
+            };
+      }
 
-    below : inner s h (place .at) parent depth ≡ elements-below
-    unfolding inner
-    below = rw is-master
+  module _ (m : numberOf kind ≡ 1) where
+    is-master : bodyOf s (e .payload .at) (e .header .size) kind ≡ master
+    is-master = master-body s (e .payload .at) (e .header .size) kind m
 
-    pub skim-refused : (e : Refusal) → ElementRefused e ≡ stepOf (place .at) 0 elements-below
-        → Skimmed s h place parent depth (Refused e)
-    skim-refused e q = record {
-      refusal = λ e′ w.
-          let x : e ≡ e′ = cc in
-          below ∙ told-refused (place .at) 0 elements-below e q ∙ ap refused x;
-      body = λ b next w. other-answer w;
+    -- A master by the elements below it.
+    pub by-elements : elementAt s depth parent (e .place .at) ≡ above (elementOf parent (e .header)) below
+    by-elements = by-body ∙ rw is-master
+
+    pub skim-refused : (x : Refusal) → ElementRefused x ≡ stepOf (e .payload .at) 0 below
+        → Skimmed s depth parent e (SkimRefused x)
+    skim-refused x q = record {
+      refusal = λ y w.
+          let z : x ≡ y = cc in
+          by-elements ∙ ap (above (elementOf parent (e .header)))
+          (told-refused (e .payload .at) 0 below x q ∙ ap refused z);
+      body = λ b w. other-answer w;
     }
 
-    pub skim-master : place .at ≤ length s → (n : ℕ) (next : Cursor)
-        → ElementIs n next ≡ stepOf (place .at) 0 elements-below → Skimmed s h place parent depth (Read Master next)
-    skim-master i n next q =
-        let (f, e, k, a) = told-read (place .at) 0 elements-below n next q in
-        let (l, st) = body-stands s withoutRows 0 (depth + 1) (h .id) (place .at) (h .size) 0 f i e in
-        let x = stands-inside s (h .id) (place .at) f st in
+    pub skim-master : (n : ℕ) (next : Cursor) → ElementIs n next ≡ stepOf (e .payload .at) 0 below
+        → Skimmed s depth parent e (Skim Master)
+    skim-master n next q =
+        let (f, k, c, a) = told-read (e .payload .at) 0 below n next q in
+        let i = header-there s (e .place .at) e there .inside in
+        let (l, st) = body-stands s withoutRows 0 (depth + 1) (e .header .id) (e .payload .at) (e .header .size) 0 f i
+        k in
+        let x = stands-inside s (e .header .id) (e .payload .at) f st in
         record {
-          refusal = λ e′ w. other-answer (sym w);
-          body = λ b next′ w.
+          refusal = λ y w. other-answer (sym w);
+          body = λ b w.
               let y : Master ≡ b = cc in
-              record { kids = f; holds = below ∙ e; body = sym (ap valuesOf y) ∙ sym is-master; inside = omega arith };
+              record {
+                kids = f;
+                holds = by-elements ∙ ap (above (elementOf parent (e .header))) k;
+                is = sym (ap body y) ∙ sym is-master;
+                inside = omega arith;
+              };
         }

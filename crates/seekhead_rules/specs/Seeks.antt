@@ -5,8 +5,11 @@ use mathlib.Core.Bool.{cond, false}
 use lib.ListN.{drop}
 use lib.Dec.{eqb}
 use Rattle.header.specs.Vint.{bigEndian}
-use Rattle.bodies_rules.specs.Bodies.{Told, integer, unsigned, float, date, text, bytes, master, refusal, payload}
-use Rattle.bodies_rules.specs.Bodies.{bodyOf}
+use Rattle.header.specs.Reads.{headedAt}
+use Rattle.header.specs.declared.cursor.Headed.{Headed}
+use Rattle.bodies_rules.specs.Bodies.{Told, body, refused, payload, bodyOf}
+use Rattle.bodies_rules.specs.declared.body.Body.the-variants.{Value, Master}
+use Rattle.bodies_rules.specs.declared.body.Value.the-variants.{Integer, Unsigned, Float, Date, Text, Bytes}
 use Rattle.elements_rules.specs.Forest.{Element, Forest, none, node, whole}
 use Rattle.elements_rules.specs.Reading.{Outcome, masterBody}
 use Rattle.elements_rules.specs.declared.row.Mode.{Mode}
@@ -32,13 +35,18 @@ seekPositionId = 0x53AC
 abbrev pub withoutRows : Mode
 withoutRows = record { keep = false }
 
--- The whole payload of a seek head, read by the element rules without rows: its direct children have depth 0, and
--- Segment's full set of kinds applies to them. A Seek's members have depth 1.
-unfoldable pub headOf : List ℕ → ℕ → ℕ → Outcome
-headOf s at size = masterBody s withoutRows 0 0 segmentId at size 0
+-- The whole payload of an element, read by the element rules without rows: its direct children have that depth, and
+-- stand under that id.
+abbrev pub skimmed : List ℕ → ℕ → ℕ → Headed → Outcome
+skimmed s depth parent e = masterBody s withoutRows 0 depth parent (e .payload .at) (e .header .size) 0
 
-unfoldable pub seekBody : List ℕ → ℕ → ℕ → Outcome
-seekBody s at size = masterBody s withoutRows 0 1 seekId at size 0
+-- A seek head's direct children have depth 0, and Segment's full set of kinds applies to them. A Seek's members have
+-- depth 1.
+abbrev pub headOf : List ℕ → Headed → Outcome
+headOf s head = skimmed s 0 segmentId head
+
+abbrev pub seekBody : List ℕ → Headed → Outcome
+seekBody s seek = skimmed s 1 seekId seek
 
 -- ---- a Seek
 
@@ -46,18 +54,20 @@ seekBody s at size = masterBody s withoutRows 0 1 seekId at size 0
 unfoldable pub lastFour : List ℕ → ℕ → ℕ → ℕ
 lastFour s at size = bigEndian (drop (size - 4) (payload s at size))
 
--- A Seek with one more of its members, by the member's id and body: its id is the last four octets of the last 53AB,
--- its position the last 53AC.
-abbrev pub noted : List ℕ → ℕ → Told → Seek → Seek
-noted s id (bytes at size) seek =
-    cond (eqb id seekIdId) (record { id = lastFour s at size; position = seek .position }) seek
-noted s id (unsigned v) seek = cond (eqb id seekPositionId) (record { id = seek .id; position = v }) seek
-noted s id (integer z) seek = seek
-noted s id (float x) seek = seek
-noted s id (date z) seek = seek
-noted s id (text at size) seek = seek
-noted s id master seek = seek
-noted s id (refusal number e) seek = seek
+-- A Seek with one more of its members, by what it holds: its id is the last four octets of the last 53AB, its position
+-- the last 53AC.
+abbrev pub noted : List ℕ → Headed → Told → Seek → Seek
+noted s member (body (Value (Bytes r))) seek =
+    cond (eqb (member .header .id) seekIdId)
+    (record { id = lastFour s (member .payload .at) (member .header .size); position = seek .position }) seek
+noted s member (body (Value (Unsigned v))) seek =
+    cond (eqb (member .header .id) seekPositionId) (record { id = seek .id; position = v }) seek
+noted s member (body (Value (Integer z))) seek = seek
+noted s member (body (Value (Float x))) seek = seek
+noted s member (body (Value (Date z))) seek = seek
+noted s member (body (Value (Text r))) seek = seek
+noted s member (body Master) seek = seek
+noted s member (refused cause) seek = seek
 
 -- Without members there is no id, and the position is 0.
 abbrev pub noSeek : Seek
@@ -68,7 +78,7 @@ unfoldable pub withMembers : List ℕ → ℕ → Forest → Seek → Seek
 withMembers s at none seek = seek
 withMembers s at (node e kids rest) seek =
     withMembers s (at + whole e) rest
-    (noted s (e .header .id) (bodyOf s (at + e .header .length) (e .header .size) (e .kind)) seek)
+    (noted s (headedAt at (e .header)) (bodyOf s (at + e .header .length) (e .header .size) (e .kind)) seek)
 
 -- ---- a head's entries
 

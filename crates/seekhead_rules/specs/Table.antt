@@ -1,11 +1,14 @@
--- The table of a search: the latest position of an id (document 01, Seek tables and the search).
+-- The table of a search: the latest position of each wanted id (document 01, Seek tables and the search).
 use Prim.Native.Nat.{ℕ}
+use mathlib.Core.Path.{_≡_}
 use mathlib.Core.List.{List, [], _∷_}
 use mathlib.Core.Bool.{cond}
 use lib.Dec.{eqb}
 use Rattle.seekhead_rules.specs.declared.seek.Seek.{Seek}
 use Rattle.seekhead_rules.specs.declared.head.Latest.{Latest}
 use Rattle.seekhead_rules.specs.declared.head.Latest.the-variants.{Nowhere, At}
+use Rattle.seekhead_rules.specs.declared.head.Wanted.{Wanted}
+use Rattle.seekhead_rules.specs.declared.head.Positions.{Positions}
 
 abbrev pub onLatest : {A : Type 0} → Latest → A → (ℕ → A) → A
 onLatest Nowhere none some = none
@@ -22,3 +25,42 @@ latestFrom id old (seek ∷ seeks) = latestFrom id (later id old seek) seeks
 
 abbrev pub latest : ℕ → List Seek → Latest
 latest id seeks = latestFrom id Nowhere seeks
+
+-- ---- a set of ids
+
+-- The latest position of each id of a list.
+unfoldable pub latestEach : List ℕ → List Seek → List Latest
+latestEach [] seeks = []
+latestEach (id ∷ ids) seeks = latest id seeks ∷ latestEach ids seeks
+
+-- The wanted ids and their positions as lists.
+abbrev pub idsOf : Wanted → List ℕ
+idsOf w = w .first ∷ w .second ∷ w .third ∷ w .fourth ∷ w .fifth ∷ []
+
+abbrev pub listed : Positions → List Latest
+listed p = p .first ∷ p .second ∷ p .third ∷ p .fourth ∷ p .fifth ∷ []
+
+-- The one id that a search for a part wants.
+abbrev pub only : ℕ → Wanted
+only id = record { first = id; second = 0; third = 0; fourth = 0; fifth = 0 }
+
+-- The positions after more entries.
+unfoldable pub positionsFrom : Wanted → Positions → List Seek → Positions
+positionsFrom wanted old seeks = record {
+  first = latestFrom (wanted .first) (old .first) seeks;
+  second = latestFrom (wanted .second) (old .second) seeks;
+  third = latestFrom (wanted .third) (old .third) seeks;
+  fourth = latestFrom (wanted .fourth) (old .fourth) seeks;
+  fifth = latestFrom (wanted .fifth) (old .fifth) seeks;
+}
+
+abbrev pub noPositions : Positions
+noPositions = record { first = Nowhere; second = Nowhere; third = Nowhere; fourth = Nowhere; fifth = Nowhere }
+
+-- The latest position of each wanted id.
+abbrev pub positions : Wanted → List Seek → Positions
+positions wanted seeks = positionsFrom wanted noPositions seeks
+
+-- They are those of the list of wanted ids.
+abbrev pub PositionsEach : Type 0
+PositionsEach = (wanted : Wanted) (seeks : List Seek) → listed (positions wanted seeks) ≡ latestEach (idsOf wanted) seeks
