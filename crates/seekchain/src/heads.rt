@@ -5,22 +5,24 @@ ghost use lib.ListN.{length, take};
 ghost use lib.Dec.{ltb};
 ghost use Rattle.seekhead_rules.specs.Contract.{Readable};
 ghost use Rattle.kinds.specs.Kinds.{member};
-ghost use Rattle.seekchain_rules.specs.Heads.{lastAddress, mostHeads, sought as soughtAt, linkedHeads};
+ghost use Rattle.seekchain_rules.specs.Heads.{lastAddress, sought as soughtAt, nextHead, linkedHeads};
 ghost use Rattle.seekchain_rules.specs.Contract.{headsTold};
 use header::Cursor;
+use header::Headed;
 use header::HeaderRead;
 use kinds::ids;
 use refusals::Cause;
 use refusals::Refusal;
-use seekchain_rules::Head;
 use seekchain_rules::HeadsRead;
+use seekchain_rules::NextHead;
 use seekhead::head_body;
 use seekhead_rules::HeadRead;
 use seekhead_rules::Latest;
-use seekhead_rules::Seektable;
+use seekhead_rules::Positions;
+use seekhead_rules::Wanted;
 
 // The most seek heads that one search reads, the first included.
-pub const MOST_HEADS: usize = 64;
+const MOST_HEADS: usize = 64;
 
 // The last address that a number can be.
 const LAST_ADDRESS: u64 = 18446744073709551615;
@@ -47,95 +49,102 @@ fn contains(seen: &[u64], n: usize, address: u64) -> bool
     false
 }
 
-// The header that a sought address holds; 9 where its id is another.
+// The element that a sought address holds; 9 where its id is another.
 pub fn sought(recording: &[u8], address: u64, id: u32) -> HeaderRead
     ensures { λ r. ⌜ r ≡ soughtAt (now (recording .entry)) address id ⌝ }
 {
     let place = Cursor { at: address };
     match place.header(recording) {
         HeaderRead::Refused(refusal) => HeaderRead::Refused(refusal),
-        HeaderRead::Read(header, payload) => {
-            if header.id != id {
+        HeaderRead::Read(element) => {
+            if element.header.id != id {
                 return HeaderRead::Refused(Refusal {
                     cause: Cause::StaleEntry,
                 });
             }
-            HeaderRead::Read(header, payload)
+            HeaderRead::Read(element)
         }
     }
 }
 
-// The heads from the first one on. `seen` is lent for the addresses of those read; an entry for a further head is
-// dropped once it was followed. The order at such an entry: 8, 10, 11, header, 9.
+// The head that an entry for one leads to, where the first `read` addresses are those of the heads that were read. The
+// order: 8, 10, 11, header, 9.
+fn next_head(recording: &[u8], start: u64, seen: &[u64], read: usize, link: Latest) -> NextHead
+    requires { ⌜ read ≤ length (now seen) ⌝ }
+    ensures { λ r. ⌜ r ≡ nextHead (now (recording .entry)) start (take read (now (seen .entry))) link ⌝ }
+{
+    match link {
+        Latest::Nowhere => NextHead::Last,
+        Latest::At(position) => {
+            if is_too_far(start, position) {
+                return NextHead::Refused(Refusal {
+                    cause: Cause::InvalidSeekHead(ids::SEEKHEAD),
+                });
+            }
+            let address = start + position;
+            if contains(seen, read, address) {
+                return NextHead::Refused(Refusal {
+                    cause: Cause::HeadAgain,
+                });
+            }
+            if read >= MOST_HEADS {
+                return NextHead::Refused(Refusal {
+                    cause: Cause::TooManyHeads,
+                });
+            }
+            match sought(recording, address, ids::SEEKHEAD) {
+                HeaderRead::Refused(refusal) => NextHead::Refused(refusal),
+                HeaderRead::Read(head) => NextHead::Next(head),
+            }
+        }
+    }
+}
+
+// The positions of the wanted ids by the heads from the first one on. An entry for a further head is dropped once it was
+// followed.
 pub fn linked_heads(
     recording: &[u8],
     kinds: &[u64],
-    wanted: u32,
+    wanted: Wanted,
     start: u64,
-    first: Head,
-    seen: &mut [u64],
+    first: Headed,
 ) -> HeadsRead
-    requires { ⌜ Readable (now recording) (now kinds) (first .payload) ⌝ }
-    requires { ⌜ length (now seen) ≡ mostHeads ⌝ }
+    requires { ⌜ Readable (now recording) (now kinds) first ⌝ }
     ensures { λ r. ⌜ r ≡ headsTold wanted (linkedHeads (now (recording .entry)) start first) ⌝ }
 {
+    let mut seen = [0u64; MOST_HEADS];
     let mut n: usize = 0;
     let mut head = first;
-    let mut table = Seektable {
-        part: Latest::Nowhere,
-        head: Latest::Nowhere,
+    let mut parts = Positions {
+        first: Latest::Nowhere,
+        second: Latest::Nowhere,
+        third: Latest::Nowhere,
+        fourth: Latest::Nowhere,
+        fifth: Latest::Nowhere,
     };
     loop {
-        match head_body(recording, kinds, wanted, table, head.payload, head.size) {
+        match head_body(recording, kinds, wanted, parts, head) {
             HeadRead::Refused(refusal) => {
                 return HeadsRead::Refused(refusal);
             }
             HeadRead::Read(found) => {
-                seen[n] = head.address;
+                seen[n] = head.place.at;
                 let read = n + 1;
-                let part = found.part;
+                parts = found.parts;
                 let link = found.head;
-                match link {
-                    Latest::Nowhere => {
+                match next_head(recording, start, &seen, read, link) {
+                    NextHead::Refused(refusal) => {
+                        return HeadsRead::Refused(refusal);
+                    }
+                    NextHead::Last => {
                         return HeadsRead::Read {
-                            part,
+                            parts,
                             heads: read as u64,
                         };
                     }
-                    Latest::At(position) => {
-                        if is_too_far(start, position) {
-                            return HeadsRead::Refused(Refusal {
-                                cause: Cause::InvalidSeekHead(ids::SEEKHEAD),
-                            });
-                        }
-                        let address = start + position;
-                        if contains(seen, read, address) {
-                            return HeadsRead::Refused(Refusal {
-                                cause: Cause::HeadAgain,
-                            });
-                        }
-                        if read >= MOST_HEADS {
-                            return HeadsRead::Refused(Refusal {
-                                cause: Cause::TooManyHeads,
-                            });
-                        }
-                        match sought(recording, address, ids::SEEKHEAD) {
-                            HeaderRead::Refused(refusal) => {
-                                return HeadsRead::Refused(refusal);
-                            }
-                            HeaderRead::Read(header, payload) => {
-                                n = read;
-                                head = Head {
-                                    address,
-                                    payload,
-                                    size: header.size,
-                                };
-                                table = Seektable {
-                                    part,
-                                    head: Latest::Nowhere,
-                                };
-                            }
-                        }
+                    NextHead::Next(next) => {
+                        n = read;
+                        head = next;
                     }
                 }
             }

@@ -4,5 +4,4 @@
 mod heads;
 mod lookup;
 
-pub use heads::MOST_HEADS;
 pub use lookup::by_heads;

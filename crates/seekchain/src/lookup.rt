@@ -2,46 +2,63 @@
 ghost use mathlib.Core.Path.{_≡_};
 ghost use Rattle.seekhead_rules.specs.Contract.{Readable};
 ghost use Rattle.seekchain_rules.specs.Lookup.{byHeads};
-ghost use Rattle.seekchain_rules.specs.Contract.{placeTold};
-use crate::heads::MOST_HEADS;
+ghost use Rattle.seekchain_rules.specs.Contract.{placeTold, PartMet};
 use crate::heads::is_too_far;
 use crate::heads::linked_heads;
 use crate::heads::sought;
+use header::Headed;
 use header::HeaderRead;
 use refusals::Cause;
 use refusals::Refusal;
-use seekchain_rules::Head;
 use seekchain_rules::HeadsRead;
 use seekchain_rules::PartPlace;
 use seekhead_rules::Latest;
+use seekhead_rules::Wanted;
 
-// The wanted part by the heads from the first one on, with positions counted from the segment's start: absent, or 8,
-// header, 9.
-pub fn by_heads(recording: &[u8], kinds: &[u64], wanted: u32, start: u64, first: Head) -> PartPlace
-    requires { ⌜ Readable (now recording) (now kinds) (first .payload) ⌝ }
+// The part by the latest position of its id, where so many heads were read: absent, or 8, header, 9.
+fn part_at(recording: &[u8], wanted: u32, start: u64, heads: u64, link: Latest) -> PartPlace
+    ensures { λ r. ⌜ PartMet (now (recording .entry)) wanted start heads link r ⌝ }
+{
+    match link {
+        Latest::Nowhere => PartPlace::Absent { heads },
+        Latest::At(position) => {
+            if is_too_far(start, position) {
+                return PartPlace::Refused(Refusal {
+                    cause: Cause::InvalidSeekHead(wanted),
+                });
+            }
+            let address = start + position;
+            match sought(recording, address, wanted) {
+                HeaderRead::Refused(refusal) => PartPlace::Refused(refusal),
+                HeaderRead::Read(part) => PartPlace::Found { part, heads },
+            }
+        }
+    }
+}
+
+// The wanted part by the heads from the first one on, with positions counted from the segment's start.
+pub fn by_heads(
+    recording: &[u8],
+    kinds: &[u64],
+    wanted: u32,
+    start: u64,
+    first: Headed,
+) -> PartPlace
+    requires { ⌜ Readable (now recording) (now kinds) first ⌝ }
     ensures { λ r. ⌜ r ≡ placeTold (byHeads (now (recording .entry)) wanted start first) ⌝ }
 {
-    let mut seen = [0u64; MOST_HEADS];
-    match linked_heads(recording, kinds, wanted, start, first, &mut seen) {
+    let only = Wanted {
+        first: wanted,
+        second: 0,
+        third: 0,
+        fourth: 0,
+        fifth: 0,
+    };
+    match linked_heads(recording, kinds, only, start, first) {
         HeadsRead::Refused(refusal) => PartPlace::Refused(refusal),
-        HeadsRead::Read { part, heads } => match part {
-            Latest::Nowhere => PartPlace::Absent { heads },
-            Latest::At(position) => {
-                if is_too_far(start, position) {
-                    return PartPlace::Refused(Refusal {
-                        cause: Cause::InvalidSeekHead(wanted),
-                    });
-                }
-                let address = start + position;
-                match sought(recording, address, wanted) {
-                    HeaderRead::Refused(refusal) => PartPlace::Refused(refusal),
-                    HeaderRead::Read(header, payload) => PartPlace::Found {
-                        at: payload.at,
-                        size: header.size,
-                        heads,
-                    },
-                }
-            }
-        },
+        HeadsRead::Read { parts, heads } => {
+            let link = parts.first;
+            part_at(recording, wanted, start, heads, link)
+        }
     }
 }

@@ -2,252 +2,143 @@
 use Prim.Native.Nat.{ℕ, zero, suc, _+_, _-_, _≤_, _<_}
 use mathlib.Core.Path.{_≡_, refl, sym, ap, _∙_}
 use mathlib.Core.List.{List, [], _∷_, _++_}
-use mathlib.Core.Bool.{Bool, true, false, cond}
 use native.Mathlib.Omega.{arith}
-use lib.ListN.{length, take, set, length-set}
-use lib.Dec.{eqb}
+use lib.ListN.{length, take, set, length-set, length-append}
 use lib.Seq.{length-take-le}
-use borrow.Author.Tests.{eq-eqb, ne-eqb, eqb-true}
-use Rattle.header.specs.Reads.{headerAt}
-use Rattle.refusals.specs.Refusals.{invalidSeekHead, staleEntry, headAgain, tooManyHeads}
-use Rattle.header.specs.declared.cursor.Cursor.{Cursor}
-use Rattle.header.specs.declared.cursor.Header.{Header}
-use Rattle.header.specs.declared.cursor.HeaderRead.{HeaderRead}
-use Rattle.header.specs.declared.cursor.HeaderRead.the-variants.{Read, Refused}
 use Rattle.refusals.specs.declared.refusal.Refusal.{Refusal}
-use Rattle.header.proofs.Inside.{header-there}
+use Rattle.header.specs.Reads.{headerAt}
+use Rattle.header.specs.declared.cursor.Headed.{Headed}
+use Rattle.header.specs.declared.cursor.HeaderRead.the-variants.{Read}
 use Rattle.elements_rules.specs.Forest.{Forest}
-use Rattle.elements_rules.specs.Reading.{Outcome, done, refused}
+use Rattle.elements_rules.specs.Reading.{done}
 use Rattle.seekhead_rules.specs.Seeks.{seekHeadId, headOf, entries}
-use Rattle.seekhead_rules.specs.Table.{latestFrom, latest}
-use Rattle.seekhead_rules.specs.Contract.{inserted, headTold}
+use Rattle.seekhead_rules.specs.Table.{latest, positionsFrom, noPositions, positions}
+use Rattle.seekhead_rules.specs.Contract.{withEntries, fresh, headTold}
 use Rattle.seekhead_rules.specs.declared.seek.Seek.{Seek}
-use Rattle.seekhead_rules.specs.declared.head.Latest.{Latest}
-use Rattle.seekhead_rules.specs.declared.head.Latest.the-variants.{Nowhere, At}
+use Rattle.seekhead_rules.specs.declared.head.Wanted.{Wanted}
+use Rattle.seekhead_rules.specs.declared.head.Positions.{Positions}
 use Rattle.seekhead_rules.specs.declared.head.Seektable.{Seektable}
 use Rattle.seekhead_rules.specs.declared.head.HeadRead.the-variants.{Read as HeadIs, Refused as HeadRefused}
-use Rattle.seekhead_rules.proofs.Entries.{latest-append}
-use Rattle.seekchain_rules.specs.Answers.{onHeader}
-use Rattle.kinds.specs.Kinds.{member}
-use Rattle.seekchain_rules.specs.Heads.{tooFar, sought}
-use Rattle.seekchain_rules.specs.Heads.{Chain, chained, broken, follow, chain, linkedHeads}
+use Rattle.seekhead_rules.proofs.Positions.{positions-append, positions-none}
+use Rattle.seekhead_rules.proofs.Levels.{told-read, told-stopped}
+use Rattle.seekhead_rules.proofs.Members.{children, children-law}
+use Rattle.seekchain_rules.specs.Answers.{onOutcome}
+use Rattle.seekchain_rules.specs.Heads.{Heads, withHead, Chain, chained, broken, mostHeads, nextHead, onNext}
+use Rattle.seekchain_rules.specs.Heads.{chain, linkedHeads}
 use Rattle.seekchain_rules.specs.Contract.{headsTold}
-use Rattle.seekchain_rules.specs.declared.heads.Head.{Head}
+use Rattle.seekchain_rules.specs.Theorems.{ChainUnfolds}
+use Rattle.seekchain_rules.specs.declared.heads.NextHead.the-variants.{Next, Last, Refused}
 use Rattle.seekchain_rules.specs.declared.heads.HeadsRead.the-variants.{Read as HeadsAre, Refused as HeadsRefused}
 use Rattle.seekchain_rules.proofs.Seen.{noted-address}
+use Rattle.seekchain_rules.proofs.Sought.{next-is}
 
--- ---- a sought address
-
-module _ (s : List ℕ) (address id : ℕ) where
-  pub no-header-there : (e : Refusal) → headerAt s address ≡ Refused e → Refused e ≡ sought s address id
-  unfolding sought
-  no-header-there e q = rw q refl
-
-  module _ (h : Header) (payload : Cursor) (q : headerAt s address ≡ Read h payload) where
-    pub stale-there : (h .id ≡ id → ⊥) → Refused staleEntry ≡ sought s address id
-    unfolding sought
-    stale-there o = rw (q, ne-eqb (h .id) id o) refl
-
-    pub sought-there : h .id ≡ id → Read h payload ≡ sought s address id
-    unfolding sought
-    sought-there e = rw (q, eq-eqb (h .id) id e) refl
-
--- What a sought address holds: a header that is there, with that id.
-pub sought-read : (s : List ℕ) (address id : ℕ) (h : Header) (payload : Cursor) → Read h payload ≡ sought s address id
-    → (headerAt s address ≡ Read h payload) × (h .id ≡ id)
-unfolding sought
-sought-read s address id h payload q = by-header (headerAt s address) refl q
-  where
-    by-id : (x : Header) (p : Cursor) (b : Bool) → eqb (x .id) id ≡ b → headerAt s address ≡ Read x p
-        → Read h payload ≡ cond b (Read x p) (Refused staleEntry)
-        → (headerAt s address ≡ Read h payload) × (h .id ≡ id)
-    by-id x p true e k w =
-        let a : x ≡ h = cc in
-        (k ∙ sym w, ap (λ (y : Header). y .id) (sym a) ∙ eqb-true (x .id) id e)
-    by-id x p false e k w = let z : _≡_ {A = ℕ} 0 1 = cc in absurd (omega arith)
-
-    by-header : (x : HeaderRead) → headerAt s address ≡ x
-        → Read h payload ≡ onHeader x Refused (λ y p. cond (eqb (y .id) id) (Read y p) (Refused staleEntry))
-        → (headerAt s address ≡ Read h payload) × (h .id ≡ id)
-    by-header (Read x p) k w = by-id x p (eqb (x .id) id) refl k w
-    by-header (Refused e) k w = let z : _≡_ {A = ℕ} 0 1 = cc in absurd (omega arith)
-
-pub sought-inside : (s : List ℕ) (address id : ℕ) (h : Header) (payload : Cursor)
-    → Read h payload ≡ sought s address id → payload .at ≤ length s
-sought-inside s address id h payload q =
-    header-there s address h payload (sought-read s address id h payload q .0) .inside
-
--- ---- one head more
-
--- What follows where an entry leads to a further head, with `more` heads still allowed.
-unfoldable next-head : List ℕ → ℕ → ℕ → List ℕ → List Seek → ℕ → Chain
-next-head s start zero heads es to = broken tooManyHeads
-next-head s start (suc more) heads es to =
-    onHeader (sought s to seekHeadId) broken (λ h payload.
-    chain s start more heads es (record { address = to; payload = payload; size = h .size }))
-
-head-read : (s : List ℕ) (start more : ℕ) (before : List ℕ) (es : List Seek) (head : Head) (f : Forest)
-    → headOf s (head .payload .at) (head .size) ≡ done f
-    → chain s start more before es head
-    ≡ follow start (before ++ (head .address ∷ [])) (es ++ entries s (head .payload .at) f)
-    (entries s (head .payload .at) f)
-    (next-head s start more (before ++ (head .address ∷ [])) (es ++ entries s (head .payload .at) f))
-unfolding chain next-head
-head-read s start zero before es head f q = rw q refl
-head-read s start (suc more) before es head f q = rw q refl
-
-head-lost : (s : List ℕ) (start more : ℕ) (before : List ℕ) (es : List Seek) (head : Head) (e : Refusal)
-    → headOf s (head .payload .at) (head .size) ≡ refused e → chain s start more before es head ≡ broken e
+pub chain-unfolds : ChainUnfolds
 unfolding chain
-head-lost s start zero before es head e q = rw q refl
-head-lost s start (suc more) before es head e q = rw q refl
-
--- What the answer of `head_body` says of the head.
-told-lost : (s : List ℕ) (wanted : ℕ) (table : Seektable) (at : ℕ) (o : Outcome) (e : Refusal)
-    → HeadRefused e ≡ headTold s wanted table at o → o ≡ refused e
-told-lost s wanted table at (done f) e q = let z : _≡_ {A = ℕ} 0 1 = cc in absurd (omega arith)
-told-lost s wanted table at (refused e′) e q = cc
-
-told-found : (s : List ℕ) (wanted : ℕ) (table : Seektable) (at : ℕ) (o : Outcome) (found : Seektable)
-    → HeadIs found ≡ headTold s wanted table at o
-    → (f : Forest) × (o ≡ done f) × (found ≡ inserted wanted table (entries s at f))
-told-found s wanted table at (done f) found q = (f, refl, cc)
-told-found s wanted table at (refused e) found q = let z : _≡_ {A = ℕ} 0 1 = cc in absurd (omega arith)
+chain-unfolds s start heads head l =
+    let m : mostHeads - length (heads .addresses) ≡ suc (mostHeads - (length (heads .addresses) + 1)) = omega arith in
+    rw (m, ← (length-append (heads .addresses) (head .place .at ∷ []))) refl
 
 -- ---- the loop over the heads
 
-module _ (s : List ℕ) (wanted start : ℕ) (first : Head) where
+module _ (s : List ℕ) (wanted : Wanted) (start : ℕ) (first : Headed) where
   abbrev all-heads : Chain
   all-heads = linkedHeads s start first
 
-  lost : (e : Refusal) → all-heads ≡ broken e → HeadsRefused e ≡ headsTold wanted all-heads
-  lost e q = sym (ap (headsTold wanted) q)
+  abbrev read-so-far : List ℕ → ℕ → List Seek → Heads
+  read-so-far seen n es = record { addresses = take n seen; entries = es }
 
   -- n heads were read, their addresses are the first n of `seen`, and `es` are their entries; `head` is the next.
-  pub record Chaining (seen : List ℕ) (n : ℕ) (head : Head) (table : Seektable) : Type 0 where
+  pub record Chaining (seen : List ℕ) (n : ℕ) (head : Headed) (parts : Positions) : Type 0 where
     pub es : List Seek
-    pub few : n ≤ 63
+    pub few : n < 64
     pub long : length seen ≡ 64
-    pub inside : head .payload .at ≤ length s
-    pub rest : all-heads ≡ chain s start (63 - n) (take n seen) es head
-    pub part : table .part ≡ latest wanted es
-    pub link : table .head ≡ Nowhere
+    pub there : headerAt s (head .place .at) ≡ Read head
+    pub rest : all-heads ≡ chain s start (64 - n) (read-so-far seen n es) head
+    pub are : parts ≡ positions wanted es
 
-  pub chaining-holds : (seen : List ℕ) → length seen ≡ 64 → first .payload .at ≤ length s
-      → Chaining seen 0 first (record { part = Nowhere; head = Nowhere })
-  unfolding latestFrom
-  chaining-holds seen l i =
-      record { es = []; few = omega arith; long = l; inside = i; rest = refl; part = refl; link = refl }
+  pub chaining-holds : (seen : List ℕ) → length seen ≡ 64 → headerAt s (first .place .at) ≡ Read first
+      → Chaining seen 0 first noPositions
+  chaining-holds seen l t = record {
+    es = [];
+    few = omega arith;
+    long = l;
+    there = t;
+    rest = refl;
+    are = sym (positions-none wanted noPositions);
+  }
 
-  module _ (seen : List ℕ) (n : ℕ) (head : Head) (table : Seektable) (g : Chaining seen n head table) where
-    abbrev this-head : Outcome
-    this-head = headOf s (head .payload .at) (head .size)
+  module _ (seen : List ℕ) (n : ℕ) (head : Headed) (parts : Positions) (g : Chaining seen n head parts) where
+    more : 64 - n ≡ suc (63 - n)
+    more = omega (arith, g .few)
 
-    pub chaining-lost : (e : Refusal) → HeadRefused e ≡ headTold s wanted table (head .payload .at) this-head
+    pub chaining-lost : (e : Refusal) → HeadRefused e ≡ headTold s wanted parts head
         → HeadsRefused e ≡ headsTold wanted all-heads
+    unfolding chain
     chaining-lost e q =
-        let k = told-lost s wanted table (head .payload .at) this-head e q in
-        lost e (g .rest ∙ head-lost s start (63 - n) (take n seen) (g .es) head e k)
+        let k = told-stopped s (children s wanted) (children-law s wanted) _ e (headOf s head) q in
+        rw (g .rest, more, k) refl
 
     -- The addresses, with this head's.
     abbrev pub seen-now : List ℕ
-    seen-now = set seen n (head .address)
+    seen-now = set seen n (head .place .at)
 
     pub seen-long : length seen-now ≡ 64
-    seen-long = length-set seen n (head .address) ∙ g .long
+    seen-long = length-set seen n (head .place .at) ∙ g .long
 
-    module _ (found : Seektable) (q : HeadIs found ≡ headTold s wanted table (head .payload .at) this-head) where
+    module _ (found : Seektable) (q : HeadIs found ≡ headTold s wanted parts head) where
       -- The head was read, and its own entries are known.
       record Followed : Type 0 where
         own : List Seek
         is :
             all-heads
-            ≡ follow start (take (n + 1) seen-now) (g .es ++ own) own
-            (next-head s start (63 - n) (take (n + 1) seen-now) (g .es ++ own))
-        part : found .part ≡ latest wanted (g .es ++ own)
-        link : found .head ≡ latest seekHeadId own
+            ≡ onNext (nextHead s start (take (n + 1) seen-now) (found .head))
+            (chained (read-so-far seen-now (n + 1) (g .es ++ own))) broken
+            (chain s start (63 - n) (read-so-far seen-now (n + 1) (g .es ++ own)))
+        are : found .parts ≡ positions wanted (g .es ++ own)
+
+      follow : (f : Forest) → headOf s head ≡ done f
+          → found ≡ withEntries s wanted (head .payload .at) f (fresh parts) → Followed
+      unfolding chain withEntries
+      follow f k e =
+          let own = entries s (head .payload .at) f in
+          let a : take n seen ++ (head .place .at ∷ []) ≡ take (n + 1) seen-now
+          = sym (noted-address seen n (head .place .at) (omega (arith, g .few, g .long))) in
+          let l : latest seekHeadId own ≡ found .head = sym (ap (λ (t : Seektable). t .head) e) in
+          record {
+            own = own;
+            is = g .rest ∙ rw (more, k, a, l) refl;
+            are =
+                ap (λ (t : Seektable). t .parts) e ∙ ap (λ (x : Positions). positionsFrom wanted x own) (g .are)
+                ∙ sym (positions-append wanted noPositions (g .es) own);
+          }
 
       followed : Followed
       followed =
-          let (f, k, e) = told-found s wanted table (head .payload .at) this-head found q in
-          let own = entries s (head .payload .at) f in
-          let a : take n seen ++ (head .address ∷ []) ≡ take (n + 1) seen-now
-          = sym (noted-address seen n (head .address) (omega (arith, g .few, g .long))) in
-          record {
-            own = own;
-            is = g .rest ∙ head-read s start (63 - n) (take n seen) (g .es) head f k ∙ rw a refl;
-            part =
-                ap (λ (t : Seektable). t .part) e ∙ ap (λ (x : Latest). latestFrom wanted x own) (g .part)
-                ∙ sym (latest-append wanted Nowhere (g .es) own);
-            link =
-                ap (λ (t : Seektable). t .head) e ∙ ap (λ (x : Latest). latestFrom seekHeadId x own) (g .link);
-          }
+          let (f, k, e) = told-read s (children s wanted) (children-law s wanted) _ found (headOf s head) q in
+          follow f k e
 
-      counted : length (take (n + 1) seen-now) ≡ n + 1
-      counted = length-take-le (n + 1) seen-now (omega (arith, seen-long, g .few))
+      pub chaining-stops : (e : Refusal) → Refused e ≡ nextHead s start (take (n + 1) seen-now) (found .head)
+          → HeadsRefused e ≡ headsTold wanted all-heads
+      chaining-stops e k = rw (followed .is, ← k) refl
 
-      pub chaining-ends : found .head ≡ Nowhere → HeadsAre (found .part) (n + 1) ≡ headsTold wanted all-heads
-      chaining-ends z =
+      pub chaining-ends : Last ≡ nextHead s start (take (n + 1) seen-now) (found .head)
+          → HeadsAre (found .parts) (n + 1) ≡ headsTold wanted all-heads
+      chaining-ends k =
+          let l = length-take-le (n + 1) seen-now (omega (arith, seen-long, g .few)) in
+          ap (λ (x : Positions). HeadsAre x (n + 1)) (followed .are) ∙ rw (followed .is, ← k, l) refl
+
+      pub chaining-on : (next : Headed) → Next next ≡ nextHead s start (take (n + 1) seen-now) (found .head)
+          → Chaining seen-now (n + 1) next (found .parts)
+      chaining-on next k =
           let w = followed in
-          let l : latest seekHeadId (w .own) ≡ Nowhere = sym (w .link) ∙ z in
-          let e : all-heads ≡ chained (take (n + 1) seen-now) (g .es ++ w .own) = w .is ∙ rw l refl in
-          rw (w .part) (sym (ap (headsTold wanted) e ∙ rw counted refl))
-
-      module _ (position : ℕ) (at : found .head ≡ At position) where
-        -- An entry for a further head.
-        leads : (w : Followed)
-            → all-heads
-            ≡ cond (tooFar start position) (broken (invalidSeekHead seekHeadId))
-            (cond (member (start + position) (take (n + 1) seen-now)) (broken headAgain)
-            (next-head s start (63 - n) (take (n + 1) seen-now) (g .es ++ w .own) (start + position)))
-        leads w =
-            let l : latest seekHeadId (w .own) ≡ At position = sym (w .link) ∙ at in
-            w .is ∙ rw l refl
-
-        pub chaining-far : tooFar start position ≡ true
-            → HeadsRefused (invalidSeekHead seekHeadId) ≡ headsTold wanted all-heads
-        chaining-far b = lost (invalidSeekHead seekHeadId) (leads followed ∙ rw b refl)
-
-        module _ (near : tooFar start position ≡ false) where
-          pub chaining-again : member (start + position) (take (n + 1) seen-now) ≡ true
-              → HeadsRefused headAgain ≡ headsTold wanted all-heads
-          chaining-again b = lost headAgain (leads followed ∙ rw (near, b) refl)
-
-          module _ (new : member (start + position) (take (n + 1) seen-now) ≡ false) where
-            onward : (w : Followed)
-                → all-heads
-                ≡ next-head s start (63 - n) (take (n + 1) seen-now) (g .es ++ w .own) (start + position)
-            onward w = leads w ∙ rw (near, new) refl
-
-            pub chaining-many : 64 ≤ n + 1 → HeadsRefused tooManyHeads ≡ headsTold wanted all-heads
-            unfolding next-head
-            chaining-many m =
-                let z : 63 - n ≡ 0 = omega (arith, g .few) in
-                lost tooManyHeads (onward followed ∙ rw z refl)
-
-            module _ (less : n + 1 < 64) where
-              more : 63 - n ≡ suc (63 - (n + 1))
-              more = omega arith
-
-              pub chaining-refused : (e : Refusal) → Refused e ≡ sought s (start + position) seekHeadId
-                  → HeadsRefused e ≡ headsTold wanted all-heads
-              unfolding next-head
-              chaining-refused e k = lost e (onward followed ∙ rw (more, ← k) refl)
-
-              pub chaining-on : (h : Header) (payload : Cursor)
-                  → Read h payload ≡ sought s (start + position) seekHeadId
-                  → payload .at ≤ length s
-                  → Chaining seen-now (n + 1) (record { address = start + position; payload = payload; size = h .size })
-                  (record { part = found .part; head = Nowhere })
-              unfolding next-head
-              chaining-on h payload k i =
-                  let w = followed in
-                  record {
-                    es = g .es ++ w .own;
-                    few = omega arith;
-                    long = seen-long;
-                    inside = i;
-                    rest = onward w ∙ rw (more, ← k) refl;
-                    part = w .part;
-                    link = refl;
-                  }
+          let i = next-is s start (take (n + 1) seen-now) next (found .head) (sym k) in
+          let l = length-take-le (n + 1) seen-now (omega (arith, seen-long, g .few)) in
+          let m : 63 - n ≡ 64 - (n + 1) = omega arith in
+          record {
+            es = g .es ++ w .own;
+            few = omega (arith, i .few);
+            long = seen-long;
+            there = i .is .head;
+            rest = w .is ∙ rw (← k, m) refl;
+            are = w .are;
+          }

@@ -8,27 +8,26 @@ use native.Mathlib.Omega.{arith}
 use lib.ListN.{length, length-append}
 use lib.Dec.{eqb}
 use borrow.Author.Tests.{eqb-false}
-use Rattle.refusals.specs.Refusals.{invalidSeekHead, headAgain, tooManyHeads}
-use Rattle.header.specs.declared.cursor.Cursor.{Cursor}
-use Rattle.header.specs.declared.cursor.Header.{Header}
+use Rattle.refusals.specs.Refusals.{invalidSeekHead}
+use Rattle.header.specs.declared.cursor.Headed.{Headed}
 use Rattle.header.specs.declared.cursor.HeaderRead.{HeaderRead}
-use Rattle.header.specs.declared.cursor.HeaderRead.the-variants.{Read, Refused}
+use Rattle.header.specs.declared.cursor.HeaderRead.the-variants.{Read, Refused as HeaderRefused}
 use Rattle.elements_rules.specs.Forest.{Forest}
 use Rattle.elements_rules.specs.Reading.{Outcome, done, refused}
+use Rattle.kinds.specs.Kinds.{member}
 use Rattle.seekhead_rules.specs.Seeks.{seekHeadId, headOf, entries}
 use Rattle.seekhead_rules.specs.Table.{onLatest, latest}
-use Rattle.seekhead_rules.specs.declared.seek.Seek.{Seek}
 use Rattle.seekhead_rules.specs.declared.head.Latest.{Latest}
 use Rattle.seekhead_rules.specs.declared.head.Latest.the-variants.{Nowhere, At}
 use Rattle.seekchain_rules.specs.Answers.{onHeader, onOutcome}
-use Rattle.kinds.specs.Kinds.{member}
-use Rattle.seekchain_rules.specs.Heads.{tooFar, sought, mostHeads, linkedHeads}
-use Rattle.seekchain_rules.specs.Heads.{Chain, chained, broken, follow, chain}
-use Rattle.seekchain_rules.specs.Lookup.{found, absent, stopped, onChain, byHeads}
+use Rattle.seekchain_rules.specs.Heads.{Heads, noHeads, withHead, Chain, chained, broken, mostHeads, nextHead}
+use Rattle.seekchain_rules.specs.Heads.{tooFar, sought, onNext, chain, linkedHeads}
+use Rattle.seekchain_rules.specs.Lookup.{found, absent, stopped, onChain, partAt, byHeads}
 use Rattle.seekchain_rules.specs.Theorems.{IsAt, IsHead, AreHeads, NotAmong, Distinct, GoodHeads, ByHeads}
 use Rattle.seekchain_rules.specs.Theorems.{HeadsLead}
-use Rattle.seekchain_rules.specs.declared.heads.Head.{Head}
-use Rattle.seekchain_rules.proofs.Chains.{sought-read}
+use Rattle.seekchain_rules.specs.declared.heads.NextHead.{NextHead}
+use Rattle.seekchain_rules.specs.declared.heads.NextHead.the-variants.{Next, Last, Refused}
+use Rattle.seekchain_rules.proofs.Sought.{sought-is, next-is}
 
 -- ---- one address more
 
@@ -61,170 +60,102 @@ heads-append s (z ∷ zs) y a h = (a .0, heads-append s zs y (a .1) h)
 
 -- ---- the chain
 
--- Heads that were read, after which so many more may be.
-record Ahead (s heads : List ℕ) (more : ℕ) : Type 0 where
-  are : AreHeads s heads
-  distinct : Distinct heads
-  few : length heads + more ≤ mostHeads
+-- A head that may be read: it is one, at another address than those before, and there are fewer than 64.
+record Ahead (s seen : List ℕ) (head : Headed) : Type 0 where
+  good : GoodHeads s seen
+  is : IsAt s seekHeadId (head .place .at) head
+  new : NotAmong (head .place .at) seen
+  few : suc (length seen) ≤ mostHeads
 
--- A head that is to be read next: it is one, and at another address than those before.
-record Next (s before : List ℕ) (head : Head) : Type 0 where
-  is : IsAt s seekHeadId (head .address) (head .payload) (head .size)
-  new : NotAmong (head .address) before
-
-one-more : (s before : List ℕ) (more : ℕ) (head : Head) (f : Forest) → Ahead s before (suc more) → Next s before head
-    → headOf s (head .payload .at) (head .size) ≡ done f → Ahead s (before ++ (head .address ∷ [])) more
-one-more s before more head f a n q =
-    let h : IsHead s (head .address)
-    = record { payload = head .payload; size = head .size; is = n .is; elements = f; read = q } in
-    record {
-      are = heads-append s before (head .address) (a .are) h;
-      distinct = distinct-append before (head .address) (a .distinct) (n .new);
-      few = let l = length-append before (head .address ∷ []) in omega (arith, a .few);
-    }
+one-more : (s seen : List ℕ) (head : Headed) (f : Forest) → Ahead s seen head → headOf s head ≡ done f
+    → GoodHeads s (seen ++ (head .place .at ∷ []))
+one-more s seen head f a q = record {
+  are = heads-append s seen (head .place .at) (a .good .are)
+      (record { element = head; is = a .is; elements = f; read = q });
+  distinct = distinct-append seen (head .place .at) (a .good .distinct) (a .new);
+  few = let l = length-append seen (head .place .at ∷ []) in omega (arith, a .few);
+}
 
 abbrev Sound : List ℕ → Chain → Type 0
-Sound s (chained heads es) = GoodHeads s heads
+Sound s (chained heads) = GoodHeads s (heads .addresses)
 Sound s (broken e) = Unit
 
-read-so-far : (s heads : List ℕ) (more : ℕ) → Ahead s heads more → GoodHeads s heads
-read-so-far s heads more a = record { are = a .are; distinct = a .distinct; few = omega (arith, a .few) }
-
-follow-sound : (s : List ℕ) (start : ℕ) (heads : List ℕ) (all own : List Seek) (next : ℕ → Chain) → GoodHeads s heads
-    → ((to : ℕ) → member to heads ≡ false → Sound s (next to)) → Sound s (follow start heads all own next)
-follow-sound s start heads all own next g k = by-latest (latest seekHeadId own)
-  where
-    by-member : (to : ℕ) (b : Bool) → member to heads ≡ b → Sound s (cond b (broken headAgain) (next to))
-    by-member to true q = tt
-    by-member to false q = k to q
-
-    by-far : (to : ℕ) (b : Bool)
-        → Sound s (cond b (broken (invalidSeekHead seekHeadId)) (cond (member to heads) (broken headAgain) (next to)))
-    by-far to true = tt
-    by-far to false = by-member to (member to heads) refl
-
-    by-latest : (l : Latest)
-        → Sound s (onLatest l (chained heads all) (λ position.
-        cond (tooFar start position) (broken (invalidSeekHead seekHeadId))
-        (cond (member (start + position) heads) (broken headAgain) (next (start + position)))))
-    by-latest Nowhere = g
-    by-latest (At position) = by-far (start + position) (tooFar start position)
-
--- What a sought address holds is there.
-sought-is : (s : List ℕ) (to id : ℕ) (h : Header) (payload : Cursor) → sought s to id ≡ Read h payload
-    → IsAt s id to payload (h .size)
-sought-is s to id h payload q =
-    let (a, b) = sought-read s to id h payload (sym q) in
-    record { header = h; head = a; named = b; sized = refl }
-
--- What is to be shown of the heads that follow those read.
-abbrev Onward : List ℕ → ℕ → ℕ → List ℕ → Type 0
-Onward s start more before =
-    (es : List Seek) (head : Head) → Ahead s before (suc more) → Next s before head
-    → Sound s (chain s start more before es head)
-
-chain-sound : (s : List ℕ) (start more : ℕ) (before : List ℕ) → Onward s start more before
+chain-sound : (s : List ℕ) (start more : ℕ) (heads : Heads) (head : Headed) → Ahead s (heads .addresses) head
+    → Sound s (chain s start more heads head)
 unfolding chain
-chain-sound s start zero before es head a n = go (headOf s (head .payload .at) (head .size)) refl
+chain-sound s start zero heads head a = tt
+chain-sound s start (suc more) heads head a = go (headOf s head) refl (chain-sound s start more)
   where
-    go : (o : Outcome) → headOf s (head .payload .at) (head .size) ≡ o
-        → Sound s (onOutcome o broken (λ f.
-        follow start (before ++ (head .address ∷ [])) (es ++ entries s (head .payload .at) f)
-        (entries s (head .payload .at) f) (λ to. broken tooManyHeads)))
-    go (done f) q =
-        follow-sound s start (before ++ (head .address ∷ [])) (es ++ entries s (head .payload .at) f)
-        (entries s (head .payload .at) f) (λ to. broken tooManyHeads)
-        (read-so-far s (before ++ (head .address ∷ [])) zero (one-more s before zero head f a n q)) (λ to m. tt)
-    go (refused e) q = tt
-chain-sound s start (suc more) before es head a n =
-    go (headOf s (head .payload .at) (head .size)) refl (chain-sound s start more (before ++ (head .address ∷ [])))
-  where
-    by-header : Onward s start more (before ++ (head .address ∷ []))
-        → Ahead s (before ++ (head .address ∷ [])) (suc more)
-        → (es′ : List Seek) (to : ℕ) → member to (before ++ (head .address ∷ [])) ≡ false
-        → (x : HeaderRead) → sought s to seekHeadId ≡ x
-        → Sound s (onHeader x broken (λ h payload.
-        chain s start more (before ++ (head .address ∷ [])) es′
-        (record { address = to; payload = payload; size = h .size })))
-    by-header k b es′ to m (Read h payload) q =
-        k es′ (record { address = to; payload = payload; size = h .size }) b
-        (record {
-          is = sought-is s to seekHeadId h payload q;
-          new = not-among to (before ++ (head .address ∷ [])) m;
-        })
-    by-header k b es′ to m (Refused e) q = tt
+    Onward : Type 0
+    Onward = (all : Heads) (next : Headed) → Ahead s (all .addresses) next → Sound s (chain s start more all next)
 
-    go : (o : Outcome) → headOf s (head .payload .at) (head .size) ≡ o
-        → Onward s start more (before ++ (head .address ∷ []))
+    by-next : Onward → (all : Heads) → GoodHeads s (all .addresses) → (link : Latest)
+        → (x : NextHead) → nextHead s start (all .addresses) link ≡ x
+        → Sound s (onNext x (chained all) broken (chain s start more all))
+    by-next k all g link (Next next) q =
+        let i = next-is s start (all .addresses) next link q in
+        k all next (record { good = g; is = i .is; new = not-among _ _ (i .new); few = omega (arith, i .few) })
+    by-next k all g link Last q = g
+    by-next k all g link (Refused e) q = tt
+
+    go : (o : Outcome) → headOf s head ≡ o → Onward
         → Sound s (onOutcome o broken (λ f.
-        follow start (before ++ (head .address ∷ [])) (es ++ entries s (head .payload .at) f)
-        (entries s (head .payload .at) f) (λ to.
-        onHeader (sought s to seekHeadId) broken (λ h payload.
-        chain s start more (before ++ (head .address ∷ [])) (es ++ entries s (head .payload .at) f)
-        (record { address = to; payload = payload; size = h .size })))))
+        onNext (nextHead s start (heads .addresses ++ (head .place .at ∷ []))
+        (latest seekHeadId (entries s (head .payload .at) f)))
+        (chained (withHead heads head (entries s (head .payload .at) f))) broken
+        (chain s start more (withHead heads head (entries s (head .payload .at) f)))))
     go (done f) q k =
-        let b = one-more s before (suc more) head f a n q in
-        follow-sound s start (before ++ (head .address ∷ [])) (es ++ entries s (head .payload .at) f)
-        (entries s (head .payload .at) f) (λ to.
-        onHeader (sought s to seekHeadId) broken (λ h payload.
-        chain s start more (before ++ (head .address ∷ [])) (es ++ entries s (head .payload .at) f)
-        (record { address = to; payload = payload; size = h .size })))
-        (read-so-far s (before ++ (head .address ∷ [])) (suc more) b)
-        (λ to m. by-header k b (es ++ entries s (head .payload .at) f) to m (sought s to seekHeadId) refl)
+        by-next k (withHead heads head (entries s (head .payload .at) f)) (one-more s (heads .addresses) head f a q)
+        (latest seekHeadId (entries s (head .payload .at) f)) _ refl
     go (refused e) q k = tt
 
 -- ---- the part
 
+module _ (s : List ℕ) (wanted start : ℕ) (first : Headed) (heads : Heads)
+    (c : linkedHeads s start first ≡ chained heads) (g : GoodHeads s (heads .addresses)) where
+  by-header : (position : ℕ) → latest wanted (heads .entries) ≡ At position
+      → (x : HeaderRead) → sought s (start + position) wanted ≡ x
+      → ByHeads s wanted start first (onHeader x stopped (λ part. found part (heads .addresses)))
+  by-header position l (Read part) q = (
+    record {
+      entries = heads .entries;
+      position = position;
+      read = c;
+      last = l;
+      is = sought-is s (start + position) wanted part q;
+    },
+    g,
+  )
+  by-header position l (HeaderRefused e) q = tt
+
+  by-far : (position : ℕ) → latest wanted (heads .entries) ≡ At position → (b : Bool)
+      → ByHeads s wanted start first
+      (cond b (stopped (invalidSeekHead wanted))
+      (onHeader (sought s (start + position) wanted) stopped (λ part. found part (heads .addresses))))
+  by-far position l true = tt
+  by-far position l false = by-header position l (sought s (start + position) wanted) refl
+
+  by-latest : (l : Latest) → latest wanted (heads .entries) ≡ l
+      → ByHeads s wanted start first (partAt s wanted start (heads .addresses) l)
+  unfolding partAt
+  by-latest Nowhere l = (record { entries = heads .entries; read = c; never = l }, g)
+  by-latest (At position) l = by-far position l (tooFar start position)
+
 pub heads-lead : HeadsLead
 unfolding byHeads AreHeads Distinct NotAmong
 heads-lead s wanted start first st =
-    go (linkedHeads s start first) refl (chain-sound s start 63 [] [] first none-read first-next)
+    go (linkedHeads s start first) refl (chain-sound s start mostHeads noHeads first ahead)
   where
-    none-read : Ahead s [] 64
-    none-read = record { are = tt; distinct = tt; few = omega arith }
-
-    first-next : Next s [] first
-    first-next = record { is = st; new = tt }
-
-    by-header : (position : ℕ) (heads : List ℕ) (es : List Seek) → linkedHeads s start first ≡ chained heads es
-        → GoodHeads s heads → latest wanted es ≡ At position
-        → (x : HeaderRead) → sought s (start + position) wanted ≡ x
-        → ByHeads s wanted start first (onHeader x stopped (λ h payload. found (payload .at) (h .size) heads))
-    by-header position heads es c g l (Read h payload) q = (
-      record {
-        entries = es;
-        position = position;
-        read = c;
-        last = l;
-        is = sought-is s (start + position) wanted h payload q;
-      },
-      g,
-    )
-    by-header position heads es c g l (Refused e) q = tt
-
-    by-far : (position : ℕ) (heads : List ℕ) (es : List Seek) → linkedHeads s start first ≡ chained heads es
-        → GoodHeads s heads → latest wanted es ≡ At position → (b : Bool)
-        → ByHeads s wanted start first
-        (cond b (stopped (invalidSeekHead wanted))
-        (onHeader (sought s (start + position) wanted) stopped (λ h payload. found (payload .at) (h .size) heads)))
-    by-far position heads es c g l true = tt
-    by-far position heads es c g l false =
-        by-header position heads es c g l (sought s (start + position) wanted) refl
-
-    by-latest : (heads : List ℕ) (es : List Seek) → linkedHeads s start first ≡ chained heads es → GoodHeads s heads
-        → (l : Latest) → latest wanted es ≡ l
-        → ByHeads s wanted start first
-        (onLatest l (absent heads) (λ position.
-        cond (tooFar start position) (stopped (invalidSeekHead wanted))
-        (onHeader (sought s (start + position) wanted) stopped (λ h payload. found (payload .at) (h .size) heads))))
-    by-latest heads es c g Nowhere l = (record { entries = es; read = c; never = l }, g)
-    by-latest heads es c g (At position) l = by-far position heads es c g l (tooFar start position)
+    ahead : Ahead s [] first
+    ahead = record {
+      good = record { are = tt; distinct = tt; few = omega arith };
+      is = st;
+      new = tt;
+      few = omega arith;
+    }
 
     go : (c : Chain) → linkedHeads s start first ≡ c → Sound s c
         → ByHeads s wanted start first
-        (onChain c (λ heads es.
-        onLatest (latest wanted es) (absent heads) (λ position.
-        cond (tooFar start position) (stopped (invalidSeekHead wanted))
-        (onHeader (sought s (start + position) wanted) stopped (λ h payload. found (payload .at) (h .size) heads)))))
-    go (chained heads es) c g = by-latest heads es c g (latest wanted es) refl
+        (onChain c (λ heads. partAt s wanted start (heads .addresses) (latest wanted (heads .entries))))
+    go (chained heads) c g = by-latest s wanted start first heads c g (latest wanted (heads .entries)) refl
     go (broken e) c g = tt

@@ -1,6 +1,7 @@
--- The laws that the proofs of `seekchain` share, and the theorems.
-pub mod Seen
+-- The laws that the proofs of `seekchain` share, and the theorem.
 pub mod Positions
+pub mod Seen
+pub mod Sought
 pub mod Chains
-pub mod Lookups
 pub mod Leads
+pub mod Lookups

@@ -1,21 +1,29 @@
 -- What the functions of `seekchain` promise each other: how the definitions are told by the code's enums.
 use Prim.Native.Nat.{ℕ}
+use mathlib.Core.Path.{_≡_}
+use mathlib.Core.List.{List}
 use lib.ListN.{length}
-use Rattle.seekhead_rules.specs.Table.{latest}
+use Rattle.seekhead_rules.specs.Table.{positions}
+use Rattle.seekhead_rules.specs.declared.head.Wanted.{Wanted}
+use Rattle.seekhead_rules.specs.declared.head.Latest.{Latest}
 use Rattle.seekchain_rules.specs.Heads.{Chain, chained, broken}
-use Rattle.seekchain_rules.specs.Lookup.{Lookup, found, absent, stopped}
+use Rattle.seekchain_rules.specs.Lookup.{Lookup, found, absent, stopped, partAt}
 use Rattle.seekchain_rules.specs.declared.heads.HeadsRead.{HeadsRead}
 use Rattle.seekchain_rules.specs.declared.heads.HeadsRead.the-variants.{Read as HeadsAre, Refused as HeadsRefused}
 use Rattle.seekchain_rules.specs.declared.lookup.PartPlace.{PartPlace}
 use Rattle.seekchain_rules.specs.declared.lookup.PartPlace.the-variants.{Found, Absent, Refused}
 
--- The count of heads is the length of the list of their addresses.
-abbrev pub headsTold : ℕ → Chain → HeadsRead
-headsTold wanted (chained heads es) = HeadsAre (latest wanted es) (length heads)
+-- How `linked_heads` tells the chain: the positions of a set of wanted ids by all entries, and how many heads there are.
+abbrev pub headsTold : Wanted → Chain → HeadsRead
+headsTold wanted (chained heads) = HeadsAre (positions wanted (heads .entries)) (length (heads .addresses))
 headsTold wanted (broken e) = HeadsRefused e
 
--- How `by_heads` tells where a part is.
+-- How `part_at` and `by_heads` tell where a part is.
 abbrev pub placeTold : Lookup → PartPlace
-placeTold (found at size heads) = Found at size (length heads)
+placeTold (found part heads) = Found part (length heads)
 placeTold (absent heads) = Absent (length heads)
 placeTold (stopped e) = Refused e
+
+-- What `part_at` answers where so many heads were read: it needs their count alone.
+abbrev pub PartMet : List ℕ → ℕ → ℕ → ℕ → Latest → PartPlace → Type 0
+PartMet s wanted start n link r = (heads : List ℕ) → length heads ≡ n → r ≡ placeTold (partAt s wanted start heads link)

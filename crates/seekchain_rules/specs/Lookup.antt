@@ -4,28 +4,33 @@ use mathlib.Core.List.{List}
 use mathlib.Core.Bool.{cond}
 use Rattle.refusals.specs.Refusals.{invalidSeekHead}
 use Rattle.refusals.specs.declared.refusal.Refusal.{Refusal}
+use Rattle.header.specs.declared.cursor.Headed.{Headed}
 use Rattle.seekhead_rules.specs.Table.{onLatest, latest}
-use Rattle.seekhead_rules.specs.declared.seek.Seek.{Seek}
+use Rattle.seekhead_rules.specs.declared.head.Latest.{Latest}
 use Rattle.seekchain_rules.specs.Answers.{onHeader}
-use Rattle.seekchain_rules.specs.Heads.{Chain, chained, broken, tooFar, sought, linkedHeads}
-use Rattle.seekchain_rules.specs.declared.heads.Head.{Head}
+use Rattle.seekchain_rules.specs.Heads.{Heads, Chain, chained, broken, tooFar, sought, linkedHeads}
 
--- Where a part is: its payload's address and size, or that it is absent, with the addresses of the heads that were
--- read; or why the search stopped.
+-- Where a part is: the part, or that it is absent, with the addresses of the heads that were read; or why the search
+-- stopped.
 pub data Lookup : Type 0 where
-  found : ℕ → ℕ → List ℕ → Lookup
+  found : Headed → List ℕ → Lookup
   absent : List ℕ → Lookup
   stopped : Refusal → Lookup
 
-abbrev pub onChain : Chain → (List ℕ → List Seek → Lookup) → Lookup
-onChain (chained heads es) next = next heads es
+abbrev pub onChain : Chain → (Heads → Lookup) → Lookup
+onChain (chained heads) next = next heads
 onChain (broken e) next = stopped e
 
--- When all linked heads were read, the wanted id is looked up: absent, or 8, header, 9. The wanted id is never that of
--- a seek head, whose entries were dropped.
-unfoldable pub byHeads : List ℕ → ℕ → ℕ → Head → Lookup
-byHeads s wanted start first =
-    onChain (linkedHeads s start first) (λ heads es.
-    onLatest (latest wanted es) (absent heads) (λ position.
+-- The part by the latest position of its id, where the heads at some addresses were read: absent, or 8, header, 9.
+unfoldable pub partAt : List ℕ → ℕ → ℕ → List ℕ → Latest → Lookup
+partAt s wanted start heads link =
+    onLatest link (absent heads) (λ position.
     cond (tooFar start position) (stopped (invalidSeekHead wanted))
-    (onHeader (sought s (start + position) wanted) stopped (λ h payload. found (payload .at) (h .size) heads))))
+    (onHeader (sought s (start + position) wanted) stopped (λ part. found part heads)))
+
+-- When all linked heads were read, the wanted id is looked up. It is never that of a seek head, whose entries were
+-- dropped.
+unfoldable pub byHeads : List ℕ → ℕ → ℕ → Headed → Lookup
+byHeads s wanted start first =
+    onChain (linkedHeads s start first) (λ heads.
+    partAt s wanted start (heads .addresses) (latest wanted (heads .entries)))

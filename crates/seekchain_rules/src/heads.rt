@@ -1,17 +1,17 @@
-// A seek head, and what the reader of the chain gives.
-use header::Cursor;
+// What follows a seek head, and what the reader of the chain gives.
+use header::Headed;
 use refusals::Refusal;
-use seekhead_rules::Latest;
+use seekhead_rules::Positions;
 
-// A seek head: the address of its header, and its payload's place and size.
-pub struct Head {
-    pub address: u64,
-    pub payload: Cursor,
-    pub size: u64,
+// The head that an entry leads to, or that there is none, or a refusal.
+pub enum NextHead {
+    Next(Headed),
+    Last,
+    Refused(Refusal),
 }
 
-// The latest position of the wanted id over all heads, and how many heads were read; or a refusal.
+// The latest positions of the wanted ids over all heads, and how many heads were read; or a refusal.
 pub enum HeadsRead {
-    Read { part: Latest, heads: u64 },
+    Read { parts: Positions, heads: u64 },
     Refused(Refusal),
 }

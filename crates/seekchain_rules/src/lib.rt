@@ -3,6 +3,6 @@
 mod heads;
 mod lookup;
 
-pub use heads::Head;
 pub use heads::HeadsRead;
+pub use heads::NextHead;
 pub use lookup::PartPlace;

@@ -1,38 +1,27 @@
--- `sought`: the header at a sought address, with the sought id. Assumes nothing.
+-- `sought`: the element at a sought address, with the sought id. Assumes nothing.
 use borrow.Author.Needs.{needs}
 use Rattle.seekchain.proofs.heads.sought.Statement.{statement}
 use Rattle.seekchain.proofs.heads.sought.Tie as tie
-use mathlib.Core.Path.{sym, _∙_}
-use Rattle.seekchain_rules.proofs.Chains.{no-header-there, stale-there, sought-there}
+use mathlib.Core.Path.{refl, sym, _∙_}
+use borrow.Author.Tests.{eq-eqb, ne-eqb}
+use Rattle.seekchain_rules.specs.Heads.{sought}
 
 returns : tie.Need-returns
+unfolding sought
 returns c =
-    let stale-entry = c .stale-entry in
-    let start = c .before .before .before .before .before .before .before .before in
-    let header2 = c .before .before .before .before .header2 in
-    let header = c .before .before .before .before .before .before .header in
-    let if1 = c .before .if1 in
-    rw (stale-entry .ensures) (stale-there (start .args .recording .now) (start .args .address) (start .args .id)
-    (header2 .given .0 .0) (header2 .given .0 .1 .0) (sym (header .ensures) ∙ header2 .given .1) (if1 .taken))
+    let b = c .before .before .before in
+    rw (sym (b .before .before .header .ensures) ∙ b .element .given .1, ne-eqb _ _ (c .if1 .taken)) refl
 
 returns-2 : tie.Need-returns-2
-returns-2 c =
-    let start = c .before .before .before .before .before in
-    let refusal = c .before .refusal in
-    let header = c .before .before .before .header in
-    no-header-there (start .args .recording .now) (start .args .address) (start .args .id) (refusal .given .0 .0)
-    (sym (header .ensures) ∙ refusal .given .1)
+unfolding sought
+returns-2 c = rw (sym (c .before .before .before .header .ensures) ∙ c .before .refusal .given .1) refl
 
 returns-3 : tie.Need-returns-3
+unfolding sought
 returns-3 c =
-    let start = c .before .before .before .before .before .before .before in
-    let header2 = c .before .before .before .header2 in
-    let header = c .before .before .before .before .before .header in
-    let if1 = c .if1 in
-    sought-there (start .args .recording .now) (start .args .address) (start .args .id) (header2 .given .0 .0)
-    (header2 .given .0 .1 .0) (sym (header .ensures) ∙ header2 .given .1) (if1 .left)
+    let b = c .before .before .before in
+    rw (sym (b .before .before .header .ensures) ∙ b .element .given .1, eq-eqb _ _ (c .if1 .left)) refl
 
 pub sought-spec : {M : Type 1} → statement M
 sought-spec =
-    tie.close (tie.spec (λ c κs. search needs) (λ c. search needs) (λ c. search needs) (λ c κs. search needs) returns
-    returns-2 returns-3)
+    tie.close (tie.spec (λ c κs. search needs) (λ c. search needs) (λ c. search needs) returns returns-2 returns-3)

@@ -1,0 +1,77 @@
+-- What a sought address and an entry for a further head lead to. Assumes nothing.
+use Prim.Native.Nat.{ℕ, _+_, _<_}
+use mathlib.Core.Path.{_≡_, refl, sym, ap, _∙_}
+use mathlib.Core.List.{List}
+use mathlib.Core.Bool.{Bool, true, false, cond}
+use native.Mathlib.Omega.{arith}
+use lib.ListN.{length}
+use lib.Dec.{leb, eqb}
+use borrow.Author.Tests.{eqb-true, leb-false}
+use Rattle.refusals.specs.Refusals.{invalidSeekHead, staleEntry, headAgain, tooManyHeads}
+use Rattle.header.specs.Reads.{headerAt}
+use Rattle.header.specs.declared.cursor.Headed.{Headed}
+use Rattle.header.specs.declared.cursor.HeaderRead.{HeaderRead}
+use Rattle.header.specs.declared.cursor.HeaderRead.the-variants.{Read, Refused as HeaderRefused}
+use Rattle.header.proofs.Inside.{header-there}
+use Rattle.kinds.specs.Kinds.{member}
+use Rattle.seekhead_rules.specs.Seeks.{seekHeadId}
+use Rattle.seekhead_rules.specs.Table.{onLatest}
+use Rattle.seekhead_rules.specs.declared.head.Latest.{Latest}
+use Rattle.seekhead_rules.specs.declared.head.Latest.the-variants.{Nowhere, At}
+use Rattle.seekchain_rules.specs.Answers.{onHeader}
+use Rattle.seekchain_rules.specs.Heads.{tooFar, sought, mostHeads, nextHead}
+use Rattle.seekchain_rules.specs.Theorems.{IsAt}
+use Rattle.seekchain_rules.specs.declared.heads.NextHead.the-variants.{Next, Last, Refused}
+
+-- What a sought address holds: an element that is there, with that id.
+pub sought-is : (s : List ℕ) (address id : ℕ) (e : Headed) → sought s address id ≡ Read e → IsAt s id address e
+unfolding sought
+sought-is s address id e q = by-header (headerAt s address) refl q
+  where
+    by-id : (x : Headed) (b : Bool) → eqb (x .header .id) id ≡ b → headerAt s address ≡ Read x
+        → cond b (Read x) (HeaderRefused staleEntry) ≡ Read e → IsAt s id address e
+    by-id x true k h w =
+        let a : x ≡ e = cc in
+        record { head = h ∙ w; named = ap (λ (y : Headed). y .header .id) (sym a) ∙ eqb-true (x .header .id) id k }
+    by-id x false k h w = let z : _≡_ {A = ℕ} 0 1 = cc in absurd (omega arith)
+
+    by-header : (x : HeaderRead) → headerAt s address ≡ x
+        → onHeader x HeaderRefused (λ y. cond (eqb (y .header .id) id) (Read y) (HeaderRefused staleEntry)) ≡ Read e
+        → IsAt s id address e
+    by-header (Read x) k w = by-id x (eqb (x .header .id) id) refl k w
+    by-header (HeaderRefused c) k w = let z : _≡_ {A = ℕ} 0 1 = cc in absurd (omega arith)
+
+-- A head that is to be read next: it is one, at another address than those before, and fewer than 64 were read.
+pub record IsNext (s seen : List ℕ) (head : Headed) : Type 0 where
+  pub is : IsAt s seekHeadId (head .place .at) head
+  pub new : member (head .place .at) seen ≡ false
+  pub few : length seen < mostHeads
+
+module _ (s : List ℕ) (start : ℕ) (seen : List ℕ) (head : Headed) where
+  by-sought : (to : ℕ) → member to seen ≡ false → length seen < mostHeads
+      → (x : HeaderRead) → sought s to seekHeadId ≡ x → onHeader x Refused Next ≡ Next head → IsNext s seen head
+  by-sought to m l (Read e) q w =
+      let a : e ≡ head = cc in
+      let i = sought-is s to seekHeadId head (q ∙ ap Read a) in
+      let p = header-there s to head (i .head) .begins in
+      record { is = record { head = ap (headerAt s) p ∙ i .head; named = i .named }; new = ap (λ (x : ℕ). member x seen) p ∙ m; few = l }
+  by-sought to m l (HeaderRefused e) q w = let z : _≡_ {A = ℕ} 0 1 = cc in absurd (omega arith)
+
+  by-tests : (to : ℕ) (far : Bool) (b : Bool) → member to seen ≡ b → (c : Bool) → leb mostHeads (length seen) ≡ c
+      → cond far (Refused (invalidSeekHead seekHeadId))
+      (cond b (Refused headAgain)
+      (cond c (Refused tooManyHeads) (onHeader (sought s to seekHeadId) Refused Next)))
+      ≡ Next head
+      → IsNext s seen head
+  by-tests to false false m false l w =
+      by-sought to m (leb-false mostHeads (length seen) l) (sought s to seekHeadId) refl w
+  by-tests to true b m c l w = let z : _≡_ {A = ℕ} 0 1 = cc in absurd (omega arith)
+  by-tests to false true m c l w = let z : _≡_ {A = ℕ} 0 1 = cc in absurd (omega arith)
+  by-tests to false false m true l w = let z : _≡_ {A = ℕ} 0 1 = cc in absurd (omega arith)
+
+  pub next-is : (link : Latest) → nextHead s start seen link ≡ Next head → IsNext s seen head
+  unfolding nextHead
+  next-is Nowhere w = let z : _≡_ {A = ℕ} 0 1 = cc in absurd (omega arith)
+  next-is (At position) w =
+      by-tests (start + position) (tooFar start position) (member (start + position) seen) refl
+      (leb mostHeads (length seen)) refl w
