@@ -3,6 +3,7 @@
 //
 // The crate above reads the part that `look_up` finds.
 mod segment;
+mod step;
 mod walk;
 
 pub use walk::look_up;

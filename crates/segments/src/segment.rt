@@ -3,28 +3,38 @@ ghost use mathlib.Core.Path.{_≡_};
 ghost use Prim.Native.Nat.{_≤_};
 ghost use lib.ListN.{length};
 ghost use Rattle.header.specs.Promise.{mostBytes};
-ghost use Rattle.segments_rules.specs.Walk.{segmentOf};
+ghost use Rattle.segments_rules.specs.Segment.{segmentOf};
+use crate::step::child_at;
 use header::Cursor;
 use header::HeaderRead;
 use kinds::ids;
+use refusals::Cause;
+use refusals::Refusal;
+use segments_rules::ChildRead;
 
-// The segment's header, and the place where its payload starts. Elements before it are skipped by size.
+// The segment. Elements before it are skipped by size.
 pub fn segment_of(recording: &[u8]) -> HeaderRead
     requires { ⌜ length (now recording) ≤ mostBytes ⌝ }
     ensures { λ r. ⌜ r ≡ segmentOf (now (recording .entry)) ⌝ }
 {
-    let mut place = Cursor { at: 0 };
+    let end = recording.len() as u64;
+    let mut at: u64 = 0;
     loop {
-        match place.header(recording) {
-            HeaderRead::Refused(refusal) => {
+        let place = Cursor { at };
+        match child_at(recording, place, end) {
+            ChildRead::Refused(refusal) => {
                 return HeaderRead::Refused(refusal);
             }
-            HeaderRead::Read(header, payload) => {
-                if header.id == ids::SEGMENT {
-                    return HeaderRead::Read(header, payload);
+            ChildRead::End => {
+                return HeaderRead::Refused(Refusal {
+                    cause: Cause::PastEnd,
+                });
+            }
+            ChildRead::Child(element) => {
+                if element.header.id == ids::SEGMENT {
+                    return HeaderRead::Read(element);
                 }
-                let next = payload.at + header.size;
-                place = Cursor { at: next };
+                at = element.payload.at + element.header.size;
             }
         }
     }

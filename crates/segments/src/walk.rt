@@ -2,85 +2,78 @@
 ghost use mathlib.Core.Path.{_≡_};
 ghost use Rattle.seekhead_rules.specs.Contract.{Readable};
 ghost use Rattle.seekchain_rules.specs.Contract.{placeTold};
-ghost use Rattle.segments_rules.specs.Walk.{visit as visitOf, children, lookupOf};
-ghost use Rattle.segments_rules.specs.Contract.{visitTold, Listed, Sized};
+ghost use Rattle.segments_rules.specs.Segment.{visit as visitOf, children, lookupOf};
+ghost use Rattle.segments_rules.specs.Contract.{visitTold, Listed};
 use crate::segment::segment_of;
+use crate::step::child_at;
 use header::Cursor;
-use header::Header;
+use header::Headed;
 use header::HeaderRead;
 use kinds::ids;
 use refusals::Cause;
 use refusals::Refusal;
 use seekchain::by_heads;
-use seekchain_rules::Head;
 use seekchain_rules::PartPlace;
+use segments_rules::ChildRead;
 use segments_rules::Visit;
 
-// What is done with a child whose header was read: a seek head leads on by its entries, the wanted part is found.
+// What a child does to the search: a seek head leads on by its entries, the wanted part is found.
 fn visit_child(
     recording: &[u8],
     kinds: &[u64],
     wanted: u32,
-    start: u64,
-    place: Cursor,
-    header: Header,
-    payload: Cursor,
+    segment: Headed,
+    child: Headed,
 ) -> Visit
-    requires { ⌜ Readable (now recording) (now kinds) payload ⌝ }
-    ensures { λ r. ⌜ r ≡ visitTold (visitOf (now (recording .entry)) wanted start (place .at) header payload) ⌝ }
+    requires { ⌜ Readable (now recording) (now kinds) child ⌝ }
+    ensures { λ r. ⌜ r ≡ visitTold (visitOf (now (recording .entry)) wanted segment child) ⌝ }
 {
-    if header.id == ids::SEEKHEAD {
-        let first = Head {
-            address: place.at,
-            payload,
-            size: header.size,
-        };
-        return Visit::Ends(by_heads(recording, kinds, wanted, start, first));
+    let id = child.header.id;
+    if id == ids::SEEKHEAD {
+        return Visit::Ends(by_heads(recording, kinds, wanted, segment.payload.at, child));
     }
-    if header.id == wanted {
+    if id == wanted {
         return Visit::Ends(PartPlace::Found {
-            at: payload.at,
-            size: header.size,
+            part: child,
             heads: 0,
         });
     }
     Visit::Over
 }
 
-// The children of a segment of `size` bytes from `start` on, in turn. The bytes of a child that is passed over need not
-// exist; 3 if it was larger than what was left.
-fn walk(recording: &[u8], kinds: &[u64], wanted: u32, start: Cursor, size: u64) -> PartPlace
-    requires { ⌜ Readable (now recording) (now kinds) start ⌝ }
-    requires { ⌜ Sized size ⌝ }
-    ensures { λ r. ⌜ r ≡ placeTold (children (now (recording .entry)) wanted (start .at) size) ⌝ }
+// The children of a segment whose header was read, in turn. The bytes of a child that is passed over need not exist; 3
+// if it was larger than what was left.
+fn walk(recording: &[u8], kinds: &[u64], wanted: u32, segment: Headed) -> PartPlace
+    requires { ⌜ Readable (now recording) (now kinds) segment ⌝ }
+    ensures { λ r. ⌜ r ≡ placeTold (children (now (recording .entry)) wanted segment) ⌝ }
 {
-    let first = start.at;
-    let end = first + size;
-    let mut place = start;
-    while place.at < end {
-        match place.header(recording) {
-            HeaderRead::Refused(refusal) => {
+    let mut at = segment.payload.at;
+    let end = at + segment.header.size;
+    loop {
+        let place = Cursor { at };
+        match child_at(recording, place, end) {
+            ChildRead::Refused(refusal) => {
                 return PartPlace::Refused(refusal);
             }
-            HeaderRead::Read(header, payload) => {
-                match visit_child(recording, kinds, wanted, first, place, header, payload) {
-                    Visit::Ends(found) => {
-                        return found;
-                    }
-                    Visit::Over => {
-                        let next = payload.at + header.size;
-                        if end < next {
-                            return PartPlace::Refused(Refusal {
-                                cause: Cause::Overrun,
-                            });
-                        }
-                        place = Cursor { at: next };
-                    }
-                }
+            ChildRead::End => {
+                return PartPlace::Absent { heads: 0 };
             }
+            ChildRead::Child(child) => match visit_child(recording, kinds, wanted, segment, child) {
+                Visit::Ends(found) => {
+                    return found;
+                }
+                Visit::Over => {
+                    let next = child.payload.at + child.header.size;
+                    if end < next {
+                        return PartPlace::Refused(Refusal {
+                            cause: Cause::Overrun,
+                        });
+                    }
+                    at = next;
+                }
+            },
         }
     }
-    PartPlace::Absent { heads: 0 }
 }
 
 // Where the wanted part is.
@@ -90,6 +83,6 @@ pub fn look_up(recording: &[u8], kinds: &[u64], wanted: u32) -> PartPlace
 {
     match segment_of(recording) {
         HeaderRead::Refused(refusal) => PartPlace::Refused(refusal),
-        HeaderRead::Read(header, start) => walk(recording, kinds, wanted, start, header.size),
+        HeaderRead::Read(segment) => walk(recording, kinds, wanted, segment),
     }
 }

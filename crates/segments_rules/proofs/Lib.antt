@@ -1,3 +1,2 @@
 -- The laws that the proofs of `segments` share.
-pub mod Before
-pub mod Walking
+pub mod Walks

@@ -1,3 +1,4 @@
--- The definitions that the contracts of `segments` cite.
+-- The definitions that the contracts of `segments` cite, and the statements of its laws.
 pub mod Walk
+pub mod Segment
 pub mod Contract

@@ -1,66 +1,60 @@
--- The walk to a part (document 01, Seek tables and the search): past what stands before the segment, then over the
--- segment's children in turn.
-use Prim.Native.Nat.{ℕ, zero, suc, _+_}
-use mathlib.Core.List.{List, []}
+-- A walk over the elements from a place up to an end, one after another: over the file's elements to the segment, and
+-- over the segment's children (document 01, Seek tables and the search).
+use Prim.Native.Nat.{ℕ, zero, suc, _+_, _-_}
+use mathlib.Core.Path.{_≡_}
+use mathlib.Core.List.{List}
 use mathlib.Core.Bool.{cond}
-use lib.ListN.{length}
-use lib.Dec.{ltb, leb, eqb}
-use Rattle.refusals.specs.Refusals.{pastEnd, overrun}
+use lib.Dec.{leb}
+use Rattle.refusals.specs.declared.refusal.Refusal.{Refusal}
 use Rattle.header.specs.Reads.{headerAt}
-use Rattle.header.specs.declared.cursor.Cursor.{Cursor}
-use Rattle.header.specs.declared.cursor.Header.{Header}
+use Rattle.header.specs.declared.cursor.Headed.{Headed}
 use Rattle.header.specs.declared.cursor.HeaderRead.{HeaderRead}
-use Rattle.header.specs.declared.cursor.HeaderRead.the-variants.{Read, Refused}
-use Rattle.seekhead_rules.specs.Seeks.{segmentId, seekHeadId}
 use Rattle.seekchain_rules.specs.Answers.{onHeader}
-use Rattle.seekchain_rules.specs.Lookup.{Lookup, found, absent, stopped, byHeads}
+use Rattle.segments_rules.specs.declared.walk.ChildRead.{ChildRead}
+use Rattle.segments_rules.specs.declared.walk.ChildRead.the-variants.{Child, End, Refused}
 
--- ---- before the segment
+-- The element at a place, up to an end: the one step of a walk.
+unfoldable pub childAt : List ℕ → ℕ → ℕ → ChildRead
+childAt s end at = cond (leb end at) End (onHeader (headerAt s at) Refused Child)
 
--- The segment's header with the place after it, from an address on: other elements are skipped by size. A header takes
--- a byte at least, so there are no more headers than bytes: `most` is that bound, and past it there is no header.
-unfoldable pub toSegment : List ℕ → ℕ → ℕ → HeaderRead
-toSegment s zero at = Refused pastEnd
-toSegment s (suc most) at =
-    onHeader (headerAt s at) Refused (λ h payload.
-    cond (eqb (h .id) segmentId) (Read h payload) (toSegment s most (payload .at + h .size)))
+abbrev pub onChild : {A : Type 0} → ChildRead → A → (Refusal → A) → (Headed → A) → A
+onChild (Child e) ended stop next = next e
+onChild End ended stop next = ended
+onChild (Refused e) ended stop next = stop e
 
-unfoldable pub segmentOf : List ℕ → HeaderRead
-segmentOf s = toSegment s (length s) 0
+-- The place behind an element. Its bytes need not exist.
+abbrev pub behind : Headed → ℕ
+behind e = e .payload .at + e .header .size
 
--- ---- the segment's children
+-- What a visit of an element does: it ends the walk with an answer, or passes the element over, with what is known then.
+pub data Visit (A B : Type 0) : Type 0 where
+  ends : B → Visit A B
+  over : A → Visit A B
 
--- What a child does to the search: it ends it, or is passed over.
-pub data Visit : Type 0 where
-  ends : Lookup → Visit
-  over : Visit
+abbrev pub onVisit : {A B C : Type 0} → Visit A B → (B → C) → (A → C) → C
+onVisit (ends b) done next = done b
+onVisit (over a) done next = next a
 
--- A child whose header is at an address, and its payload at a place: a seek head leads on by its entries, the wanted
--- part is found, anything else is passed over.
-unfoldable pub visit : List ℕ → ℕ → ℕ → ℕ → Header → Cursor → Visit
-visit s wanted start at h payload =
-    cond (eqb (h .id) seekHeadId)
-    (ends (byHeads s wanted start (record { address = at; payload = payload; size = h .size })))
-    (cond (eqb (h .id) wanted) (ends (found (payload .at) (h .size) [])) over)
+-- A walk: what it does with an element, and its answer at the end and to a refusal.
+pub record Walk (A B : Type 0) : Type 0 where
+  pub visit : A → Headed → Visit A B
+  pub ended : A → B
+  pub stop : Refusal → B
 
-abbrev pub onVisit : Visit → Lookup → Lookup
-onVisit (ends p) next = p
-onVisit over next = next
+-- The elements from a place on. Each takes a byte at least: `most` bounds how many there are.
+unfoldable pub walk : {A B : Type 0} → List ℕ → ℕ → Walk A B → ℕ → ℕ → A → B
+walk s end w zero at a = w .ended a
+walk s end w (suc most) at a =
+    onChild (childAt s end at) (w .ended a) (w .stop) (λ e.
+    onVisit (w .visit a e) (λ b. b) (walk s end w most (behind e)))
 
--- The children from an address on, up to the segment's end. A child that is passed over need not be there, but it is 3
--- if it is larger than what was left. Each takes a byte at least: `most` bounds how many there are.
-unfoldable pub walk : List ℕ → ℕ → ℕ → ℕ → ℕ → ℕ → Lookup
-walk s wanted start end zero at = absent []
-walk s wanted start end (suc most) at =
-    cond (leb end at) (absent [])
-    (onHeader (headerAt s at) stopped (λ h payload.
-    onVisit (visit s wanted start at h payload)
-    (cond (ltb end (payload .at + h .size)) (stopped overrun)
-    (walk s wanted start end most (payload .at + h .size)))))
+abbrev pub walkFrom : {A B : Type 0} → List ℕ → ℕ → Walk A B → ℕ → A → B
+walkFrom s end w at a = walk s end w (end - at) at a
 
-unfoldable pub children : List ℕ → ℕ → ℕ → ℕ → Lookup
-children s wanted start size = walk s wanted start (start + size) size start
-
--- Where the wanted part is. The segment starts at the address after its header.
-unfoldable pub lookupOf : List ℕ → ℕ → Lookup
-lookupOf s wanted = onHeader (segmentOf s) stopped (λ h start. children s wanted (start .at) (h .size))
+-- There are never more elements than bytes, so that a walk is one step after another, with no bound.
+abbrev pub WalkUnfolds : Type 1
+WalkUnfolds =
+    (A B : Type 0) (s : List ℕ) (end : ℕ) (w : Walk A B) (at : ℕ) (a : A)
+    → walkFrom s end w at a
+    ≡ onChild (childAt s end at) (w .ended a) (w .stop) (λ e.
+    onVisit (w .visit a e) (λ b. b) (walkFrom s end w (behind e)))

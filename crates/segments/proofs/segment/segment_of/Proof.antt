@@ -1,55 +1,68 @@
--- `segment_of` meets its contract: the headers from the recording's start on, up to the segment's. Assumes nothing.
-use Prim.Native.Nat.{_-_}
-use mathlib.Core.Path.{sym, _∙_}
-use native.Mathlib.Omega.{arith}
-use lib.ListN.{length}
-use Rattle.segments_rules.proofs.Before.{next-fits, Opening, open-holds, open-refused, open-is, open-less, open-again}
+-- `segment_of`: the file's elements in turn, up to the segment. Assumes nothing.
 use borrow.Author.Needs.{needs}
 use Rattle.segments.proofs.segment.segment_of.Statement.{statement}
 use Rattle.segments.proofs.segment.segment_of.Tie as tie
+use Prim.Native.Nat.{_-_}
+use mathlib.Core.Path.{_≡_, refl, sym, _∙_}
+use native.Mathlib.Omega.{arith}
+use borrow.Author.Tests.{eq-eqb, ne-eqb}
+use Rattle.segments_rules.specs.Segment.{segmentFrom, segmentOf}
+use Rattle.segments_rules.proofs.Walks.{stepped, segment-unfolds}
 
 abbrev Inv-loop : tie.InvT-loop
-Inv-loop recording place₀ place = Opening recording (place .at)
+Inv-loop recording end at₀ at = segmentOf recording ≡ segmentFrom recording at
 
 abbrev μ-loop : tie.MeasureT-loop
-μ-loop recording place₀ place = length recording - place .at
+μ-loop recording end at₀ at = end - at
 
 loop-holds : tie.Need-loop-holds Inv-loop μ-loop
-loop-holds c = open-holds _
+unfolding segmentOf
+loop-holds c = refl
 
 returns : tie.Need-returns Inv-loop μ-loop
 returns c =
     let b = c .before .before .before in
-    open-refused _ _ (b .before .loop .inv) _ (sym (b .header .ensures) ∙ c .before .refusal .given .1)
+    rw (b .before .loop .inv, segment-unfolds, sym (b .child-at .ensures) ∙ c .before .refusal .given .1) refl
 
 returns-2 : tie.Need-returns-2 Inv-loop μ-loop
 returns-2 c =
+    let b = c .before .before in
+    rw (b .before .loop .inv, segment-unfolds, sym (b .child-at .ensures) ∙ c .enum-told .given .1) refl
+
+returns-3 : tie.Need-returns-3 Inv-loop μ-loop
+returns-3 c =
     let d = c .before .before .before in
     let b = d .before .before in
-    open-is _ _ (b .before .loop .inv) _ _ (sym (b .header .ensures) ∙ d .header2 .given .1) (c .if1 .taken)
+    rw (
+      b .before .loop .inv,
+      segment-unfolds,
+      sym (b .child-at .ensures) ∙ d .element .given .1,
+      eq-eqb _ _ (c .if1 .taken),
+    )
+    refl
 
-add-next : tie.Need-add-next Inv-loop μ-loop
-add-next c =
-    let d = c .before .before .before .before .before in
+add-at : tie.Need-add-at Inv-loop μ-loop
+add-at c =
+    let d = c .before .before .before .before in
     let b = d .before .before in
-    let q = sym (b .header .ensures) ∙ d .header2 .given .1 in
-    let f = next-fits _ _ _ _ q (b .before .before .before .pre) in
-    omega (arith, f)
+    let t = stepped _ _ _ _ (sym (b .child-at .ensures) ∙ d .element .given .1) in
+    omega (arith, t .inside, t .sized, b .before .before .before .pre)
 
 loop-less : tie.Need-loop-less Inv-loop μ-loop
 loop-less c =
-    let d = c .before .before .before .before .before in
+    let d = c .before .before .before .before in
     let b = d .before .before in
-    open-less _ _ (b .before .loop .inv) _ _ (sym (b .header .ensures) ∙ d .header2 .given .1)
+    let t = stepped _ _ _ _ (sym (b .child-at .ensures) ∙ d .element .given .1) in
+    omega (arith, t .before, t .onward)
 
 loop-again : tie.Need-loop-again Inv-loop μ-loop
 loop-again c =
-    let d = c .before .before .before .before .before in
+    let d = c .before .before .before .before in
     let b = d .before .before in
-    let q = sym (b .header .ensures) ∙ d .header2 .given .1 in
-    open-again _ _ (b .before .loop .inv) _ _ q (c .before .before .if1 .left)
+    b .before .loop .inv ∙ segment-unfolds _ _
+    ∙ rw (sym (b .child-at .ensures) ∙ d .element .given .1, ne-eqb _ _ (c .before .if1 .left)) refl
 
 pub segment-of-spec : {M : Type 1} → statement M
 segment-of-spec =
     tie.close (tie.spec Inv-loop μ-loop loop-holds (λ c κs. search needs) (λ c. search needs) returns
-    (λ c. search needs) returns-2 add-next loop-less loop-again)
+    (λ c. search needs) returns-2 (λ c. search needs) returns-3 add-at loop-less loop-again)

@@ -1,32 +1,31 @@
--- `look_up` meets its contract: the segment, then the walk over its children. Assumes nothing.
-use mathlib.Core.Path.{sym, _∙_}
-use Rattle.segments_rules.proofs.Before.{segment-there}
-use Rattle.segments_rules.proofs.Walking.{place-refused, place-walked}
+-- `look_up`: the segment, then the walk over its children. Assumes nothing.
 use borrow.Author.Needs.{needs}
 use Rattle.segments.proofs.walk.look_up.Statement.{statement}
 use Rattle.segments.proofs.walk.look_up.Tie as tie
-
-segment-of-requires : tie.Need-segment-of-requires
-segment-of-requires c κs = c .before .before .pre .small
+use mathlib.Core.Path.{refl, sym, _∙_}
+use Rattle.segments_rules.specs.Segment.{lookupOf}
+use Rattle.segments_rules.proofs.Walks.{segment-there}
 
 walk-requires : tie.Need-walk-requires
 walk-requires c κs =
     let b = c .before .before .before in
     let p = b .before .before .before .pre in
-    let (i, l) = segment-there _ _ _ (sym (b .segment-of .ensures) ∙ c .before .header .given .1) in
-    (record { listed = p .listed; small = p .small; inside = i }, l)
+    record {
+      listed = p .listed;
+      small = p .small;
+      there = segment-there _ _ (sym (b .segment-of .ensures) ∙ c .before .segment .given .1);
+    }
 
 returns : tie.Need-returns
-returns c =
-    let b = c .before .before .before in
-    place-refused _ _ _ (sym (b .segment-of .ensures) ∙ c .before .refusal .given .1)
+unfolding lookupOf
+returns c = rw (sym (c .before .before .before .segment-of .ensures) ∙ c .before .refusal .given .1) refl
 
 returns-2 : tie.Need-returns-2
+unfolding lookupOf
 returns-2 c =
-    let b = c .before .before .before .before in
-    let q = sym (b .segment-of .ensures) ∙ c .before .before .header .given .1 in
-    c .walk .ensures ∙ place-walked _ _ _ _ q
+    let b = c .before .before in
+    rw (sym (b .before .before .segment-of .ensures) ∙ b .segment .given .1) (c .walk .ensures)
 
 pub look-up-spec : {M : Type 1} → statement M
 look-up-spec =
-    tie.close (tie.spec segment-of-requires (λ c. search needs) (λ c. search needs) walk-requires returns returns-2)
+    tie.close (tie.spec (λ c κs. search needs) (λ c. search needs) (λ c. search needs) walk-requires returns returns-2)
