@@ -12,11 +12,12 @@ use Rattle.bodies_rules.specs.Bodies.{bodyOf}
 use Rattle.elements_rules.specs.Forest.{span, count, join}
 use Rattle.elements_rules.specs.Reading.{refuseIf, full, siblings, element, masterBody}
 use Rattle.elements_rules.specs.Promise.{isTable, allowed, filled}
-use Rattle.seekhead_rules.specs.Seeks.{headOf, lastFour, withMembers, entryOf, entries}
+use Rattle.seekhead_rules.specs.Seeks.{lastFour, withMembers, entryOf, entries}
 use Rattle.seekhead_rules.specs.Table.{later, latestFrom}
-use Rattle.seekchain_rules.specs.Heads.{sought, chain}
-use Rattle.seekchain_rules.specs.Lookup.{byHeads}
-use Rattle.segments_rules.specs.Walk.{toSegment, segmentOf, visit, walk, children, lookupOf}
+use Rattle.seekchain_rules.specs.Heads.{sought, nextHead, chain}
+use Rattle.seekchain_rules.specs.Lookup.{partAt, byHeads}
+use Rattle.segments_rules.specs.Walk.{childAt, walk}
+use Rattle.segments_rules.specs.Segment.{segmentOf, visit, children, lookupOf}
 use Rattle.search_rules.specs.Part.{parentOf, searchOf}
 use Rattle.search_rules.specs.Cases.{cases, Hold}
 
@@ -24,8 +25,8 @@ pub cases-hold : Hold cases
 unfolding octetBits bits oneMore widthOf bigEndianFrom bigEndian ofWidth vintOf sized named headerOf headerRead headerAt
     elements kindIn keeps demoted kindUnder utf8Char behind anyOf goesOn utf8 bodyOf
     span count join refuseIf full siblings element masterBody isTable allowed filled
-    headOf lastFour withMembers entryOf entries later latestFrom member sought chain byHeads
-    toSegment segmentOf visit walk children lookupOf parentOf searchOf
+    lastFour withMembers entryOf entries later latestFrom member sought nextHead chain partAt byHeads
+    childAt walk segmentOf visit children lookupOf parentOf searchOf
 cases-hold =
     let rest : Hold (drop 12 cases) = (refl, (refl, (refl, (refl, (refl, (refl, tt)))))) in
     let listed : Hold (drop 8 cases) = (refl, (refl, (refl, (refl, rest)))) in

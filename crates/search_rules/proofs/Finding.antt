@@ -7,7 +7,9 @@ use native.Mathlib.Omega.{arith}
 use lib.ListN.{length}
 use borrow.Author.Tests.{le-leb}
 use Rattle.refusals.specs.Refusals.{badArgument}
+use Rattle.refusals.specs.Reply.{refusal}
 use Rattle.refusals.specs.declared.refusal.Refusal.{Refusal}
+use Rattle.header.specs.declared.cursor.Headed.{Headed}
 use Rattle.elements_rules.specs.Reading.{Outcome, done}
 use Rattle.elements_rules.specs.Reading.{refused as unread}
 use Rattle.elements_rules.specs.Promise.{allowed, filled, readOf, zeros, ReadPromise}
@@ -21,7 +23,7 @@ use Rattle.seekchain_rules.specs.Lookup.{found as foundAt, absent as absentAt, 
 use Rattle.seekchain_rules.specs.Contract.{placeTold}
 use Rattle.seekchain_rules.specs.declared.lookup.PartPlace.the-variants.{Found as PlaceFound}
 use Rattle.seekchain_rules.specs.declared.lookup.PartPlace.the-variants.{Absent as PlaceAbsent, Refused as PlaceRefused}
-use Rattle.segments_rules.specs.Walk.{lookupOf}
+use Rattle.segments_rules.specs.Segment.{lookupOf}
 use Rattle.search_rules.specs.Part.{parentOf, Search, found, absent, refused, onLookup, searchOf}
 use Rattle.search_rules.specs.Part.{replyOf, tableOf, partTold, PartPromise}
 use Rattle.search_rules.specs.declared.part.Parent.the-variants.{Id, NoPart}
@@ -32,21 +34,21 @@ use Rattle.search_rules.proofs.Trusty.{found-inside}
 -- ---- what a place told
 
 told-stopped : (e : Refusal) (p : Lookup) → PlaceRefused e ≡ placeTold p → p ≡ stoppedAt e
-told-stopped e (foundAt at size heads) q = let z : _≡_ {A = ℕ} 0 1 = cc in absurd (omega arith)
+told-stopped e (foundAt part heads) q = let z : _≡_ {A = ℕ} 0 1 = cc in absurd (omega arith)
 told-stopped e (absentAt heads) q = let z : _≡_ {A = ℕ} 0 1 = cc in absurd (omega arith)
 told-stopped e (stoppedAt e′) q = cc
 
 told-absent : (n : ℕ) (p : Lookup) → PlaceAbsent n ≡ placeTold p
     → (heads : List ℕ) × (p ≡ absentAt heads) × (n ≡ length heads)
-told-absent n (foundAt at size heads) q = let z : _≡_ {A = ℕ} 0 1 = cc in absurd (omega arith)
+told-absent n (foundAt part heads) q = let z : _≡_ {A = ℕ} 0 1 = cc in absurd (omega arith)
 told-absent n (absentAt heads) q = (heads, refl, cc)
 told-absent n (stoppedAt e) q = let z : _≡_ {A = ℕ} 0 1 = cc in absurd (omega arith)
 
-told-found : (at size n : ℕ) (p : Lookup) → PlaceFound at size n ≡ placeTold p
-    → (heads : List ℕ) × (p ≡ foundAt at size heads) × (n ≡ length heads)
-told-found at size n (foundAt at′ size′ heads) q = (heads, cc, cc)
-told-found at size n (absentAt heads) q = let z : _≡_ {A = ℕ} 0 1 = cc in absurd (omega arith)
-told-found at size n (stoppedAt e) q = let z : _≡_ {A = ℕ} 0 1 = cc in absurd (omega arith)
+told-found : (e : Headed) (n : ℕ) (p : Lookup) → PlaceFound e n ≡ placeTold p
+    → (heads : List ℕ) × (p ≡ foundAt e heads) × (n ≡ length heads)
+told-found e n (foundAt part heads) q = (heads, cc, cc)
+told-found e n (absentAt heads) q = let z : _≡_ {A = ℕ} 0 1 = cc in absurd (omega arith)
+told-found e n (stoppedAt r) q = let z : _≡_ {A = ℕ} 0 1 = cc in absurd (omega arith)
 
 -- ---- the limits
 
@@ -57,20 +59,21 @@ allowed-at s at numbers a l =
     let w = within s 0 numbers a in
     sym (by-start s at numbers (w .bytes) (w .multiple) (w .few)) ∙ le-leb at (length s) l
 
-pub found-allowed : (s : List ℕ) (part numbers at size n : ℕ) → allowed s 0 numbers ≡ true
-    → PlaceFound at size n ≡ placeTold (lookupOf s part) → allowed s at numbers ≡ true
-found-allowed s part numbers at size n a w =
-    let (heads, q, l) = told-found at size n (lookupOf s part) w in
-    allowed-at s at numbers a (found-inside s part at size heads q)
+pub found-allowed : (s : List ℕ) (part numbers : ℕ) (e : Headed) (n : ℕ) → allowed s 0 numbers ≡ true
+    → PlaceFound e n ≡ placeTold (lookupOf s part) → allowed s (e .payload .at) numbers ≡ true
+found-allowed s part numbers e n a w =
+    let (heads, q, l) = told-found e n (lookupOf s part) w in
+    allowed-at s (e .payload .at) numbers a (found-inside s part e heads q)
 
 -- ---- the search by its cases
 
 -- What the reading of a part comes to, as a search.
 abbrev pub as-search : ℕ → ℕ → List ℕ → Outcome → Search
-as-search at size heads o = onOutcome o refused (λ f. found at size heads f)
+as-search at size heads o = onOutcome o refused (found at size heads)
 
-abbrev pub reading : List ℕ → ℕ → ℕ → ℕ → ℕ → List ℕ → Search
-reading s numbers parent at size heads = as-search at size heads (filled s at size parent numbers)
+abbrev pub reading : List ℕ → ℕ → ℕ → Headed → List ℕ → Search
+reading s numbers parent e heads =
+    as-search (e .payload .at) (e .header .size) heads (filled s (e .payload .at) (e .header .size) parent numbers)
 
 module _ (s : List ℕ) (part numbers : ℕ) where
   search-broken : allowed s 0 numbers ≡ false → searchOf s part numbers ≡ refused badArgument
@@ -101,7 +104,7 @@ module _ (at size numbers : ℕ) (heads t′ : List ℕ) where
       × (t′ ≡ tableOf numbers (as-search at size heads o))
   unfolding tableOf readTable
   read-refused e (done f) q w = let z : _≡_ {A = ℕ} 0 1 = cc in absurd (omega arith)
-  read-refused e (unread e′) q w = (q, w)
+  read-refused e (unread e′) q w = let x : e ≡ e′ = cc in (ap refusal x, w)
 
   read-rows : (rows n : ℕ) → n ≡ length heads → (o : Outcome) → readTold (Rows rows) ≡ readReply o
       → t′ ≡ readTable at numbers o
@@ -152,26 +155,32 @@ module _ (s : List ℕ) (part : ℕ) (t : List ℕ) where
           let (heads, q, l) = told-absent n (lookupOf s part) w in
           absent-promised n heads t′ q l z
 
-      module _ (at size n : ℕ) (w : PlaceFound at size n ≡ placeTold (lookupOf s part)) where
-        read-is : readOf s at size parent (length t) ≡ filled s at size parent (length t)
-        read-is = read-at s at size parent (length t) (found-allowed s part (length t) at size n a w)
+      module _ (e : Headed) (n : ℕ) (w : PlaceFound e n ≡ placeTold (lookupOf s part)) where
+        abbrev at : ℕ
+        at = e .payload .at
 
-        pub find-refused : (e : Refusal) (t′ : List ℕ) → ReadPromise s at size parent t (ReadRefused e) t′
-            → PartPromise s part t (Refused e) t′
-        find-refused e t′ p =
-            let (heads, q, l) = told-found at size n (lookupOf s part) w in
+        abbrev size : ℕ
+        size = e .header .size
+
+        read-is : readOf s at size parent (length t) ≡ filled s at size parent (length t)
+        read-is = read-at s at size parent (length t) (found-allowed s part (length t) e n a w)
+
+        pub find-refused : (r : Refusal) (t′ : List ℕ) → ReadPromise s at size parent t (ReadRefused r) t′
+            → PartPromise s part t (Refused r) t′
+        find-refused r t′ p =
+            let (heads, q, l) = told-found e n (lookupOf s part) w in
             let o = filled s at size parent (length t) in
-            let (r, k) = read-refused at size (length t) heads t′ e o (p .reply ∙ ap readReply read-is)
+            let (x, k) = read-refused at size (length t) heads t′ r o (p .reply ∙ ap readReply read-is)
             (p .table ∙ ap (readTable at (length t)) read-is) in
             promised (as-search at size heads o)
-            (search-at s part (length t) a parent i (foundAt at size heads) q) (Refused e) t′ r k
+            (search-at s part (length t) a parent i (foundAt e heads) q) (Refused r) t′ x k
 
         pub find-rows : (rows : ℕ) (t′ : List ℕ) → ReadPromise s at size parent t (Rows rows) t′
             → PartPromise s part t (Found at size rows n) t′
         find-rows rows t′ p =
-            let (heads, q, l) = told-found at size n (lookupOf s part) w in
+            let (heads, q, l) = told-found e n (lookupOf s part) w in
             let o = filled s at size parent (length t) in
             let (r, k) = read-rows at size (length t) heads t′ rows n l o (p .reply ∙ ap readReply read-is)
             (p .table ∙ ap (readTable at (length t)) read-is) in
             promised (as-search at size heads o)
-            (search-at s part (length t) a parent i (foundAt at size heads) q) (Found at size rows n) t′ r k
+            (search-at s part (length t) a parent i (foundAt e heads) q) (Found at size rows n) t′ r k

@@ -8,6 +8,7 @@ use native.Mathlib.Omega.{arith}
 use lib.ListN.{length}
 use Rattle.refusals.specs.Refusals.{badArgument}
 use Rattle.refusals.specs.Reply.{accepted}
+use Rattle.header.specs.declared.cursor.Headed.{Headed}
 use Rattle.elements_rules.specs.Forest.{Forest, count}
 use Rattle.elements_rules.specs.Reading.{Outcome, done}
 use Rattle.elements_rules.specs.Reading.{refused as unread}
@@ -18,7 +19,7 @@ use Rattle.elements_rules.proofs.Readback.{accepted-read}
 use Rattle.seekchain_rules.specs.Lookup.{Lookup}
 use Rattle.seekchain_rules.specs.Lookup.{found as foundAt, absent as absentAt, stopped as stoppedAt}
 use Rattle.seekchain_rules.specs.Theorems.{GoodHeads}
-use Rattle.segments_rules.specs.Walk.{lookupOf}
+use Rattle.segments_rules.specs.Segment.{lookupOf}
 use Rattle.search_rules.specs.Part.{parentOf, Search, found, absent, refused, onParent, onLookup, searchOf}
 use Rattle.search_rules.specs.Part.{headsOf, replyOf, tableOf, partTold, PartPromise}
 use Rattle.search_rules.specs.Theorems.{HeadsAllowed, HeadsCounted, FoundBy, FoundIsPart, FoundIsRead}
@@ -41,8 +42,9 @@ module _ (s : List ℕ) (part numbers : ℕ) where
   heads-of-place : (parent : ℕ) (p : Lookup) → Placed s part p
       → GoodHeads s (headsOf (onLookup p (reading s numbers parent)))
   unfolding headsOf
-  heads-of-place parent (foundAt at size heads) t =
-      heads-of-reading at size heads (t .1) (filled s at size parent numbers)
+  heads-of-place parent (foundAt e heads) t =
+      heads-of-reading (e .payload .at) (e .header .size) heads (t .1)
+      (filled s (e .payload .at) (e .header .size) parent numbers)
   heads-of-place parent (absentAt heads) t = t
   heads-of-place parent (stoppedAt e) t = none-read s
 
@@ -91,34 +93,40 @@ record Sought (s : List ℕ) (part numbers at size : ℕ) (heads : List ℕ) (f 
   parent : ℕ
   within : allowed s 0 numbers ≡ true
   named : parentOf part ≡ Id parent
-  place : lookupOf s part ≡ foundAt at size heads
+  element : Headed
+  place : lookupOf s part ≡ foundAt element heads
+  payload : element .payload .at ≡ at
+  sized : element .header .size ≡ size
   read : filled s at size parent numbers ≡ done f
 
 module _ (s : List ℕ) (part numbers at size : ℕ) (heads : List ℕ) (f : Forest) where
-  sought-read : (parent at′ size′ : ℕ) (hs : List ℕ) → allowed s 0 numbers ≡ true → parentOf part ≡ Id parent
-      → lookupOf s part ≡ foundAt at′ size′ hs
-      → (o : Outcome) → filled s at′ size′ parent numbers ≡ o
-      → as-search at′ size′ hs o ≡ found at size heads f
+  sought-read : (parent : ℕ) (e : Headed) (hs : List ℕ) → allowed s 0 numbers ≡ true → parentOf part ≡ Id parent
+      → lookupOf s part ≡ foundAt e hs
+      → (o : Outcome) → filled s (e .payload .at) (e .header .size) parent numbers ≡ o
+      → as-search (e .payload .at) (e .header .size) hs o ≡ found at size heads f
       → Sought s part numbers at size heads f
-  sought-read parent at′ size′ hs a i p (done g) e w =
-      let x : at′ ≡ at = cc in
-      let y : size′ ≡ size = cc in
+  sought-read parent e hs a i p (done g) k w =
+      let x : e .payload .at ≡ at = cc in
+      let y : e .header .size ≡ size = cc in
       let z : hs ≡ heads = cc in
       let v : g ≡ f = cc in
       record {
         parent = parent;
         within = a;
         named = i;
-        place = rw (← x, ← y, ← z) p;
-        read = rw (← x, ← y, ← v) e;
+        element = e;
+        place = p ∙ ap (foundAt e) z;
+        payload = x;
+        sized = y;
+        read = rw (← x, ← y, ← v) k;
       }
-  sought-read parent at′ size′ hs a i p (unread r) e w = let z : _≡_ {A = ℕ} 0 1 = cc in absurd (omega arith)
+  sought-read parent e hs a i p (unread r) k w = let z : _≡_ {A = ℕ} 0 1 = cc in absurd (omega arith)
 
   sought-at : (parent : ℕ) → allowed s 0 numbers ≡ true → parentOf part ≡ Id parent
       → (p : Lookup) → lookupOf s part ≡ p
       → onLookup p (reading s numbers parent) ≡ found at size heads f → Sought s part numbers at size heads f
-  sought-at parent a i (foundAt at′ size′ hs) p w =
-      sought-read parent at′ size′ hs a i p (filled s at′ size′ parent numbers) refl w
+  sought-at parent a i (foundAt e hs) p w =
+      sought-read parent e hs a i p (filled s (e .payload .at) (e .header .size) parent numbers) refl w
   sought-at parent a i (absentAt hs) p w = let z : _≡_ {A = ℕ} 0 1 = cc in absurd (omega arith)
   sought-at parent a i (stoppedAt e) p w = let z : _≡_ {A = ℕ} 0 1 = cc in absurd (omega arith)
 
@@ -135,12 +143,26 @@ module _ (s : List ℕ) (part numbers at size : ℕ) (heads : List ℕ) (f : For
       by true a NoPart i w = let z : _≡_ {A = ℕ} 0 1 = cc in absurd (omega arith)
       by false a x i w = let z : _≡_ {A = ℕ} 0 1 = cc in absurd (omega arith)
 
+-- Its payload starts in the recording.
+starts : (s : List ℕ) (part numbers at size : ℕ) (heads : List ℕ) (f : Forest) → Sought s part numbers at size heads f
+    → at ≤ length s
+starts s part numbers at size heads f g = omega (arith, found-inside s part (g .element) heads (g .place), g .payload)
+
 pub found-is-part : FoundIsPart
 unfolding headsOf
 found-is-part s part t at size rows n t′ p =
     let (heads, f, q, r, l) = reply-found at size rows n (searchOf s part (length t)) (p .reply) in
     let g = sought s part (length t) at size heads f q in
-    subst (λ (hs : List ℕ). FoundBy s part at size hs) (sym (ap headsOf q)) (found-part s part at size heads (g .place))
+    let b = found-part s part (g .element) heads (g .place) in
+    let by : FoundBy s part at size heads = record {
+      part = b .part;
+      payload = b .payload ∙ g .payload;
+      sized = b .sized ∙ g .sized;
+      segment = b .segment;
+      is-segment = b .is-segment;
+      way = b .way;
+    } in
+    subst (λ (hs : List ℕ). FoundBy s part at size hs) (sym (ap headsOf q)) by
 
 -- A part is read under one parent.
 same-parent : (a b : ℕ) {x : Parent} → x ≡ Id a → x ≡ Id b → a ≡ b
@@ -151,13 +173,13 @@ unfolding tableOf
 found-is-read s part parent t at size rows n t′ p i =
     let (heads, f, q, r, l) = reply-found at size rows n (searchOf s part (length t)) (p .reply) in
     let g = sought s part (length t) at size heads f q in
-    let a = allowed-at s at (length t) (g .within) (found-inside s part at size heads (g .place)) in
+    let a = allowed-at s at (length t) (g .within) (starts s part (length t) at size heads f g) in
     let e : g .parent ≡ parent = same-parent (g .parent) parent (g .named) i in
     let o : readOf s at size parent (length t) ≡ done f
     = read-at s at size parent (length t) a
     ∙ subst (λ (x : ℕ). filled s at size x (length t) ≡ done f) e (g .read) in
     record {
-      reply = ap (λ (k : ℕ). accepted (k ∷ [])) r ∙ sym (ap readReply o);
+      reply = ap accepted r ∙ sym (ap readReply o);
       table = p .table ∙ ap (tableOf (length t)) q ∙ sym (ap (readTable at (length t)) o);
     }
 
@@ -182,7 +204,7 @@ found-holds s part t at size n k t′ p =
     let g = sought s part (length t) at size heads f q in
     let i = found-is-read s part (g .parent) t at size n k t′ p (g .named) in
     let a = accepted-read s at size (g .parent) t n t′ i in
-    let w = allowed-at s at (length t) (g .within) (found-inside s part at size heads (g .place)) in
+    let w = allowed-at s at (length t) (g .within) (starts s part (length t) at size heads f g) in
     let e = same-forest f (a .forest) (read-at s at size (g .parent) (length t) w ∙ g .read) (a .outcome) in
     record {
       heads = heads;

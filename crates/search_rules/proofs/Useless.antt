@@ -2,7 +2,6 @@
 -- was. Assumes nothing.
 use Prim.Native.Nat.{ℕ}
 use mathlib.Core.Path.{_≡_, refl, ap, _∙_}
-use mathlib.Core.List.{[], _∷_}
 use native.Mathlib.Omega.{arith}
 use lib.ListN.{length}
 use Rattle.header.specs.Vint.{octetBits, bits, oneMore, widthOf, bigEndianFrom, bigEndian, ofWidth, vintOf}
@@ -13,13 +12,14 @@ use Rattle.refusals.specs.declared.refusal.Refusal.{Refusal}
 use Rattle.elements_rules.specs.Forest.{count}
 use Rattle.elements_rules.specs.Reading.{siblings, masterBody}
 use Rattle.elements_rules.specs.Promise.{isTable, allowed, filled, zeros}
-use Rattle.seekhead_rules.specs.Seeks.{headOf, entries}
+use Rattle.seekhead_rules.specs.Seeks.{entries}
 use Rattle.seekhead_rules.specs.Table.{latestFrom}
-use Rattle.seekchain_rules.specs.Heads.{chain}
-use Rattle.seekchain_rules.specs.Lookup.{byHeads}
-use Rattle.segments_rules.specs.Walk.{toSegment, segmentOf, visit, walk, children, lookupOf}
+use Rattle.seekchain_rules.specs.Heads.{nextHead, chain}
+use Rattle.seekchain_rules.specs.Lookup.{partAt, byHeads}
+use Rattle.segments_rules.specs.Walk.{childAt, walk}
+use Rattle.segments_rules.specs.Segment.{segmentOf, visit, children, lookupOf}
 use Rattle.search_rules.specs.Part.{parentOf, Search, found, absent, refused, searchOf, replyOf, tableOf}
-use Rattle.search_rules.specs.Part.{partTold}
+use Rattle.search_rules.specs.Part.{foundPart, absentPart, partTold}
 use Rattle.search_rules.specs.Theorems.{tagsAlone, tagsBehindAHead, NotMadeUp, NotUntouched}
 use Rattle.search_rules.specs.declared.part.PartReply.{PartReply}
 use Rattle.search_rules.specs.declared.part.PartReply.the-variants.{Found, Absent, Refused}
@@ -27,29 +27,29 @@ use Rattle.search_rules.specs.declared.part.PartReply.the-variants.{Foun
 -- ---- two recordings, computed
 
 unfoldable alone : Type 0
-alone = replyOf (searchOf tagsAlone 0x1254C367 0) ≡ accepted (1 ∷ 10 ∷ 0 ∷ 0 ∷ 0 ∷ [])
+alone = replyOf (searchOf tagsAlone 0x1254C367 0) ≡ accepted (foundPart 10 0 0 0)
 
 unfoldable behind : Type 0
-behind = replyOf (searchOf tagsBehindAHead 0x1254C367 0) ≡ accepted (0 ∷ 0 ∷ 0 ∷ 0 ∷ 1 ∷ [])
+behind = replyOf (searchOf tagsBehindAHead 0x1254C367 0) ≡ accepted (absentPart 1)
 
 is-alone : alone
 unfolding alone octetBits bits oneMore widthOf bigEndianFrom bigEndian ofWidth vintOf sized named headerOf
     headerRead headerAt count siblings masterBody isTable allowed filled
-    toSegment segmentOf visit walk children lookupOf parentOf searchOf
+    childAt walk segmentOf visit children lookupOf parentOf searchOf
 is-alone = refl
 
 is-behind : behind
 unfolding behind octetBits bits oneMore widthOf bigEndianFrom bigEndian ofWidth vintOf sized named headerOf
-    headerRead headerAt count siblings masterBody isTable allowed filled headOf entries latestFrom chain byHeads
-    toSegment segmentOf visit walk children lookupOf parentOf searchOf
+    headerRead headerAt count siblings masterBody isTable allowed filled entries latestFrom nextHead chain partAt
+    byHeads childAt walk segmentOf visit children lookupOf parentOf searchOf
 is-behind = refl
 
-one-found : (r : PartReply) → partTold r ≡ accepted (1 ∷ 10 ∷ 0 ∷ 0 ∷ 0 ∷ []) → r ≡ Found 10 0 0 0
+one-found : (r : PartReply) → partTold r ≡ accepted (foundPart 10 0 0 0) → r ≡ Found 10 0 0 0
 one-found (Found at size rows heads) q = cc
 one-found (Absent heads) q = let z : _≡_ {A = ℕ} 0 1 = cc in absurd (omega arith)
 one-found (Refused e) q = let z : _≡_ {A = ℕ} 0 1 = cc in absurd (omega arith)
 
-none-found : (r : PartReply) → partTold r ≡ accepted (0 ∷ 0 ∷ 0 ∷ 0 ∷ 1 ∷ []) → r ≡ Absent 1
+none-found : (r : PartReply) → partTold r ≡ accepted (absentPart 1) → r ≡ Absent 1
 none-found (Found at size rows heads) q = let z : _≡_ {A = ℕ} 0 1 = cc in absurd (omega arith)
 none-found (Absent heads) q = cc
 none-found (Refused e) q = let z : _≡_ {A = ℕ} 0 1 = cc in absurd (omega arith)

@@ -3,16 +3,15 @@ use Prim.Native.Nat.{ℕ}
 use mathlib.Core.Path.{_≡_}
 use mathlib.Core.List.{List, [], _∷_}
 use lib.ListN.{length}
-use Rattle.header.specs.declared.cursor.Cursor.{Cursor}
-use Rattle.header.specs.declared.cursor.Header.{Header}
+use Rattle.header.specs.declared.cursor.Headed.{Headed}
 use Rattle.header.specs.declared.cursor.HeaderRead.the-variants.{Read}
+use Rattle.refusals.specs.Theorems.{Listed}
 use Rattle.refusals.specs.declared.refusal.Refusal.{Refusal}
 use Rattle.elements_rules.specs.Promise.{zeros, ReadPromise}
 use Rattle.elements_rules.specs.declared.reply.ReadReply.the-variants.{Rows}
 use Rattle.seekhead_rules.specs.Seeks.{seekHeadId}
 use Rattle.seekchain_rules.specs.Theorems.{IsAt, GoodHeads, Named}
-use Rattle.seekchain_rules.specs.declared.heads.Head.{Head}
-use Rattle.segments_rules.specs.Walk.{segmentOf}
+use Rattle.segments_rules.specs.Segment.{segmentOf}
 use Rattle.search_rules.specs.Part.{parentOf, searchOf, headsOf, PartPromise}
 use Rattle.search_rules.specs.declared.part.Parent.the-variants.{Id}
 use Rattle.search_rules.specs.declared.part.PartReply.{PartReply}
@@ -24,6 +23,11 @@ abbrev pub OnePart : Type 0
 OnePart =
     (s : List ℕ) (part : ℕ) (t u : List ℕ) (r r′ : PartReply) (t′ u′ : List ℕ) → length t ≡ length u
     → PartPromise s part t r t′ → PartPromise s part u r′ u′ → (r ≡ r′) × (t′ ≡ u′)
+
+-- A refusal that the promise permits is one of document 01's list.
+abbrev pub RefusesListed : Type 0
+RefusesListed = (s : List ℕ) (part : ℕ) (t : List ℕ) (e : Refusal) (t′ : List ℕ)
+    → PartPromise s part t (Refused e) t′ → Listed e
 
 -- The heads of an accepted search: a seek head was read at each address, no address comes twice, and there are at most
 -- 64.
@@ -41,18 +45,20 @@ HeadsCounted =
 -- What a found part is: an element of the wanted id, with no head read; or the element at the position that the last
 -- entry of its id names, in the chain of heads from a seek head on. So a stale entry is never followed to another
 -- element. Where the walk met the element or the head is what `searchOf` says.
-pub data Way (s : List ℕ) (part start at size : ℕ) (heads : List ℕ) : Type 0 where
-  met : (address : ℕ) → IsAt s part address (record { at = at }) size → heads ≡ [] → Way s part start at size heads
+pub data Way (s : List ℕ) (wanted start : ℕ) (part : Headed) (heads : List ℕ) : Type 0 where
+  met : IsAt s wanted (part .place .at) part → heads ≡ [] → Way s wanted start part heads
   named :
-      (first : Head) → IsAt s seekHeadId (first .address) (first .payload) (first .size)
-      → Named s part start first at size heads → Way s part start at size heads
+      (first : Headed) → IsAt s seekHeadId (first .place .at) first → Named s wanted start first part heads
+      → Way s wanted start part heads
 
 -- A part in the segment that was found, with the heads that were read.
-pub record FoundBy (s : List ℕ) (part at size : ℕ) (heads : List ℕ) : Type 0 where
-  pub segment : Header
-  pub start : Cursor
-  pub is-segment : segmentOf s ≡ Read segment start
-  pub way : Way s part (start .at) at size heads
+pub record FoundBy (s : List ℕ) (wanted at size : ℕ) (heads : List ℕ) : Type 0 where
+  pub part : Headed
+  pub payload : part .payload .at ≡ at
+  pub sized : part .header .size ≡ size
+  pub segment : Headed
+  pub is-segment : segmentOf s ≡ Read segment
+  pub way : Way s wanted (segment .payload .at) part heads
 
 abbrev pub FoundIsPart : Type 0
 FoundIsPart =
