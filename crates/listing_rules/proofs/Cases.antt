@@ -12,11 +12,12 @@ use Rattle.elements_rules.specs.Forest.{span, count, join}
 use Rattle.elements_rules.specs.Reading.{refuseIf, full, siblings, element, masterBody}
 use Rattle.elements_rules.specs.Rows.{rows}
 use Rattle.elements_rules.specs.Promise.{isTable, allowed, filled}
-use Rattle.seekhead_rules.specs.Seeks.{headOf, lastFour, withMembers, entryOf, entries}
+use Rattle.seekhead_rules.specs.Seeks.{lastFour, withMembers, entryOf, entries}
 use Rattle.seekhead_rules.specs.Table.{later, latestFrom}
-use Rattle.seekchain_rules.specs.Heads.{sought, chain}
-use Rattle.seekchain_rules.specs.Lookup.{byHeads}
-use Rattle.segments_rules.specs.Walk.{toSegment, segmentOf, visit, walk, children, lookupOf}
+use Rattle.seekchain_rules.specs.Heads.{sought, nextHead, chain}
+use Rattle.seekchain_rules.specs.Lookup.{partAt, byHeads}
+use Rattle.segments_rules.specs.Walk.{childAt, walk}
+use Rattle.segments_rules.specs.Segment.{segmentOf, visit, children, lookupOf}
 use Rattle.search_rules.specs.Part.{parentOf, searchOf}
 use Rattle.pages.specs.Text.{glyph, numeral}
 use Rattle.rowtext.specs.Lines.{kindWord, rowPlace, rowLine, rowLines}
@@ -28,7 +29,7 @@ unfolding octetBits bits oneMore widthOf bigEndianFrom bigEndian ofWidth vintOf 
     headerAt
     elements kindIn keeps demoted kindUnder utf8Char behind anyOf goesOn utf8 bodyOf
     span count join refuseIf full siblings element masterBody rows isTable allowed filled
-    headOf lastFour withMembers entryOf entries later latestFrom member sought chain byHeads
-    toSegment segmentOf visit walk children lookupOf parentOf searchOf
+    lastFour withMembers entryOf entries later latestFrom member sought nextHead chain partAt byHeads
+    childAt walk segmentOf visit children lookupOf parentOf searchOf
     glyph numeral kindWord rowPlace rowLine rowLines placeText searchText partLines allParts listingOf
 cases-hold = (refl, (refl, (refl, tt)))

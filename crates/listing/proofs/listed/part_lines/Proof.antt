@@ -46,7 +46,7 @@ returns-2 c =
     let (l, p) = p6 .pre in
     let f = rw (p3 .refusal .given .1) at (p4 .find-part .ensures) in
     let (a, x) = p5 .put-hexadecimal .ensures in
-    let (b, y) = p2 .put-decimal .ensures in
+    let (b, y) = rw (p2 .before .number .ensures) at (p2 .put-decimal .ensures) in
     let d = c .before .before .put2 .ensures in
     let e = d .ends in
     let m = a .long in
@@ -73,7 +73,7 @@ returns-3 c =
 pub part-lines-spec : {M : Type 1} → statement M
 part-lines-spec =
     tie.close (tie.spec (λ c. search needs) (λ c κs. search needs) (λ c κs. search needs) (λ c. search needs)
-    (λ c. search needs) (λ c κs. search needs) (λ c. search needs) (λ c. search needs) (λ c. search needs)
+    (λ c. search needs) (λ c κs. search needs) (λ c. search needs) (λ c. search needs) (λ c κs. search needs)
     (λ c κs. search needs) (λ c. search needs) (λ c κs. search needs) (λ c. search needs) (λ c κs. search needs)
     row-lines-requires (λ c. search needs) (λ c. search needs) returns (λ c. search needs) (λ c. search needs) returns-2
     (λ c. search needs) (λ c. search needs) returns-3)

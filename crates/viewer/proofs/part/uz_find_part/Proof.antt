@@ -16,11 +16,12 @@ returns-2 c =
 
 returns-3 : tie.Need-returns-3
 returns-3 c =
-    part-crosses _ _ _ _ _ (rw (c .before .before .before .refusal .given .1) at
-    (c .before .before .before .before .before .before .before .find-part .ensures))
+    rw (c .before .number .ensures, c .id .ensures)
+    (part-crosses _ _ _ _ _ (rw (c .before .before .before .refusal .given .1) at
+    (c .before .before .before .before .before .before .before .find-part .ensures)))
 
 pub uz-find-part-spec : {M : Type 1} → statement M
 uz-find-part-spec =
     tie.close (tie.spec (λ c κs. search needs) (λ c. search needs) (λ c. search needs) (λ c. search needs)
-    (λ c. search needs) (λ c. search needs) (λ c. search needs) returns (λ c. search needs) returns-2
-    (λ c. search needs) returns-3)
+    (λ c κs. search needs) (λ c κs. search needs) (λ c. search needs) (λ c. search needs) returns (λ c. search needs)
+    returns-2 (λ c. search needs) returns-3)

@@ -11,10 +11,11 @@ returns c =
 
 returns-2 : tie.Need-returns-2
 returns-2 c =
-    range-crosses _ _ _ _ (rw (c .before .before .refusal .given .1) at
-    (c .before .before .before .before .payload-range .ensures))
+    rw (c .number .ensures)
+    (range-crosses _ _ _ _ (rw (c .before .before .refusal .given .1) at
+    (c .before .before .before .before .payload-range .ensures)))
 
 pub uz-row-payload-spec : {M : Type 1} → statement M
 uz-row-payload-spec =
-    tie.close (tie.spec (λ c κs. search needs) (λ c. search needs) (λ c. search needs) (λ c. search needs) returns
+    tie.close (tie.spec (λ c κs. search needs) (λ c. search needs) (λ c. search needs) (λ c κs. search needs) returns
     returns-2)

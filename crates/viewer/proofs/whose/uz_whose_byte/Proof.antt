@@ -16,10 +16,11 @@ returns-2 c =
 
 returns-3 : tie.Need-returns-3
 returns-3 c =
-    place-crosses _ _ _ _ _ _ _ _ (rw (c .before .before .refusal .given .1) at
-    (c .before .before .before .before .before .before .whose-byte .ensures))
+    rw (c .number .ensures)
+    (place-crosses _ _ _ _ _ _ _ _ (rw (c .before .before .refusal .given .1) at
+    (c .before .before .before .before .before .before .whose-byte .ensures)))
 
 pub uz-whose-byte-spec : {M : Type 1} → statement M
 uz-whose-byte-spec =
     tie.close (tie.spec (λ c κs. search needs) (λ c. search needs) (λ c. search needs) (λ c. search needs)
-    (λ c. search needs) (λ c. search needs) returns (λ c. search needs) returns-2 (λ c. search needs) returns-3)
+    (λ c κs. search needs) (λ c. search needs) returns (λ c. search needs) returns-2 (λ c. search needs) returns-3)
