@@ -1,6 +1,7 @@
 // The reader of typed bodies (document 01, Bodies; RFC 8794, section 7).
 //
-// `body_at` is the public call. The crates above hand a header that was read to `read_body`.
+// `body_at` is the public call. The crates above hand an element whose header was read to
+// `read_body`.
 mod range;
 mod reply;
 mod typed;

@@ -54,5 +54,6 @@ module _ (s : List ℕ) (at size : ℕ) where
   bodyOf String = ifThere textOf
   bodyOf Utf8 = ifThere textOf
   bodyOf Binary = ifThere (value (Bytes (record { at = at; length = size })))
-  bodyOf Float = cond (eqb size 4 || eqb size 8) (ifThere (value (FloatIs (floatOf size number)))) (refused InvalidFloat)
+  bodyOf Float =
+      cond (eqb size 4 || eqb size 8) (ifThere (value (FloatIs (floatOf size number)))) (refused InvalidFloat)
   bodyOf Date = cond (eqb size 8) (ifThere (value (DateIs (signedOf size number)))) (refused InvalidDate)

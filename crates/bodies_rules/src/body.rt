@@ -25,7 +25,8 @@ pub enum Body {
     Master,
 }
 
-// A body with the place after it, or why there is none. A master's payload is still to be read: the place is where it begins.
+// A body with the place after it, or why there is none. A master's payload is still to be read: the place is where it
+// begins.
 pub enum BodyRead {
     Read(Body, Cursor),
     Refused(Cause),

@@ -1,9 +1,8 @@
 -- Any two replies that a promise permits to one question are equal. Assumes nothing.
-use Prim.Native.Nat.{ℕ, zero, suc, _<_}
+use Prim.Native.Nat.{ℕ, _<_}
 use mathlib.Core.Path.{_≡_, refl, ap, sym, _∙_}
-use mathlib.Core.List.{List, [], _∷_}
 use native.Mathlib.Omega.{arith}
-use Rattle.codes.specs.Stereo.{modes, stereoNumber}
+use Rattle.codes.specs.Stereo.{modeTable, modeIn, modes, stereoNumber}
 use Rattle.codes.specs.Tracktypes.{typeNumber, typeIn, tracktypeOf}
 use Rattle.codes.specs.Theorems.{OneTracktype, OneStereoMode, ModesNumbered}
 use Rattle.codes.specs.declared.stereo.EyeOrder.the-variants.{LeftFirst, RightFirst}
@@ -19,31 +18,7 @@ use Rattle.codes.specs.declared.tracktype.Tracktype.the-variants.{Unknow
 
 -- ---- a stereo mode has a number of its own
 
-abbrev named : List StereoMode
-named =
-    Mono
-    ∷ SideBySide LeftFirst
-    ∷ TopBottom RightFirst
-    ∷ TopBottom LeftFirst
-    ∷ Checkboard RightFirst
-    ∷ Checkboard LeftFirst
-    ∷ RowInterleaved RightFirst
-    ∷ RowInterleaved LeftFirst
-    ∷ ColumnInterleaved RightFirst
-    ∷ ColumnInterleaved LeftFirst
-    ∷ Anaglyph CyanRed
-    ∷ SideBySide RightFirst
-    ∷ Anaglyph GreenMagenta
-    ∷ Interlaced LeftFirst
-    ∷ Interlaced RightFirst
-    ∷ []
-
-abbrev mode : List StereoMode → ℕ → StereoMode
-mode [] n = Mono
-mode (m ∷ ms) zero = m
-mode (m ∷ ms) (suc n) = mode ms n
-
-numbered : (m : StereoMode) → (mode named (stereoNumber m) ≡ m) × (stereoNumber m < modes)
+numbered : (m : StereoMode) → (modeIn modeTable (stereoNumber m) ≡ m) × (stereoNumber m < modes)
 numbered Mono = (refl, omega arith)
 numbered (SideBySide LeftFirst) = (refl, omega arith)
 numbered (SideBySide RightFirst) = (refl, omega arith)
@@ -61,7 +36,7 @@ numbered (Interlaced LeftFirst) = (refl, omega arith)
 numbered (Interlaced RightFirst) = (refl, omega arith)
 
 pub mode-once : (m n : StereoMode) → stereoNumber m ≡ stereoNumber n → m ≡ n
-mode-once m n e = sym (numbered m .0) ∙ ap (mode named) e ∙ numbered n .0
+mode-once m n e = sym (numbered m .0) ∙ ap (modeIn modeTable) e ∙ numbered n .0
 
 -- By the case that a mode was found to be.
 pub number-of : {r : ℕ} {m n : StereoMode} → m ≡ n → r ≡ stereoNumber n → r ≡ stereoNumber m
@@ -95,4 +70,4 @@ pub stereo-mode-unique : OneStereoMode
 stereo-mode-unique m r r′ p q = p ∙ sym q
 
 pub modes-numbered : ModesNumbered
-modes-numbered = record { own = mode-once; below = λ m. numbered m .1 }
+modes-numbered = record { placed = λ m. numbered m .0; many = refl; own = mode-once; below = λ m. numbered m .1 }

@@ -1,5 +1,6 @@
 -- Stereo modes by their numbers (document 02, C-11; the crate's `Video::build`).
-use Prim.Native.Nat.{ℕ}
+use Prim.Native.Nat.{ℕ, zero, suc}
+use mathlib.Core.List.{List, [], _∷_}
 use Rattle.codes.specs.declared.stereo.EyeOrder.{EyeOrder}
 use Rattle.codes.specs.declared.stereo.EyeOrder.the-variants.{LeftFirst, RightFirst}
 use Rattle.codes.specs.declared.stereo.StereoColors.the-variants.{CyanRed, GreenMagenta}
@@ -8,7 +9,32 @@ use Rattle.codes.specs.declared.stereo.StereoMode.the-variants.{Mono, Si
 use Rattle.codes.specs.declared.stereo.StereoMode.the-variants.{RowInterleaved, ColumnInterleaved}
 use Rattle.codes.specs.declared.stereo.StereoMode.the-variants.{Anaglyph, Interlaced}
 
--- The modes have the numbers 0 to 14.
+-- The table of the modes, in the order of their numbers, 0 to 14.
+abbrev pub modeTable : List StereoMode
+modeTable =
+    Mono
+    ∷ SideBySide LeftFirst
+    ∷ TopBottom RightFirst
+    ∷ TopBottom LeftFirst
+    ∷ Checkboard RightFirst
+    ∷ Checkboard LeftFirst
+    ∷ RowInterleaved RightFirst
+    ∷ RowInterleaved LeftFirst
+    ∷ ColumnInterleaved RightFirst
+    ∷ ColumnInterleaved LeftFirst
+    ∷ Anaglyph CyanRed
+    ∷ SideBySide RightFirst
+    ∷ Anaglyph GreenMagenta
+    ∷ Interlaced LeftFirst
+    ∷ Interlaced RightFirst
+    ∷ []
+
+-- The mode of a place in it.
+abbrev pub modeIn : List StereoMode → ℕ → StereoMode
+modeIn [] n = Mono
+modeIn (m ∷ ms) zero = m
+modeIn (m ∷ ms) (suc n) = modeIn ms n
+
 abbrev pub modes : ℕ
 modes = 15
 
@@ -16,6 +42,7 @@ abbrev pub byOrder : EyeOrder → (left right : ℕ) → ℕ
 byOrder LeftFirst left right = left
 byOrder RightFirst left right = right
 
+-- The number of a mode, which is its place in the table (`ModesNumbered`).
 abbrev pub stereoNumber : StereoMode → ℕ
 stereoNumber Mono = 0
 stereoNumber (SideBySide order) = byOrder order 1 11

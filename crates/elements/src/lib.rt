@@ -1,7 +1,7 @@
 // Elements into rows of a lent table (document 01, Element table).
 //
-// `read` is the public call. The crates above that answer from the rows fill a cleared table by `fill`, and read
-// elements without rows by `element_header` and `master_body`.
+// `read` is the public call. The crates above that answer from the rows fill a cleared table by `fill`; others
+// read elements without rows by `element_header` and `master_body`.
 mod element;
 mod reply;
 mod step;

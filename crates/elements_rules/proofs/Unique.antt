@@ -1,5 +1,5 @@
--- Any two replies and tables that the promise of `read` permits are equal (`OneReply`), and a refusal is one of document
--- 01's list (`RefusesListed`). Assumes nothing.
+-- Any two replies and tables that the promise of `read` permits are equal (`OneReply`), and a refusal is one of
+-- document 01's list (`RefusesListed`). Assumes nothing.
 use Prim.Native.Nat.{ℕ}
 use mathlib.Core.Path.{_≡_, refl, ap, sym, _∙_}
 use Rattle.refusals.specs.Reply.{Reply, accepted, refusal}

@@ -2,11 +2,12 @@
 use Prim.Native.Nat.{ℕ, _+_, _≤_}
 use mathlib.Core.Path.{_≡_}
 use mathlib.Core.List.{List}
-use lib.ListN.{length, drop}
-use Rattle.header.specs.Header.{heading, headerOf}
+use lib.ListN.{length}
+use Rattle.header.specs.Header.{heading}
 use Rattle.kinds.specs.Kinds.{numberOf, kindUnder}
 use Rattle.bodies_rules.specs.Bodies.{Told, body, refused, bodyOf}
 use Rattle.bodies_rules.specs.declared.body.Body.the-variants.{Value, Master}
+use Rattle.elements_rules.specs.Reading.{elementHeader}
 use Rattle.elements_rules.specs.Forest.{Element, Forest, none, node, whole, span}
 
 -- A body is a value: no master, and no refusal.
@@ -21,14 +22,14 @@ IsMaster e = numberOf (e .kind) ≡ 1
 -- An element stands at an address under a parent id: its header is there, and its kind is the id's. A master's
 -- children take up its payload; the body of any other is a value, and it has no children.
 pub record StandsAt (s : List ℕ) (parent at : ℕ) (e : Element) (kids : Forest) : Type 0 where
-  pub head : headerOf (drop at s) ≡ heading (e .header)
+  pub head : elementHeader s at ≡ heading (e .header)
   pub kind : e .kind ≡ kindUnder (e .header .id) parent
   pub taken : IsMaster e → span kids ≡ e .header .size
   pub value : (IsMaster e → ⊥) → IsValue (bodyOf s (at + e .header .length) (e .header .size) (e .kind))
   pub childless : (IsMaster e → ⊥) → kids ≡ none
 
 -- The elements stand one after another from an address on, and each one's children behind its header.
-unfoldable pub Stands : List ℕ → ℕ → ℕ → Forest → Type 0
+unfoldable pub Stands : List ℕ → (parent at : ℕ) → Forest → Type 0
 Stands s parent at none = at ≤ length s
 Stands s parent at (node e kids rest) =
     StandsAt s parent at e kids

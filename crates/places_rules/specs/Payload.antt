@@ -11,7 +11,7 @@ use Rattle.elements_rules.specs.Promise.{allowed}
 
 -- The address of the payload's first byte and how many there are, or a refusal.
 pub data PayloadRange : Type 0 where
-  range : ℕ → ℕ → PayloadRange
+  range : (at length : ℕ) → PayloadRange
   refused : Refusal → PayloadRange
 
 -- The range of row k, which is in the table and whose range is in the recording; else 14.

@@ -1,8 +1,7 @@
 -- Refusals by the names of their causes.
 use Prim.Native.Nat.{ℕ}
 use Rattle.refusals.specs.declared.refusal.Cause.{Cause}
-use Rattle.refusals.specs.declared.refusal.Cause.the-variants.{PastEnd, InvalidId, InvalidSize, Overrun}
-use Rattle.refusals.specs.declared.refusal.Cause.the-variants.{InvalidUint, InvalidFloat, InvalidDate, NotUtf8}
+use Rattle.refusals.specs.declared.refusal.Cause.the-variants.{PastEnd, Overrun}
 use Rattle.refusals.specs.declared.refusal.Cause.the-variants.{InvalidSeekHead, StaleEntry, HeadAgain}
 use Rattle.refusals.specs.declared.refusal.Cause.the-variants.{TooManyHeads, TooDeep, NoFreeRow}
 use Rattle.refusals.specs.declared.refusal.Cause.the-variants.{BadArgument, Outside}

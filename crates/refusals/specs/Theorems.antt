@@ -1,5 +1,5 @@
 -- What is proved of every refusal, whichever call gives it: the statements of the theorems.
-use Prim.Native.Nat.{ℕ, _≤_}
+use Prim.Native.Nat.{_≤_}
 use mathlib.Core.Path.{_≡_}
 use mathlib.Core.Logic.{_⊎_}
 use Rattle.refusals.specs.Causes.{numberOf, idOf}

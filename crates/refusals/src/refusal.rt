@@ -10,7 +10,8 @@ pub enum Cause {
     InvalidId,
     // 3: a size of more than eight bytes.
     InvalidSize,
-    // 3: an element larger than what its master had left.
+    // 3: an element larger than what its master had left, or a child of the segment that is passed over and is larger
+    // than what was left of it.
     Overrun,
     // 4: an integer body, signed or not, of more than eight bytes.
     InvalidUint,

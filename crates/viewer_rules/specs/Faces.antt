@@ -1,5 +1,5 @@
--- How a reply crosses to C: `refused` is 0 and the values follow in document 01's order; or it is the number, with the
--- id that 8 carries, and every other number is 0.
+-- How a reply crosses to C: `refused` is 0 and the values cross under their own names; or it is the number, with the id
+-- that 8 carries, and every other number is 0.
 use Rattle.refusals.specs.Causes.{numberOf, idOf}
 use Rattle.refusals.specs.Reply.{Reply, accepted, refusal}
 use Rattle.bodies_rules.specs.declared.body.Range.{Range}
