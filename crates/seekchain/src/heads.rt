@@ -7,12 +7,14 @@ ghost use Rattle.seekhead_rules.specs.Contract.{Readable};
 ghost use Rattle.kinds.specs.Kinds.{member};
 ghost use Rattle.seekchain_rules.specs.Heads.{lastAddress, sought as soughtAt, nextHead, linkedHeads};
 ghost use Rattle.seekchain_rules.specs.Contract.{headsTold};
+use crate::step::child_at;
 use header::Cursor;
 use header::Headed;
 use header::HeaderRead;
 use kinds::ids;
 use refusals::Cause;
 use refusals::Refusal;
+use seekchain_rules::ChildRead;
 use seekchain_rules::HeadsRead;
 use seekchain_rules::NextHead;
 use seekhead::head_body;
@@ -24,7 +26,7 @@ use seekhead_rules::Wanted;
 // The most seek heads that one search reads, the first included.
 const MOST_HEADS: usize = 64;
 
-// The last address that a number can be.
+// The greatest 64-bit number.
 const LAST_ADDRESS: u64 = 18446744073709551615;
 
 // Whether the segment's start plus a position exceeds 2^64-1.
@@ -54,9 +56,13 @@ pub fn sought(recording: &[u8], address: u64, id: u32) -> HeaderRead
     ensures { λ r. ⌜ r ≡ soughtAt (now (recording .entry)) address id ⌝ }
 {
     let place = Cursor { at: address };
-    match place.header(recording) {
-        HeaderRead::Refused(refusal) => HeaderRead::Refused(refusal),
-        HeaderRead::Read(element) => {
+    let end = recording.len() as u64;
+    match child_at(recording, place, end) {
+        ChildRead::Refused(refusal) => HeaderRead::Refused(refusal),
+        ChildRead::End => HeaderRead::Refused(Refusal {
+            cause: Cause::PastEnd,
+        }),
+        ChildRead::Child(element) => {
             if element.header.id != id {
                 return HeaderRead::Refused(Refusal {
                     cause: Cause::StaleEntry,

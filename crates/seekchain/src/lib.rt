@@ -3,5 +3,7 @@
 // The crate above that walks over the segment hands the first head to `by_heads`.
 mod heads;
 mod lookup;
+mod step;
 
 pub use lookup::by_heads;
+pub use step::child_at;

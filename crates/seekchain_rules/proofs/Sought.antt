@@ -7,7 +7,7 @@ use native.Mathlib.Omega.{arith}
 use lib.ListN.{length}
 use lib.Dec.{leb, eqb}
 use borrow.Author.Tests.{eqb-true, leb-false}
-use Rattle.refusals.specs.Refusals.{invalidSeekHead, staleEntry, headAgain, tooManyHeads}
+use Rattle.refusals.specs.Refusals.{pastEnd, invalidSeekHead, staleEntry, headAgain, tooManyHeads}
 use Rattle.header.specs.Reads.{headerAt}
 use Rattle.header.specs.declared.cursor.Headed.{Headed}
 use Rattle.header.specs.declared.cursor.HeaderRead.{HeaderRead}
@@ -19,14 +19,28 @@ use Rattle.seekhead_rules.specs.Table.{onLatest}
 use Rattle.seekhead_rules.specs.declared.head.Latest.{Latest}
 use Rattle.seekhead_rules.specs.declared.head.Latest.the-variants.{Nowhere, At}
 use Rattle.seekchain_rules.specs.Answers.{onHeader}
+use Rattle.seekchain_rules.specs.Step.{childAt, onChild}
 use Rattle.seekchain_rules.specs.Heads.{tooFar, sought, mostHeads, nextHead}
 use Rattle.seekchain_rules.specs.Theorems.{IsAt}
+use Rattle.seekchain_rules.specs.declared.step.ChildRead.{ChildRead}
+use Rattle.seekchain_rules.specs.declared.step.ChildRead.the-variants.{Child, End, Refused as ChildRefused}
 use Rattle.seekchain_rules.specs.declared.heads.NextHead.the-variants.{Next, Last, Refused}
+
+-- A child of a walk is the element whose header is there.
+pub child-is : (s : List ℕ) (end at : ℕ) (e : Headed) → childAt s end at ≡ Child e → headerAt s at ≡ Read e
+unfolding childAt
+child-is s end at e q = go (leb end at) (headerAt s at) refl q
+  where
+    go : (b : Bool) (x : HeaderRead) → headerAt s at ≡ x → cond b End (onHeader x ChildRefused Child) ≡ Child e
+        → headerAt s at ≡ Read e
+    go true x k w = let z : _≡_ {A = ℕ} 0 1 = cc in absurd (omega arith)
+    go false (Read x) k w = let a : x ≡ e = cc in k ∙ ap Read a
+    go false (HeaderRefused c) k w = let z : _≡_ {A = ℕ} 0 1 = cc in absurd (omega arith)
 
 -- What a sought address holds: an element that is there, with that id.
 pub sought-is : (s : List ℕ) (address id : ℕ) (e : Headed) → sought s address id ≡ Read e → IsAt s id address e
 unfolding sought
-sought-is s address id e q = by-header (headerAt s address) refl q
+sought-is s address id e q = by-child (childAt s (length s) address) refl q
   where
     by-id : (x : Headed) (b : Bool) → eqb (x .header .id) id ≡ b → headerAt s address ≡ Read x
         → cond b (Read x) (HeaderRefused staleEntry) ≡ Read e → IsAt s id address e
@@ -35,11 +49,14 @@ sought-is s address id e q = by-header (headerAt s address) refl q
         record { head = h ∙ w; named = ap (λ (y : Headed). y .header .id) (sym a) ∙ eqb-true (x .header .id) id k }
     by-id x false k h w = let z : _≡_ {A = ℕ} 0 1 = cc in absurd (omega arith)
 
-    by-header : (x : HeaderRead) → headerAt s address ≡ x
-        → onHeader x HeaderRefused (λ y. cond (eqb (y .header .id) id) (Read y) (HeaderRefused staleEntry)) ≡ Read e
+    by-child : (x : ChildRead) → childAt s (length s) address ≡ x
+        → onChild x (HeaderRefused pastEnd) HeaderRefused (λ y.
+        cond (eqb (y .header .id) id) (Read y) (HeaderRefused staleEntry))
+        ≡ Read e
         → IsAt s id address e
-    by-header (Read x) k w = by-id x (eqb (x .header .id) id) refl k w
-    by-header (HeaderRefused c) k w = let z : _≡_ {A = ℕ} 0 1 = cc in absurd (omega arith)
+    by-child (Child x) k w = by-id x (eqb (x .header .id) id) refl (child-is s (length s) address x k) w
+    by-child End k w = let z : _≡_ {A = ℕ} 0 1 = cc in absurd (omega arith)
+    by-child (ChildRefused c) k w = let z : _≡_ {A = ℕ} 0 1 = cc in absurd (omega arith)
 
 -- A head that is to be read next: it is one, at another address than those before, and fewer than 64 were read.
 pub record IsNext (s seen : List ℕ) (head : Headed) : Type 0 where
@@ -54,7 +71,11 @@ module _ (s : List ℕ) (start : ℕ) (seen : List ℕ) (head : Headed) where
       let a : e ≡ head = cc in
       let i = sought-is s to seekHeadId head (q ∙ ap Read a) in
       let p = header-there s to head (i .head) .begins in
-      record { is = record { head = ap (headerAt s) p ∙ i .head; named = i .named }; new = ap (λ (x : ℕ). member x seen) p ∙ m; few = l }
+      record {
+        is = record { head = ap (headerAt s) p ∙ i .head; named = i .named };
+        new = ap (λ (x : ℕ). member x seen) p ∙ m;
+        few = l;
+      }
   by-sought to m l (HeaderRefused e) q w = let z : _≡_ {A = ℕ} 0 1 = cc in absurd (omega arith)
 
   by-tests : (to : ℕ) (far : Bool) (b : Bool) → member to seen ≡ b → (c : Bool) → leb mostHeads (length seen) ≡ c

@@ -5,9 +5,8 @@ use mathlib.Core.List.{List, [], _∷_, _++_}
 use mathlib.Core.Bool.{Bool, cond}
 use lib.ListN.{length}
 use lib.Dec.{ltb, leb, eqb}
-use Rattle.refusals.specs.Refusals.{invalidSeekHead, staleEntry, headAgain, tooManyHeads}
+use Rattle.refusals.specs.Refusals.{pastEnd, invalidSeekHead, staleEntry, headAgain, tooManyHeads}
 use Rattle.refusals.specs.declared.refusal.Refusal.{Refusal}
-use Rattle.header.specs.Reads.{headerAt}
 use Rattle.header.specs.declared.cursor.Headed.{Headed}
 use Rattle.header.specs.declared.cursor.HeaderRead.{HeaderRead}
 use Rattle.header.specs.declared.cursor.HeaderRead.the-variants.{Read}
@@ -18,6 +17,7 @@ use Rattle.seekhead_rules.specs.Table.{onLatest, latest}
 use Rattle.seekhead_rules.specs.declared.seek.Seek.{Seek}
 use Rattle.seekhead_rules.specs.declared.head.Latest.{Latest}
 use Rattle.seekchain_rules.specs.Answers.{onHeader, onOutcome}
+use Rattle.seekchain_rules.specs.Step.{childAt, onChild}
 use Rattle.seekchain_rules.specs.declared.heads.NextHead.{NextHead}
 use Rattle.seekchain_rules.specs.declared.heads.NextHead.the-variants.{Next, Last, Refused}
 
@@ -31,10 +31,10 @@ lastAddress = 18446744073709551615
 abbrev pub tooFar : ℕ → ℕ → Bool
 tooFar start position = ltb lastAddress (start + position)
 
--- The element that a sought address holds: 9 where its id is another.
-unfoldable pub sought : List ℕ → ℕ → ℕ → HeaderRead
+-- The element that a sought address holds, up to the recording's end: 1 past it, 9 where its id is another.
+unfoldable pub sought : List ℕ → (address id : ℕ) → HeaderRead
 sought s address id =
-    onHeader (headerAt s address) HeaderRefused (λ e.
+    onChild (childAt s (length s) address) (HeaderRefused pastEnd) HeaderRefused (λ e.
     cond (eqb (e .header .id) id) (Read e) (HeaderRefused staleEntry))
 
 -- ---- the next head

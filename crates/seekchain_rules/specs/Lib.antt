@@ -1,5 +1,6 @@
 -- The definitions that the contracts of `seekchain` cite, and the statements of its theorems.
 pub mod Answers
+pub mod Step
 pub mod Heads
 pub mod Lookup
 pub mod Contract

@@ -2,7 +2,9 @@
 // their entries lead to.
 mod heads;
 mod lookup;
+mod step;
 
 pub use heads::HeadsRead;
 pub use heads::NextHead;
 pub use lookup::PartPlace;
+pub use step::ChildRead;

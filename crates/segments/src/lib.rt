@@ -3,7 +3,6 @@
 //
 // The crate above reads the part that `look_up` finds.
 mod segment;
-mod step;
 mod walk;
 
 pub use walk::look_up;

@@ -4,13 +4,13 @@ ghost use Prim.Native.Nat.{_≤_};
 ghost use lib.ListN.{length};
 ghost use Rattle.header.specs.Promise.{mostBytes};
 ghost use Rattle.segments_rules.specs.Segment.{segmentOf};
-use crate::step::child_at;
 use header::Cursor;
 use header::HeaderRead;
 use kinds::ids;
 use refusals::Cause;
 use refusals::Refusal;
-use segments_rules::ChildRead;
+use seekchain::child_at;
+use seekchain_rules::ChildRead;
 
 // The segment. Elements before it are skipped by size.
 pub fn segment_of(recording: &[u8]) -> HeaderRead

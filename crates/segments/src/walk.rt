@@ -5,7 +5,6 @@ ghost use Rattle.seekchain_rules.specs.Contract.{placeTold};
 ghost use Rattle.segments_rules.specs.Segment.{visit as visitOf, children, lookupOf};
 ghost use Rattle.segments_rules.specs.Contract.{visitTold, Listed};
 use crate::segment::segment_of;
-use crate::step::child_at;
 use header::Cursor;
 use header::Headed;
 use header::HeaderRead;
@@ -13,8 +12,9 @@ use kinds::ids;
 use refusals::Cause;
 use refusals::Refusal;
 use seekchain::by_heads;
+use seekchain::child_at;
+use seekchain_rules::ChildRead;
 use seekchain_rules::PartPlace;
-use segments_rules::ChildRead;
 use segments_rules::Visit;
 
 // What a child does to the search: a seek head leads on by its entries, the wanted part is found.

@@ -19,14 +19,15 @@ use Rattle.seekchain_rules.specs.Answers.{onHeader}
 use Rattle.seekchain_rules.specs.Lookup.{Lookup, found, absent, stopped, byHeads}
 use Rattle.seekchain_rules.specs.Contract.{placeTold}
 use Rattle.seekchain_rules.specs.declared.lookup.PartPlace.{PartPlace}
-use Rattle.segments_rules.specs.Walk.{childAt, onChild, behind, Visit, ends, over, onVisit, Walk, walk, walkFrom}
+use Rattle.seekchain_rules.specs.Step.{childAt, onChild, behind}
+use Rattle.segments_rules.specs.Walk.{Visit, ends, over, onVisit, Walk, walk, walkFrom}
 use Rattle.segments_rules.specs.Walk.{WalkUnfolds}
 use Rattle.segments_rules.specs.Segment.{seeking, segmentFrom, segmentOf, SegmentUnfolds, within, visit, searching}
 use Rattle.segments_rules.specs.Segment.{childrenFrom, ChildrenUnfold}
 use Rattle.segments_rules.specs.Contract.{visitTold}
 use Rattle.segments_rules.specs.declared.walk.Visit.the-variants.{Ends, Over}
-use Rattle.segments_rules.specs.declared.walk.ChildRead.{ChildRead}
-use Rattle.segments_rules.specs.declared.walk.ChildRead.the-variants.{Child, End, Refused}
+use Rattle.seekchain_rules.specs.declared.step.ChildRead.{ChildRead}
+use Rattle.seekchain_rules.specs.declared.step.ChildRead.the-variants.{Child, End, Refused}
 
 -- ---- one step
 

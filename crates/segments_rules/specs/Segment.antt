@@ -13,7 +13,8 @@ use Rattle.header.specs.declared.cursor.HeaderRead.the-variants.{Read, Refused}
 use Rattle.seekhead_rules.specs.Seeks.{segmentId, seekHeadId}
 use Rattle.seekchain_rules.specs.Answers.{onHeader}
 use Rattle.seekchain_rules.specs.Lookup.{Lookup, found, absent, stopped, byHeads}
-use Rattle.segments_rules.specs.Walk.{childAt, onChild, behind, Visit, ends, over, onVisit, Walk}
+use Rattle.seekchain_rules.specs.Step.{childAt, onChild, behind}
+use Rattle.segments_rules.specs.Walk.{Visit, ends, over, onVisit, Walk}
 use Rattle.segments_rules.specs.Walk.{walkFrom}
 
 -- ---- before the segment

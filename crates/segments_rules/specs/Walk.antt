@@ -9,22 +9,7 @@ use Rattle.refusals.specs.declared.refusal.Refusal.{Refusal}
 use Rattle.header.specs.Reads.{headerAt}
 use Rattle.header.specs.declared.cursor.Headed.{Headed}
 use Rattle.header.specs.declared.cursor.HeaderRead.{HeaderRead}
-use Rattle.seekchain_rules.specs.Answers.{onHeader}
-use Rattle.segments_rules.specs.declared.walk.ChildRead.{ChildRead}
-use Rattle.segments_rules.specs.declared.walk.ChildRead.the-variants.{Child, End, Refused}
-
--- The element at a place, up to an end: the one step of a walk.
-unfoldable pub childAt : List ℕ → ℕ → ℕ → ChildRead
-childAt s end at = cond (leb end at) End (onHeader (headerAt s at) Refused Child)
-
-abbrev pub onChild : {A : Type 0} → ChildRead → A → (Refusal → A) → (Headed → A) → A
-onChild (Child e) ended stop next = next e
-onChild End ended stop next = ended
-onChild (Refused e) ended stop next = stop e
-
--- The place behind an element. Its bytes need not exist.
-abbrev pub behind : Headed → ℕ
-behind e = e .payload .at + e .header .size
+use Rattle.seekchain_rules.specs.Step.{childAt, onChild, behind}
 
 -- What a visit of an element does: it ends the walk with an answer, or passes the element over, with what is known then.
 pub data Visit (A B : Type 0) : Type 0 where

@@ -1,11 +1,10 @@
 -- `child_at`: the end, or the header before it. Assumes nothing.
 use borrow.Author.Needs.{needs}
-use Rattle.segments.proofs.step.child_at.Statement.{statement}
-use Rattle.segments.proofs.step.child_at.Tie as tie
+use Rattle.seekchain.proofs.step.child_at.Statement.{statement}
+use Rattle.seekchain.proofs.step.child_at.Tie as tie
 use mathlib.Core.Path.{refl, sym, _∙_}
-use native.Mathlib.Omega.{arith}
 use borrow.Author.Tests.{le-leb, lt-leb}
-use Rattle.segments_rules.specs.Walk.{childAt}
+use Rattle.seekchain_rules.specs.Step.{childAt}
 
 returns : tie.Need-returns
 unfolding childAt

@@ -1,9 +1,9 @@
 // The one step of a walk.
 ghost use mathlib.Core.Path.{_≡_};
-ghost use Rattle.segments_rules.specs.Walk.{childAt};
+ghost use Rattle.seekchain_rules.specs.Step.{childAt};
 use header::Cursor;
 use header::HeaderRead;
-use segments_rules::ChildRead;
+use seekchain_rules::ChildRead;
 
 // The element at a place, up to an end.
 pub fn child_at(recording: &[u8], place: Cursor, end: u64) -> ChildRead
