@@ -100,10 +100,12 @@ module _ (s : List ℕ) (at : ℕ) where
   float-ends-8 missing = rw missing
 
   module _ (v : ℕ) (next : Cursor) where
-    pub float-there-4 : Found s at 4 v next → Read (B.Value (W.Float (ofBits binary32 v))) next ≡ bodyRead K.Float s at 4
+    pub float-there-4 :
+        Found s at 4 v next → Read (B.Value (W.Float (ofBits binary32 v))) next ≡ bodyRead K.Float s at 4
     unfolding bodyRead bodyOf floatOf
     float-there-4 f = rw (f .there, f .value, f .place)
 
-    pub float-there-8 : Found s at 8 v next → Read (B.Value (W.Float (ofBits binary64 v))) next ≡ bodyRead K.Float s at 8
+    pub float-there-8 :
+        Found s at 8 v next → Read (B.Value (W.Float (ofBits binary64 v))) next ≡ bodyRead K.Float s at 8
     unfolding bodyRead bodyOf floatOf
     float-there-8 f = rw (f .there, f .value, f .place)

@@ -99,8 +99,10 @@ module _ (r : Row) (rs : List Row) (k total x : ℕ) where
         only = only-later r rs x (f .n) (rw (d, e)) (f .only);
         which =
             ⊎-elim
-            (λ (h : By byHeader inHeader). inl (rw (d, e) (h .0 ∙ ap (λ (m : ℕ). accepted (byHeader m total)) next), h .1))
-            (λ (h : By byPayload inLeaf). inr (rw (d, e) (h .0 ∙ ap (λ (m : ℕ). accepted (byPayload m total)) next), h .1))
+            (λ (h : By byHeader inHeader).
+            inl (rw (d, e) (h .0 ∙ ap (λ (m : ℕ). accepted (byHeader m total)) next), h .1))
+            (λ (h : By byPayload inLeaf).
+            inr (rw (d, e) (h .0 ∙ ap (λ (m : ℕ). accepted (byPayload m total)) next), h .1))
             (f .which);
       }
     where

@@ -1,7 +1,7 @@
 -- Where a search finds a part: the heads are seek heads at different addresses and not too many, and the part was met
 -- in the walk or is named by an entry. Assumes nothing.
 use Prim.Native.Nat.{ℕ, _+_, _≤_}
-use mathlib.Core.Path.{_≡_, refl, ap, _∙_, subst}
+use mathlib.Core.Path.{_≡_, refl, subst}
 use mathlib.Core.List.{List, []}
 use mathlib.Core.Bool.{Bool, true, false, cond}
 use native.Mathlib.Omega.{arith}
@@ -21,7 +21,7 @@ use Rattle.seekchain_rules.specs.Theorems.{IsAt, AreHeads, Distinct, GoodHeads,
 use Rattle.seekchain_rules.proofs.Leads.{heads-lead}
 use Rattle.segments_rules.specs.Walk.{behind, Visit, ends, over, onVisit}
 use Rattle.segments_rules.specs.Segment.{segmentOf, within, visit, searching, children, lookupOf}
-use Rattle.segments_rules.proofs.Walks.{Stepped, Ended, walk-holds}
+use Rattle.segments_rules.proofs.Walks.{Ended, walk-holds}
 use Rattle.search_rules.specs.Theorems.{Way, met, named, FoundBy}
 
 -- No head at all.

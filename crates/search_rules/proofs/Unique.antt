@@ -28,5 +28,5 @@ part-unique s part t u r r′ t′ u′ l p q =
       p .table ∙ b ∙ sym (q .table),
     )
 
-pub refuses-listed : RefusesListed
-refuses-listed s part t e t′ p = listed e
+pub part-refuses-listed : RefusesListed
+part-refuses-listed s part t e t′ p = listed e

@@ -106,8 +106,8 @@ fn next_head(recording: &[u8], start: u64, seen: &[u64], read: usize, link: Late
     }
 }
 
-// The positions of the wanted ids by the heads from the first one on. An entry for a further head is dropped once it was
-// followed.
+// The positions of the wanted ids by the heads from the first one on. An entry for a further head is dropped once it
+// was followed.
 pub fn linked_heads(
     recording: &[u8],
     kinds: &[u64],

@@ -1,5 +1,5 @@
 -- The chain of linked heads, head by head. Assumes nothing.
-use Prim.Native.Nat.{ℕ, zero, suc, _+_, _-_, _≤_, _<_}
+use Prim.Native.Nat.{ℕ, suc, _+_, _-_, _<_}
 use mathlib.Core.Path.{_≡_, refl, sym, ap, _∙_}
 use mathlib.Core.List.{List, [], _∷_, _++_}
 use native.Mathlib.Omega.{arith}
@@ -22,8 +22,7 @@ use Rattle.seekhead_rules.specs.declared.head.HeadRead.the-variants.{Read as He
 use Rattle.seekhead_rules.proofs.Positions.{positions-append, positions-none}
 use Rattle.seekhead_rules.proofs.Levels.{told-read, told-stopped}
 use Rattle.seekhead_rules.proofs.Members.{children, children-law}
-use Rattle.seekchain_rules.specs.Answers.{onOutcome}
-use Rattle.seekchain_rules.specs.Heads.{Heads, withHead, Chain, chained, broken, mostHeads, nextHead, onNext}
+use Rattle.seekchain_rules.specs.Heads.{Heads, Chain, chained, broken, mostHeads, nextHead, onNext}
 use Rattle.seekchain_rules.specs.Heads.{chain, linkedHeads}
 use Rattle.seekchain_rules.specs.Contract.{headsTold}
 use Rattle.seekchain_rules.specs.Theorems.{ChainUnfolds}

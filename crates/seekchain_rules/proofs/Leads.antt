@@ -16,13 +16,13 @@ use Rattle.elements_rules.specs.Forest.{Forest}
 use Rattle.elements_rules.specs.Reading.{Outcome, done, refused}
 use Rattle.kinds.specs.Kinds.{member}
 use Rattle.seekhead_rules.specs.Seeks.{seekHeadId, headOf, entries}
-use Rattle.seekhead_rules.specs.Table.{onLatest, latest}
+use Rattle.seekhead_rules.specs.Table.{latest}
 use Rattle.seekhead_rules.specs.declared.head.Latest.{Latest}
 use Rattle.seekhead_rules.specs.declared.head.Latest.the-variants.{Nowhere, At}
 use Rattle.seekchain_rules.specs.Answers.{onHeader, onOutcome}
 use Rattle.seekchain_rules.specs.Heads.{Heads, noHeads, withHead, Chain, chained, broken, mostHeads, nextHead}
 use Rattle.seekchain_rules.specs.Heads.{tooFar, sought, onNext, chain, linkedHeads}
-use Rattle.seekchain_rules.specs.Lookup.{found, absent, stopped, onChain, partAt, byHeads}
+use Rattle.seekchain_rules.specs.Lookup.{found, stopped, onChain, partAt, byHeads}
 use Rattle.seekchain_rules.specs.Theorems.{IsAt, IsHead, AreHeads, NotAmong, Distinct, GoodHeads, ByHeads}
 use Rattle.seekchain_rules.specs.Theorems.{HeadsLead}
 use Rattle.seekchain_rules.specs.declared.heads.NextHead.{NextHead}

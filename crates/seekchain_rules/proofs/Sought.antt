@@ -15,7 +15,6 @@ use Rattle.header.specs.declared.cursor.HeaderRead.the-variants.{Read, Refused 
 use Rattle.header.proofs.Inside.{header-there}
 use Rattle.kinds.specs.Kinds.{member}
 use Rattle.seekhead_rules.specs.Seeks.{seekHeadId}
-use Rattle.seekhead_rules.specs.Table.{onLatest}
 use Rattle.seekhead_rules.specs.declared.head.Latest.{Latest}
 use Rattle.seekhead_rules.specs.declared.head.Latest.the-variants.{Nowhere, At}
 use Rattle.seekchain_rules.specs.Answers.{onHeader}
@@ -24,7 +23,7 @@ use Rattle.seekchain_rules.specs.Heads.{tooFar, sought, mostHeads, nextH
 use Rattle.seekchain_rules.specs.Theorems.{IsAt}
 use Rattle.seekchain_rules.specs.declared.step.ChildRead.{ChildRead}
 use Rattle.seekchain_rules.specs.declared.step.ChildRead.the-variants.{Child, End, Refused as ChildRefused}
-use Rattle.seekchain_rules.specs.declared.heads.NextHead.the-variants.{Next, Last, Refused}
+use Rattle.seekchain_rules.specs.declared.heads.NextHead.the-variants.{Next, Refused}
 
 -- A child of a walk is the element whose header is there.
 pub child-is : (s : List ℕ) (end at : ℕ) (e : Headed) → childAt s end at ≡ Child e → headerAt s at ≡ Read e

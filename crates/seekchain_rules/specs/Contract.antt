@@ -13,7 +13,8 @@ use Rattle.seekchain_rules.specs.declared.heads.HeadsRead.the-variants.{
 use Rattle.seekchain_rules.specs.declared.lookup.PartPlace.{PartPlace}
 use Rattle.seekchain_rules.specs.declared.lookup.PartPlace.the-variants.{Found, Absent, Refused}
 
--- How `linked_heads` tells the chain: the positions of a set of wanted ids by all entries, and how many heads there are.
+-- How `linked_heads` tells the chain: the positions of a set of wanted ids by all entries, and how many heads there
+-- are.
 abbrev pub headsTold : Wanted → Chain → HeadsRead
 headsTold wanted (chained heads) = HeadsAre (positions wanted (heads .entries)) (length (heads .addresses))
 headsTold wanted (broken e) = HeadsRefused e

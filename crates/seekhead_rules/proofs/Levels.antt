@@ -92,8 +92,8 @@ module _ (s : List ℕ) (l : Level) (law : Lawful l) where
   payload-read from size = masterBody s withoutRows 0 (l .depth) (l .parent) from size 0
 
   module _ (from end : ℕ) (first : l .A) where
-    -- `ago` are the elements of the payload from `from` to `end` that were read so far, and `a` is what they make of the
-    -- first value; what is left of the definition stands behind them.
+    -- `ago` are the elements of the payload from `from` to `end` that were read so far, and `a` is what they make of
+    -- the first value; what is left of the definition stands behind them.
     pub record Passing (at : ℕ) (a : l .A) : Type 0 where
       pub ago : Forest
       pub most : ℕ

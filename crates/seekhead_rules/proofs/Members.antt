@@ -1,13 +1,10 @@
 -- The two levels of a seek head, its children and the members of a Seek: what one of them makes, by what follows its
 -- header. Assumes nothing.
 use Prim.Native.Nat.{ℕ, _+_}
-use mathlib.Core.Path.{_≡_, refl, sym, ap, _∙_}
-use mathlib.Core.List.{List, [], _∷_, _++_, append-assoc, append-nil}
-use mathlib.Core.Bool.{Bool, true, false, cond, _||_}
+use mathlib.Core.Path.{_≡_, refl, ap, _∙_}
+use mathlib.Core.List.{List, [], _∷_, _++_, append-assoc}
 use native.Mathlib.Nat.{add-zero}
 use native.Mathlib.Omega.{arith}
-use lib.ListN.{length}
-use lib.Dec.{leb, eqb}
 use borrow.Author.Tests.{ne-eqb}
 use Rattle.header.specs.declared.cursor.Header.{Header}
 use Rattle.refusals.specs.declared.refusal.Refusal.{Refusal}
@@ -16,12 +13,12 @@ use Rattle.kinds.specs.Kinds.{numberOf, kindIn, member, keeps, kindUnder}
 use Rattle.bodies_rules.specs.Bodies.{Told, body, bodyOf}
 use Rattle.bodies_rules.specs.declared.body.Body.{Body}
 use Rattle.elements_rules.specs.Forest.{Forest, none, node, whole, span, join}
-use Rattle.elements_rules.specs.Reading.{Outcome, done, refused, above, elementOf, depths}
+use Rattle.elements_rules.specs.Reading.{above, elementOf}
 use Rattle.header.specs.Reads.{headerAt}
 use Rattle.seekhead_rules.specs.Seeks.{segmentId, seekHeadId, seekId, seekBody, noted, noSeek, withMembers}
 use Rattle.seekhead_rules.specs.Seeks.{entryOf, entries}
-use Rattle.seekhead_rules.specs.Table.{latestFrom, positionsFrom}
-use Rattle.seekhead_rules.specs.Contract.{elementAt, Holds, told, memberTold, seekTold, inserted}
+use Rattle.seekhead_rules.specs.Table.{latestFrom}
+use Rattle.seekhead_rules.specs.Contract.{elementAt, Holds, memberTold, seekTold, inserted}
 use Rattle.seekhead_rules.specs.Contract.{withEntries, childTold}
 use Rattle.header.specs.declared.cursor.Headed.{Headed}
 use Rattle.header.specs.declared.cursor.HeaderRead.the-variants.{Read}
@@ -58,8 +55,15 @@ entries-join s at (node e kids rest) g =
 -- ---- the two levels
 
 abbrev pub members : List ℕ → Level
-members s =
-    record { A = Seek; R = SeekRead; read = SeekIs; stop = SeekRefused; depth = 1; parent = seekId; make = withMembers s }
+members s = record {
+  A = Seek;
+  R = SeekRead;
+  read = SeekIs;
+  stop = SeekRefused;
+  depth = 1;
+  parent = seekId;
+  make = withMembers s;
+}
 
 pub members-law : (s : List ℕ) → Lawful (members s)
 unfolding withMembers

@@ -63,4 +63,5 @@ positions wanted seeks = positionsFrom wanted noPositions seeks
 
 -- They are those of the list of wanted ids.
 abbrev pub PositionsEach : Type 0
-PositionsEach = (wanted : Wanted) (seeks : List Seek) → listed (positions wanted seeks) ≡ latestEach (idsOf wanted) seeks
+PositionsEach =
+    (wanted : Wanted) (seeks : List Seek) → listed (positions wanted seeks) ≡ latestEach (idsOf wanted) seeks

@@ -1,5 +1,5 @@
 -- A walk is one step after another, and what its steps lead to. Assumes nothing.
-use Prim.Native.Nat.{ℕ, zero, suc, _+_, _-_, _^_, _≤_, _<_}
+use Prim.Native.Nat.{ℕ, _+_, zero, suc, _-_, _^_, _≤_, _<_}
 use mathlib.Core.Path.{_≡_, refl, sym, ap, _∙_, subst}
 use mathlib.Core.List.{List, []}
 use mathlib.Core.Bool.{Bool, true, false, cond}
@@ -22,8 +22,8 @@ use Rattle.seekchain_rules.specs.declared.lookup.PartPlace.{PartPlace}
 use Rattle.seekchain_rules.specs.Step.{childAt, onChild, behind}
 use Rattle.segments_rules.specs.Walk.{Visit, ends, over, onVisit, Walk, walk, walkFrom}
 use Rattle.segments_rules.specs.Walk.{WalkUnfolds}
-use Rattle.segments_rules.specs.Segment.{seeking, segmentFrom, segmentOf, SegmentUnfolds, within, visit, searching}
-use Rattle.segments_rules.specs.Segment.{childrenFrom, ChildrenUnfold}
+use Rattle.segments_rules.specs.Segment.{seeking, segmentFrom, segmentOf, SegmentUnfolds, within, visit}
+use Rattle.segments_rules.specs.Segment.{searching, childrenFrom, ChildrenUnfold}
 use Rattle.segments_rules.specs.Contract.{visitTold}
 use Rattle.segments_rules.specs.declared.walk.Visit.the-variants.{Ends, Over}
 use Rattle.seekchain_rules.specs.declared.step.ChildRead.{ChildRead}
@@ -36,6 +36,7 @@ pub record Stepped (s : List ℕ) (end at : ℕ) (e : Headed) : Type 0 where
   pub there : headerAt s (e .place .at) ≡ Read e
   pub before : at < end
   pub onward : at < behind e
+  pub headed : e .payload .at ≡ at + e .header .length
   pub inside : e .payload .at ≤ length s
   pub sized : e .header .size < 2 ^ 56
 
@@ -55,6 +56,7 @@ stepped s end at e = by-test (leb end at) refl (headerAt s at) refl
           there = ap (headerAt s) (t .begins) ∙ k;
           before = leb-false end at l;
           onward = omega (arith, t .behind, t .some);
+          headed = t .behind;
           inside = t .inside;
           sized = t .sized;
         }

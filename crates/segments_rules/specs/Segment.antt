@@ -35,7 +35,7 @@ segmentFrom s at = walkFrom s (length s) seeking at tt
 unfoldable pub segmentOf : List ℕ → HeaderRead
 segmentOf s = segmentFrom s 0
 
--- It goes from element to element (the walk has no bound of its own).
+-- The way there goes from element to element.
 abbrev pub SegmentUnfolds : Type 0
 SegmentUnfolds =
     (s : List ℕ) (at : ℕ)

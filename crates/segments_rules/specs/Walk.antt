@@ -1,17 +1,14 @@
 -- A walk over the elements from a place up to an end, one after another: over the file's elements to the segment, and
 -- over the segment's children (document 01, Seek tables and the search).
-use Prim.Native.Nat.{ℕ, zero, suc, _+_, _-_}
+use Prim.Native.Nat.{ℕ, zero, suc, _-_}
 use mathlib.Core.Path.{_≡_}
 use mathlib.Core.List.{List}
-use mathlib.Core.Bool.{cond}
-use lib.Dec.{leb}
 use Rattle.refusals.specs.declared.refusal.Refusal.{Refusal}
-use Rattle.header.specs.Reads.{headerAt}
 use Rattle.header.specs.declared.cursor.Headed.{Headed}
-use Rattle.header.specs.declared.cursor.HeaderRead.{HeaderRead}
 use Rattle.seekchain_rules.specs.Step.{childAt, onChild, behind}
 
--- What a visit of an element does: it ends the walk with an answer, or passes the element over, with what is known then.
+-- What a visit of an element does: it ends the walk with an answer, or passes the element over, with what is known
+-- then.
 pub data Visit (A B : Type 0) : Type 0 where
   ends : B → Visit A B
   over : A → Visit A B

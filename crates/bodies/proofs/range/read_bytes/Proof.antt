@@ -1,6 +1,5 @@
 -- `read_bytes` meets its contract: the bytes missing, or their range. Assumes nothing.
 use borrow.Author.Needs.{needs}
-use mathlib.Core.Path.{ap, _∙_}
 use native.Mathlib.Omega.{arith}
 use borrow.Author.Tests.{leb-true}
 use Rattle.booleans.proofs.Turned.{failed, passed}

@@ -1,6 +1,6 @@
 -- `read_text` meets its contract: the bytes missing, no UTF-8, or their range. Assumes nothing.
 use borrow.Author.Needs.{needs}
-use mathlib.Core.Path.{ap, sym, _∙_}
+use mathlib.Core.Path.{sym, _∙_}
 use native.Mathlib.Omega.{arith}
 use native.Mathlib.Nat.{add-sub-cancel-left}
 use borrow.Author.Tests.{leb-true}

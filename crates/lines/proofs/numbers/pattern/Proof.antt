@@ -5,4 +5,5 @@ use Rattle.lines.proofs.numbers.pattern.Statement.{statement}
 use Rattle.lines.proofs.numbers.pattern.Tie as tie
 
 pub pattern-spec : {M : Type 1} → statement M
-pattern-spec = tie.close (tie.spec (λ c. no-nan (c .before .args .value) (c .if1 .taken)) (λ c. search needs) (λ c. search needs))
+pattern-spec =
+    tie.close (tie.spec (λ c. no-nan (c .before .args .value) (c .if1 .taken)) (λ c. search needs) (λ c. search needs))

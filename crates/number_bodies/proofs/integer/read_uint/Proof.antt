@@ -1,6 +1,6 @@
 -- `read_uint` meets its contract: over 8 bytes, the bytes missing, or a value. Assumes nothing.
 use borrow.Author.Needs.{needs}
-use mathlib.Core.Path.{ap, sym, _∙_}
+use mathlib.Core.Path.{sym, _∙_}
 use native.Mathlib.Omega.{arith}
 use Rattle.bodies_rules.proofs.Found.{found, ended}
 use Rattle.bodies_rules.proofs.ByKind.{uint-long, uint-ends, uint-there}

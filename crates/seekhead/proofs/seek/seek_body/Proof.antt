@@ -54,7 +54,8 @@ add-next c =
     let m = c .before .before .before .before in
     let h = m .before .before .before .before in
     let p = h .before .before .before .before .before .before .pre in
-    let t = header-there _ _ _ (header-is _ _ _ (sym (h .element-header .ensures) ∙ m .before .before .member .given .1)) in
+    let t = header-there _ _ _
+    (header-is _ _ _ (sym (h .element-header .ensures) ∙ m .before .before .member .given .1)) in
     omega (arith, t .inside, t .sized, p .small)
 
 returns-3 : tie.Need-returns-3 Inv-loop μ-loop
@@ -69,7 +70,8 @@ loop-less : tie.Need-loop-less Inv-loop μ-loop
 loop-less c =
     let m = c .before .before .before .before .before in
     let h = m .before .before .before .before in
-    let t = header-there _ _ _ (header-is _ _ _ (sym (h .element-header .ensures) ∙ m .before .before .member .given .1)) in
+    let t = header-there _ _ _
+    (header-is _ _ _ (sym (h .element-header .ensures) ∙ m .before .before .member .given .1)) in
     omega (arith, t .some, t .behind, c .if1 .left, h .before .loop-test .taken)
 
 loop-again : tie.Need-loop-again Inv-loop μ-loop
