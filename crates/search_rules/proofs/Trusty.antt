@@ -19,7 +19,8 @@ use Rattle.seekchain_rules.specs.Answers.{onHeader}
 use Rattle.seekchain_rules.specs.Lookup.{Lookup, found, absent, stopped, byHeads}
 use Rattle.seekchain_rules.specs.Theorems.{IsAt, AreHeads, Distinct, GoodHeads, ByHeads}
 use Rattle.seekchain_rules.proofs.Leads.{heads-lead}
-use Rattle.segments_rules.specs.Walk.{behind, Visit, ends, over, onVisit}
+use Rattle.seekchain_rules.specs.Step.{behind}
+use Rattle.segments_rules.specs.Walk.{Visit, ends, over, onVisit}
 use Rattle.segments_rules.specs.Segment.{segmentOf, within, visit, searching, children, lookupOf}
 use Rattle.segments_rules.proofs.Walks.{Ended, walk-holds}
 use Rattle.search_rules.specs.Theorems.{Way, met, named, FoundBy}

@@ -81,7 +81,7 @@ module _ (s : List ℕ) (wanted : Wanted) (start : ℕ) (first : Headed) where
     abbrev pub seen-now : List ℕ
     seen-now = set seen n (head .place .at)
 
-    pub seen-long : length seen-now ≡ 64
+    seen-long : length seen-now ≡ 64
     seen-long = length-set seen n (head .place .at) ∙ g .long
 
     module _ (found : Seektable) (q : HeadIs found ≡ headTold s wanted parts head) where

@@ -5,8 +5,9 @@ use Rattle.seekchain.proofs.heads.linked_heads.Tie as tie
 use Prim.Native.Nat.{_-_}
 use mathlib.Core.Path.{refl, sym, _∙_}
 use native.Mathlib.Omega.{arith}
-use Rattle.seekchain_rules.proofs.Chains.{Chaining, chaining-holds, chaining-lost, seen-long, chaining-stops}
-use Rattle.seekchain_rules.proofs.Chains.{chaining-ends, chaining-on}
+use lib.ListN.{length-set}
+use Rattle.seekchain_rules.proofs.Chains.{Chaining, chaining-holds, chaining-lost, chaining-stops, chaining-ends}
+use Rattle.seekchain_rules.proofs.Chains.{chaining-on}
 
 abbrev Inv-loop : tie.InvT-loop
 Inv-loop recording kinds wanted start seen₀ n₀ head₀ parts₀ seen n head parts =
@@ -31,7 +32,7 @@ returns c =
 next-head-requires : tie.Need-next-head-requires Inv-loop μ-loop
 next-head-requires c κs =
     let g = c .before .before .before .before .before .before .loop .inv in
-    omega (arith, g .few, seen-long _ _ _ _ _ _ _ _ g)
+    simp length-set (omega (arith, g .few, g .long))
 
 returns-2 : tie.Need-returns-2 Inv-loop μ-loop
 returns-2 c =
