@@ -34,9 +34,11 @@ pub extern "C" fn uz_find_part(recording: &[u8], part: u32, table: &mut [u64]) -
         },
         PartReply::Refused(refusal) => {
             let cause = refusal.cause;
+            let number = cause.number();
+            let id = cause.id() as u64;
             UzPart {
-                refused: cause.number(),
-                id: cause.id() as u64,
+                refused: number,
+                id,
                 found: 0,
                 at: 0,
                 size: 0,

@@ -16,8 +16,9 @@ pub extern "C" fn uz_row_payload(recording: &[u8], table: &[u64], row: u64) -> U
         },
         RangeReply::Refused(refusal) => {
             let cause = refusal.cause;
+            let number = cause.number();
             UzRange {
-                refused: cause.number(),
+                refused: number,
                 at: 0,
                 length: 0,
             }

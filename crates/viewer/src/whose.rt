@@ -31,8 +31,9 @@ pub extern "C" fn uz_whose_byte(
         },
         WhoseReply::Refused(refusal) => {
             let cause = refusal.cause;
+            let number = cause.number();
             UzPlace {
-                refused: cause.number(),
+                refused: number,
                 row: 0,
                 in_payload: 0,
                 rows: 0,
