@@ -4,9 +4,9 @@ use mathlib.Core.Bool.{cond}
 use mathlib.Core.List.{List, _++_}
 use lib.ListN.{length}
 use lib.Dec.{ltb}
-use Rattle.refusals.specs.Causes.{numberOf}
+use Rattle.refusals.specs.Causes.{causeNumber}
 use Rattle.elements_rules.specs.Forest.{count}
-use Rattle.elements_rules.specs.Rows.{rows, width}
+use Rattle.elements_rules.specs.Rows.{rowsAt, width}
 use Rattle.search_rules.specs.Part.{Search, found, absent, refused, searchOf}
 use Rattle.pages.specs.Text.{ascii, decimal, hexadecimal}
 use Rattle.rowtext.specs.Lines.{rowLines}
@@ -27,8 +27,8 @@ placeText at size rows =
 -- under that its rows.
 unfoldable pub searchText : Search → List ℕ
 searchText (absent heads) = ascii " absent\n"
-searchText (refused e) = ascii " refused " ++ decimal (numberOf (e .cause)) ++ ascii "\n"
-searchText (found at size heads f) = placeText at size (count f) ++ rowLines (rows 0 0 at 0 f)
+searchText (refused e) = ascii " refused " ++ decimal (causeNumber (e .cause)) ++ ascii "\n"
+searchText (found at size heads f) = placeText at size (count f) ++ rowLines (rowsAt at f)
 
 unfoldable pub partLines : List ℕ → ℕ → List ℕ
 partLines s part = ascii "part " ++ hexadecimal part ++ searchText (searchOf s part tableNumbers)

@@ -7,9 +7,9 @@ use mathlib.Core.Bool.{cond}
 use mathlib.Core.Logic.{_⊎_, inl, inr}
 use native.Mathlib.Omega.{arith}
 use lib.Dec.{eqb}
-use Rattle.refusals.specs.Causes.{numberOf, idOf}
+use Rattle.refusals.specs.Causes.{causeNumber, causeId}
 use Rattle.refusals.specs.Refusals.{because}
-use Rattle.refusals.specs.Theorems.{Listed, AllListed, ToldApart}
+use Rattle.refusals.specs.Theorems.{Listed, AllListed, OfThree, ToldApart, OneNumber, OneId}
 use Rattle.refusals.specs.declared.refusal.Cause.{Cause}
 use Rattle.refusals.specs.declared.refusal.Cause.the-variants.{PastEnd, InvalidId, InvalidSize, Overrun}
 use Rattle.refusals.specs.declared.refusal.Cause.the-variants.{InvalidUint, InvalidFloat, InvalidDate, NotUtf8}
@@ -18,7 +18,7 @@ use Rattle.refusals.specs.declared.refusal.Cause.the-variants.{TooManyHe
 use Rattle.refusals.specs.declared.refusal.Cause.the-variants.{BadArgument, Outside}
 
 -- A cause without an id.
-plain : (c : Cause) → 1 ≤ numberOf c → numberOf c ≤ 15 → idOf c ≡ 0 → Listed (because c)
+plain : (c : Cause) → 1 ≤ causeNumber c → causeNumber c ≤ 15 → causeId c ≡ 0 → Listed (because c)
 plain c least most z = record { least = least; most = most; alone = λ some. absurd (some z) }
 
 of-cause : (c : Cause) → Listed (because c)
@@ -64,9 +64,13 @@ causes id =
 
 abbrev causeIn : List Cause → ℕ → Cause
 causeIn [] n = Outside
-causeIn (c ∷ cs) n = cond (eqb n (numberOf c)) c (causeIn cs n)
+causeIn (c ∷ cs) n = cond (eqb n (causeNumber c)) c (causeIn cs n)
 
-back : (c : Cause) → (causeIn (causes (idOf c)) (numberOf c) ≡ c) ⊎ (numberOf c ≡ 3)
+-- A cause is the first with its number, or it is the second of the two of 3.
+abbrev Back : Cause → Type 0
+Back c = (causeIn (causes (causeId c)) (causeNumber c) ≡ c) ⊎ (c ≡ Overrun)
+
+back : (c : Cause) → Back c
 back PastEnd = inl refl
 back InvalidId = inl refl
 back InvalidSize = inl refl
@@ -84,14 +88,28 @@ back NoFreeRow = inl refl
 back BadArgument = inl refl
 back Outside = inl refl
 
+-- One with the number of an overrun is one of the two.
+beside : (c d : Cause) → causeNumber c ≡ causeNumber d → causeIn (causes (causeId c)) (causeNumber c) ≡ c → d ≡ Overrun
+    → OfThree c × OfThree d
+beside c d n x y =
+    (inl (sym x ∙ ap (causeIn (causes (causeId c))) (n ∙ ap causeNumber y)), inr y)
+
 pub told-apart : ToldApart
 told-apart c d n i = go (back c) (back d)
   where
-    same : causeIn (causes (idOf c)) (numberOf c) ≡ causeIn (causes (idOf d)) (numberOf d)
-    same = ap (λ (x : ℕ). causeIn (causes x) (numberOf c)) i ∙ ap (causeIn (causes (idOf d))) n
+    same : causeIn (causes (causeId c)) (causeNumber c) ≡ causeIn (causes (causeId d)) (causeNumber d)
+    same = ap (λ (x : ℕ). causeIn (causes x) (causeNumber c)) i ∙ ap (causeIn (causes (causeId d))) n
 
-    go : (causeIn (causes (idOf c)) (numberOf c) ≡ c) ⊎ (numberOf c ≡ 3)
-        → (causeIn (causes (idOf d)) (numberOf d) ≡ d) ⊎ (numberOf d ≡ 3) → (c ≡ d) ⊎ (numberOf c ≡ 3)
-    go (inr x) y = inr x
-    go (inl x) (inr y) = inr (n ∙ y)
+    go : Back c → Back d → (c ≡ d) ⊎ (OfThree c × OfThree d)
     go (inl x) (inl y) = inl (sym x ∙ same ∙ y)
+    go (inl x) (inr y) = inr (beside c d n x y)
+    go (inr x) (inl y) = let b = beside d c (sym n) y x in inr (b .1, b .0)
+    go (inr x) (inr y) = inl (x ∙ sym y)
+
+-- ---- what the calls promise
+
+pub number-unique : OneNumber
+number-unique c r r′ p q = p ∙ sym q
+
+pub id-unique : OneId
+id-unique c r r′ p q = p ∙ sym q

@@ -7,38 +7,38 @@ use Rattle.refusals.specs.declared.refusal.Cause.the-variants.{InvalidSe
 use Rattle.refusals.specs.declared.refusal.Cause.the-variants.{TooManyHeads, TooDeep, NoFreeRow}
 use Rattle.refusals.specs.declared.refusal.Cause.the-variants.{BadArgument, Outside}
 
-abbrev pub numberOf : Cause → ℕ
-numberOf PastEnd = 1
-numberOf InvalidId = 2
-numberOf InvalidSize = 3
-numberOf Overrun = 3
-numberOf InvalidUint = 4
-numberOf InvalidFloat = 5
-numberOf InvalidDate = 6
-numberOf NotUtf8 = 7
-numberOf (InvalidSeekHead id) = 8
-numberOf StaleEntry = 9
-numberOf HeadAgain = 10
-numberOf TooManyHeads = 11
-numberOf TooDeep = 12
-numberOf NoFreeRow = 13
-numberOf BadArgument = 14
-numberOf Outside = 15
+abbrev pub causeNumber : Cause → ℕ
+causeNumber PastEnd = 1
+causeNumber InvalidId = 2
+causeNumber InvalidSize = 3
+causeNumber Overrun = 3
+causeNumber InvalidUint = 4
+causeNumber InvalidFloat = 5
+causeNumber InvalidDate = 6
+causeNumber NotUtf8 = 7
+causeNumber (InvalidSeekHead id) = 8
+causeNumber StaleEntry = 9
+causeNumber HeadAgain = 10
+causeNumber TooManyHeads = 11
+causeNumber TooDeep = 12
+causeNumber NoFreeRow = 13
+causeNumber BadArgument = 14
+causeNumber Outside = 15
 
-abbrev pub idOf : Cause → ℕ
-idOf (InvalidSeekHead id) = id
-idOf PastEnd = 0
-idOf InvalidId = 0
-idOf InvalidSize = 0
-idOf Overrun = 0
-idOf InvalidUint = 0
-idOf InvalidFloat = 0
-idOf InvalidDate = 0
-idOf NotUtf8 = 0
-idOf StaleEntry = 0
-idOf HeadAgain = 0
-idOf TooManyHeads = 0
-idOf TooDeep = 0
-idOf NoFreeRow = 0
-idOf BadArgument = 0
-idOf Outside = 0
+abbrev pub causeId : Cause → ℕ
+causeId (InvalidSeekHead id) = id
+causeId PastEnd = 0
+causeId InvalidId = 0
+causeId InvalidSize = 0
+causeId Overrun = 0
+causeId InvalidUint = 0
+causeId InvalidFloat = 0
+causeId InvalidDate = 0
+causeId NotUtf8 = 0
+causeId StaleEntry = 0
+causeId HeadAgain = 0
+causeId TooManyHeads = 0
+causeId TooDeep = 0
+causeId NoFreeRow = 0
+causeId BadArgument = 0
+causeId Outside = 0

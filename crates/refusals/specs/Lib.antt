@@ -2,4 +2,5 @@
 pub mod Causes
 pub mod Refusals
 pub mod Reply
+pub mod Promise
 pub mod Theorems

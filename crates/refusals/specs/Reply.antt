@@ -1,6 +1,17 @@
 -- A public call's reply in document 01's own terms: what was asked for, or a refusal.
+use Prim.Native.Nat.{ℕ}
+use Rattle.refusals.specs.Causes.{causeNumber, causeId}
 use Rattle.refusals.specs.declared.refusal.Refusal.{Refusal}
 
 pub data Reply (A : Type 0) : Type 0 where
   accepted : A → Reply A
   refusal : Refusal → Reply A
+
+-- The same with document 01's number in place of the cause: as its cases write a reply.
+pub data Numbered (A : Type 0) : Type 0 where
+  given : A → Numbered A
+  refused : (number id : ℕ) → Numbered A
+
+abbrev pub numbered : {A : Type 0} → Reply A → Numbered A
+numbered (accepted a) = given a
+numbered (refusal e) = refused (causeNumber (e .cause)) (causeId (e .cause))

@@ -1,6 +1,5 @@
 // A refusal, and its cause with document 01's number.
-ghost use mathlib.Core.Path.{_≡_};
-ghost use Rattle.refusals.specs.Causes.{numberOf, idOf};
+ghost use Rattle.refusals.specs.Promise.{NumberPromise, IdPromise};
 
 // One case for each of document 01's numbers, and two for 3.
 pub enum Cause {
@@ -47,7 +46,7 @@ pub struct Refusal {
 impl Cause {
     // Document 01's number.
     pub fn number(self) -> u64
-        ensures { λ r. ⌜ r ≡ numberOf self ⌝ }
+        ensures { λ r. ⌜ NumberPromise self r ⌝ }
     {
         match self {
             Cause::PastEnd => 1,
@@ -71,7 +70,7 @@ impl Cause {
 
     // The id that 8 carries; 0 for any other.
     pub fn id(self) -> u32
-        ensures { λ r. ⌜ r ≡ idOf self ⌝ }
+        ensures { λ r. ⌜ IdPromise self r ⌝ }
     {
         match self {
             Cause::InvalidSeekHead(id) => id,

@@ -4,7 +4,7 @@ use Prim.Native.Nat.{ℕ}
 use mathlib.Core.Path.{_≡_, refl, ap, sym, _∙_, subst}
 use native.Mathlib.Omega.{arith}
 use lib.ListN.{length}
-use Rattle.refusals.specs.Causes.{numberOf}
+use Rattle.refusals.specs.Causes.{causeNumber}
 use Rattle.refusals.specs.Reply.{Reply, accepted, refusal}
 use Rattle.refusals.proofs.Listed.{listed}
 use Rattle.bodies_rules.specs.declared.body.Range.{Range}
@@ -21,7 +21,7 @@ use Rattle.viewer_rules.specs.declared.whose.UzPlace.{UzPlace}
 -- What crosses as `refused`, in each of the faces.
 abbrev crossed : {A : Type 0} → Reply A → ℕ
 crossed (accepted values) = 0
-crossed (refusal e) = numberOf (e .cause)
+crossed (refusal e) = causeNumber (e .cause)
 
 tells : {A : Type 0} (reply : Reply A) → Tells reply (crossed reply)
 tells (accepted values) = record { listed = omega arith; accepts = λ e. tt; zero = λ a. refl }

@@ -1,6 +1,6 @@
 -- How a reply crosses to C: `refused` is 0 and the values cross under their own names; or it is the number, with the id
 -- that 8 carries, and every other number is 0.
-use Rattle.refusals.specs.Causes.{numberOf, idOf}
+use Rattle.refusals.specs.Causes.{causeNumber, causeId}
 use Rattle.refusals.specs.Reply.{Reply, accepted, refusal}
 use Rattle.bodies_rules.specs.declared.body.Range.{Range}
 use Rattle.places_rules.specs.Whose.{Whose, byHeader, byPayload}
@@ -15,13 +15,13 @@ partFace (accepted (foundPart at size rows heads)) =
 partFace (accepted (absentPart heads)) =
     record { refused = 0; id = 0; found = 0; at = 0; size = 0; rows = 0; heads = heads }
 partFace (refusal e) =
-    record { refused = numberOf (e .cause); id = idOf (e .cause); found = 0; at = 0; size = 0; rows = 0; heads = 0 }
+    record { refused = causeNumber (e .cause); id = causeId (e .cause); found = 0; at = 0; size = 0; rows = 0; heads = 0 }
 
 abbrev pub rangeFace : Reply Range → UzRange
 rangeFace (accepted r) = record { refused = 0; at = r .at; length = r .length }
-rangeFace (refusal e) = record { refused = numberOf (e .cause); at = 0; length = 0 }
+rangeFace (refusal e) = record { refused = causeNumber (e .cause); at = 0; length = 0 }
 
 abbrev pub placeFace : Reply Whose → UzPlace
 placeFace (accepted (byHeader row rows)) = record { refused = 0; row = row; «in_payload» = 0; rows = rows }
 placeFace (accepted (byPayload row rows)) = record { refused = 0; row = row; «in_payload» = 1; rows = rows }
-placeFace (refusal e) = record { refused = numberOf (e .cause); row = 0; «in_payload» = 0; rows = 0 }
+placeFace (refusal e) = record { refused = causeNumber (e .cause); row = 0; «in_payload» = 0; rows = 0 }

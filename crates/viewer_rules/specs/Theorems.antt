@@ -3,7 +3,7 @@ use Prim.Native.Nat.{ℕ, _≤_}
 use mathlib.Core.Path.{_≡_}
 use mathlib.Core.List.{List}
 use lib.ListN.{length}
-use Rattle.refusals.specs.Causes.{numberOf, idOf}
+use Rattle.refusals.specs.Causes.{causeNumber, causeId}
 use Rattle.refusals.specs.Reply.{Reply, accepted, refusal}
 use Rattle.places_rules.specs.Payload.{payloadRange}
 use Rattle.places_rules.specs.Promise.{valuesOf, RangePromise, WhosePromise}
@@ -80,16 +80,16 @@ partNamed (Found at size rows heads) =
     record { refused = 0; id = 0; found = 1; at = at; size = size; rows = rows; heads = heads }
 partNamed (Absent heads) = record { refused = 0; id = 0; found = 0; at = 0; size = 0; rows = 0; heads = heads }
 partNamed (NoPart e) =
-    record { refused = numberOf (e .cause); id = idOf (e .cause); found = 0; at = 0; size = 0; rows = 0; heads = 0 }
+    record { refused = causeNumber (e .cause); id = causeId (e .cause); found = 0; at = 0; size = 0; rows = 0; heads = 0 }
 
 abbrev pub rangeNamed : RangeReply → UzRange
 rangeNamed (Range r) = record { refused = 0; at = r .at; length = r .length }
-rangeNamed (NoRange e) = record { refused = numberOf (e .cause); at = 0; length = 0 }
+rangeNamed (NoRange e) = record { refused = causeNumber (e .cause); at = 0; length = 0 }
 
 abbrev pub placeNamed : WhoseReply → UzPlace
 placeNamed (Header row rows) = record { refused = 0; row = row; «in_payload» = 0; rows = rows }
 placeNamed (Payload row rows) = record { refused = 0; row = row; «in_payload» = 1; rows = rows }
-placeNamed (NoRow e) = record { refused = numberOf (e .cause); row = 0; «in_payload» = 0; rows = 0 }
+placeNamed (NoRow e) = record { refused = causeNumber (e .cause); row = 0; «in_payload» = 0; rows = 0 }
 
 abbrev pub PartNamed : Type 0
 PartNamed =
