@@ -58,7 +58,7 @@ module _ (s s′ : List ℕ) (o : Octets s) (o′ : Octets s′) where
   same-header : (at : ℕ) (h : Header) → headerOf (drop at s) ≡ heading h
       → headerAt s′ at ≡ Read (headedAt at h) → part s at (h .length) ≡ part s′ at (h .length)
   same-header at h q r =
-      header-determined s s′ o o′ at at h (header-there s at h q) r
+      header-determined s s′ o o′ at at (headedAt at h) (headedAt at h) (header-there s at h q) r refl
 
   same-payload : (id parent depth at after : ℕ) (e : Element) (kids : Forest) → StandsAt s id at e kids
       → SameLeaf s s′ (rowOf e parent depth at after)

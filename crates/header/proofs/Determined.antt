@@ -17,7 +17,6 @@ use borrow.Author.Tests.{eqb-true, eqb-false}
 use Rattle.header.specs.Vint.{Width, unmarked, zeros, oneMore, widthOf, bits, bigEndian, bigEndianFrom}
 use Rattle.header.specs.Vint.{Vint, vint, ends, long, vintOf, vintData}
 use Rattle.header.specs.Header.{heading, sized, named, headerOf}
-use Rattle.header.specs.Reads.{headedAt}
 use Rattle.header.specs.Theorems.{Octets, Determined}
 use Rattle.header.specs.declared.cursor.Header.{Header}
 use Rattle.header.proofs.BigEndian.{octets-drop, octets-take, from-same, from-range}
@@ -201,7 +200,7 @@ same-octets s t f g h q r =
 -- ---- the same at places of two recordings
 
 pub header-determined : Determined
-header-determined s t f g a b h q r =
-    same-octets (drop a s) (drop b t) (octets-drop s f a) (octets-drop t g b) h
-    (header-read s a (headedAt a h) q .0)
-    (header-read t b (headedAt b h) r .0)
+header-determined s t f g a b x y q r same =
+    same-octets (drop a s) (drop b t) (octets-drop s f a) (octets-drop t g b) (x .header)
+    (header-read s a x q .0)
+    (subst (λ (h : Header). headerOf (drop b t) ≡ heading h) (sym same) (header-read t b y r .0))

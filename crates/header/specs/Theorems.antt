@@ -8,6 +8,7 @@ use Rattle.refusals.specs.declared.refusal.Refusal.{Refusal}
 use Rattle.header.specs.Reads.{headedAt, headerAt}
 use Rattle.header.specs.Promise.{HeaderPromise}
 use Rattle.header.specs.declared.cursor.Header.{Header}
+use Rattle.header.specs.declared.cursor.Headed.{Headed}
 use Rattle.header.specs.declared.cursor.HeaderRead.the-variants.{Read}
 use Rattle.header.specs.declared.reply.HeaderReply.{HeaderReply}
 use Rattle.header.specs.declared.reply.HeaderReply.the-variants.{Refused}
@@ -28,9 +29,9 @@ Octets s = (i : ℕ) → getD s i 0 < 256
 -- any two recordings, are equal octet for octet.
 abbrev pub Determined : Type 0
 Determined =
-    (s t : List ℕ) → Octets s → Octets t → (a b : ℕ) (h : Header)
-    → headerAt s a ≡ Read (headedAt a h) → headerAt t b ≡ Read (headedAt b h)
-    → take (h .length) (drop a s) ≡ take (h .length) (drop b t)
+    (s t : List ℕ) → Octets s → Octets t → (a b : ℕ) (e f : Headed)
+    → headerAt s a ≡ Read e → headerAt t b ≡ Read f → e .header ≡ f .header
+    → take (e .header .length) (drop a s) ≡ take (e .header .length) (drop b t)
 
 -- A header depends on its own octets alone: where they stand at another place, of this or another recording, the same
 -- header is read. It shuts out a reader that looks at a byte behind the header, or asks where it stands.
