@@ -30,7 +30,7 @@ unfoldable pub octetsOf : Width → ℕ
 octetsOf unmarked = 0
 octetsOf (zeros z) = min (z + 1) 9
 
-unfoldable pub numberAt : List ℕ → ℕ → ℕ → NumberRead
+unfoldable pub numberAt : List ℕ → (at n : ℕ) → NumberRead
 numberAt s at n =
     cond (leb (at + n) (length s)) (Number (bigEndian (take n (drop at s))) (record { at = at + n })) NumberEnds
 
@@ -39,12 +39,16 @@ vintRead at (vint n value) = VintIs n value (record { at = at + n })
 vintRead at ends = VintEnds
 vintRead at long = VintLong
 
-unfoldable pub vintAt : List ℕ → ℕ → ℕ → VintRead
+unfoldable pub vintAt : List ℕ → (at most : ℕ) → VintRead
 vintAt s at most = vintRead at (vintOf most (drop at s))
 
 -- The element whose header is at a place: its payload begins behind the header.
 abbrev pub headedAt : ℕ → Header → Headed
 headedAt at h = record { place = record { at = at }; payload = record { at = at + h .length }; header = h }
+
+-- The place behind an element. Its bytes need not exist.
+abbrev pub behind : Headed → ℕ
+behind e = e .payload .at + e .header .size
 
 unfoldable pub headerRead : ℕ → Heading → HeaderRead
 headerRead at (heading h) = Read (headedAt at h)

@@ -18,7 +18,7 @@ use Rattle.seekchain_rules.specs.Heads.{sought, nextHead, chain}
 use Rattle.seekchain_rules.specs.Lookup.{partAt, byHeads}
 use Rattle.seekchain_rules.specs.Step.{childAt}
 use Rattle.segments_rules.specs.Walk.{walk}
-use Rattle.segments_rules.specs.Segment.{segmentOf, visit, children, lookupOf}
+use Rattle.segments_rules.specs.Segment.{segmentOf, visit, segmentChildren, lookupOf}
 use Rattle.search_rules.specs.Part.{parentOf, searchOf}
 use Rattle.pages.specs.Text.{glyph, numeral}
 use Rattle.rowtext.specs.Lines.{kindWord, rowPlace, rowLine, rowLines}
@@ -31,6 +31,6 @@ unfolding octetBits bits oneMore widthOf bigEndianFrom bigEndian ofWidth vintOf 
     elements kindIn keeps demoted kindUnder utf8Char behind anyOf goesOn utf8 bodyOf
     span count join refuseIf full siblings element masterBody rows isTable allowed filled
     lastFour withMembers entryOf entries later latestFrom member sought nextHead chain partAt byHeads
-    childAt walk segmentOf visit children lookupOf parentOf searchOf
+    childAt walk segmentOf visit segmentChildren lookupOf parentOf searchOf
     glyph numeral kindWord rowPlace rowLine rowLines placeText searchText partLines allParts listingOf
 cases-hold = (refl, (refl, (refl, tt)))

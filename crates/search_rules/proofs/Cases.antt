@@ -18,7 +18,7 @@ use Rattle.seekchain_rules.specs.Heads.{sought, nextHead, chain}
 use Rattle.seekchain_rules.specs.Lookup.{partAt, byHeads}
 use Rattle.seekchain_rules.specs.Step.{childAt}
 use Rattle.segments_rules.specs.Walk.{walk}
-use Rattle.segments_rules.specs.Segment.{segmentOf, visit, children, lookupOf}
+use Rattle.segments_rules.specs.Segment.{segmentOf, visit, segmentChildren, lookupOf}
 use Rattle.search_rules.specs.Part.{parentOf, searchOf}
 use Rattle.search_rules.specs.Cases.{cases, Hold}
 
@@ -27,7 +27,7 @@ unfolding octetBits bits oneMore widthOf bigEndianFrom bigEndian ofWidth vintOf 
     elements kindIn keeps demoted kindUnder utf8Char behind anyOf goesOn utf8 bodyOf
     span count join refuseIf full siblings element masterBody isTable allowed filled
     lastFour withMembers entryOf entries later latestFrom member sought nextHead chain partAt byHeads
-    childAt walk segmentOf visit children lookupOf parentOf searchOf
+    childAt walk segmentOf visit segmentChildren lookupOf parentOf searchOf
 cases-hold =
     let rest : Hold (drop 12 cases) = (refl, (refl, (refl, (refl, (refl, (refl, tt)))))) in
     let listed : Hold (drop 8 cases) = (refl, (refl, (refl, (refl, rest)))) in

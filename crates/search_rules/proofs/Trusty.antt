@@ -19,11 +19,11 @@ use Rattle.seekchain_rules.specs.Answers.{onHeader}
 use Rattle.seekchain_rules.specs.Lookup.{Lookup, found, absent, stopped, byHeads}
 use Rattle.seekchain_rules.specs.Theorems.{IsAt, AreHeads, Distinct, GoodHeads, ByHeads}
 use Rattle.seekchain_rules.proofs.Leads.{heads-lead}
-use Rattle.seekchain_rules.specs.Step.{behind}
+use Rattle.header.specs.Reads.{behind}
 use Rattle.segments_rules.specs.Walk.{Visit, ends, over, onVisit}
-use Rattle.segments_rules.specs.Segment.{segmentOf, within, visit, searching, children, lookupOf}
+use Rattle.segments_rules.specs.Segment.{segmentOf, withinSegment, visit, searching, segmentChildren, lookupOf}
 use Rattle.segments_rules.proofs.Walks.{Ended, walk-holds}
-use Rattle.search_rules.specs.Theorems.{Way, met, named, FoundBy}
+use Rattle.search_rules.specs.Theorems.{FoundWay, met, named, FoundBy}
 
 -- No head at all.
 pub none-read : (s : List ℕ) → GoodHeads s []
@@ -32,7 +32,7 @@ none-read s = record { are = tt; distinct = tt; few = omega arith }
 
 -- What a place in a segment is: found one way or the other, or absent, with good heads.
 abbrev Trusty : List ℕ → ℕ → ℕ → Lookup → Type 0
-Trusty s wanted start (found part heads) = Way s wanted start part heads × GoodHeads s heads
+Trusty s wanted start (found part heads) = FoundWay s wanted start part heads × GoodHeads s heads
 Trusty s wanted start (absent heads) = GoodHeads s heads
 Trusty s wanted start (stopped e) = Unit
 
@@ -77,10 +77,10 @@ module _ (s : List ℕ) (wanted : ℕ) (segment : Headed) where
   kept (over known) true t = tt
   kept (over known) false t = tt
 
-  children-trusty : Trusty s wanted start (children s wanted segment)
-  unfolding children
+  children-trusty : Trusty s wanted start (segmentChildren s wanted segment)
+  unfolding segmentChildren
   children-trusty =
-      walk-holds s (behind segment) (within segment (searching s wanted segment)) (Trusty s wanted start)
+      walk-holds s (behind segment) (withinSegment segment (searching s wanted segment)) (Trusty s wanted start)
       (λ known. none-read s) (λ e. tt)
       (λ known at e t. kept (visit s wanted segment e) (ltb (behind segment) (behind e)) (visited e (t .there)))
       start tt
@@ -97,9 +97,9 @@ module _ (s : List ℕ) (wanted : ℕ) where
       in-segment e q (absent heads) t = t
       in-segment e q (stopped r) t = tt
 
-      go : (x : HeaderRead) → segmentOf s ≡ x → Placed s wanted (onHeader x stopped (children s wanted))
+      go : (x : HeaderRead) → segmentOf s ≡ x → Placed s wanted (onHeader x stopped (segmentChildren s wanted))
       go (Refused e) q = tt
-      go (Read e) q = in-segment e q (children s wanted e) (children-trusty s wanted e)
+      go (Read e) q = in-segment e q (segmentChildren s wanted e) (children-trusty s wanted e)
 
   -- ---- where a part was found
 
@@ -115,6 +115,6 @@ module _ (s : List ℕ) (wanted : ℕ) where
       let p = by (f .part) (f .way) in
       omega (arith, f .payload)
     where
-      by : {start : ℕ} (x : Headed) → Way s wanted start x heads → x .payload .at ≤ length s
+      by : {start : ℕ} (x : Headed) → FoundWay s wanted start x heads → x .payload .at ≤ length s
       by x (met i n) = header-there s (x .place .at) x (i .head) .inside
       by {start} x (named first f n) = header-there s (start + n .position) x (n .is .head) .inside

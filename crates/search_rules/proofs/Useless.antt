@@ -18,7 +18,7 @@ use Rattle.seekchain_rules.specs.Heads.{nextHead, chain}
 use Rattle.seekchain_rules.specs.Lookup.{partAt, byHeads}
 use Rattle.seekchain_rules.specs.Step.{childAt}
 use Rattle.segments_rules.specs.Walk.{walk}
-use Rattle.segments_rules.specs.Segment.{segmentOf, visit, children, lookupOf}
+use Rattle.segments_rules.specs.Segment.{segmentOf, visit, segmentChildren, lookupOf}
 use Rattle.search_rules.specs.Part.{parentOf, Search, found, absent, refused, searchOf, replyOf, tableOf}
 use Rattle.search_rules.specs.Part.{foundPart, absentPart, partTold}
 use Rattle.search_rules.specs.Theorems.{tagsAlone, tagsBehindAHead, NotMadeUp, NotUntouched}
@@ -36,13 +36,13 @@ behind = replyOf (searchOf tagsBehindAHead 0x1254C367 0) ≡ accepted (absentPar
 is-alone : alone
 unfolding alone octetBits bits oneMore widthOf bigEndianFrom bigEndian ofWidth vintOf sized named headerOf
     headerRead headerAt count siblings masterBody isTable allowed filled
-    childAt walk segmentOf visit children lookupOf parentOf searchOf
+    childAt walk segmentOf visit segmentChildren lookupOf parentOf searchOf
 is-alone = refl
 
 is-behind : behind
 unfolding behind octetBits bits oneMore widthOf bigEndianFrom bigEndian ofWidth vintOf sized named headerOf
     headerRead headerAt count siblings masterBody isTable allowed filled entries latestFrom nextHead chain partAt
-    byHeads childAt walk segmentOf visit children lookupOf parentOf searchOf
+    byHeads childAt walk segmentOf visit segmentChildren lookupOf parentOf searchOf
 is-behind = refl
 
 one-found : (r : PartReply) → partTold r ≡ accepted (foundPart 10 0 0 0) → r ≡ Found 10 0 0 0

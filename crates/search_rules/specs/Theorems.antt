@@ -45,11 +45,11 @@ HeadsCounted =
 -- What a found part is: an element of the wanted id, with no head read; or the element at the position that the last
 -- entry of its id names, in the chain of heads from a seek head on. So a stale entry is never followed to another
 -- element. Where the walk met the element or the head is what `searchOf` says.
-pub data Way (s : List ℕ) (wanted start : ℕ) (part : Headed) (heads : List ℕ) : Type 0 where
-  met : IsAt s wanted (part .place .at) part → heads ≡ [] → Way s wanted start part heads
+pub data FoundWay (s : List ℕ) (wanted start : ℕ) (part : Headed) (heads : List ℕ) : Type 0 where
+  met : IsAt s wanted (part .place .at) part → heads ≡ [] → FoundWay s wanted start part heads
   named :
       (first : Headed) → IsAt s seekHeadId (first .place .at) first → Named s wanted start first part heads
-      → Way s wanted start part heads
+      → FoundWay s wanted start part heads
 
 -- A part in the segment that was found, with the heads that were read.
 pub record FoundBy (s : List ℕ) (wanted at size : ℕ) (heads : List ℕ) : Type 0 where
@@ -58,7 +58,7 @@ pub record FoundBy (s : List ℕ) (wanted at size : ℕ) (heads : List ℕ) : Ty
   pub sized : part .header .size ≡ size
   pub segment : Headed
   pub is-segment : segmentOf s ≡ Read segment
-  pub way : Way s wanted (segment .payload .at) part heads
+  pub way : FoundWay s wanted (segment .payload .at) part heads
 
 abbrev pub FoundIsPart : Type 0
 FoundIsPart =

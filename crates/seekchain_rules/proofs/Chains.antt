@@ -22,20 +22,30 @@ use Rattle.seekhead_rules.specs.declared.head.HeadRead.the-variants.{Read as He
 use Rattle.seekhead_rules.proofs.Positions.{positions-append, positions-none}
 use Rattle.seekhead_rules.proofs.Levels.{told-read, told-stopped}
 use Rattle.seekhead_rules.proofs.Members.{children, children-law}
-use Rattle.seekchain_rules.specs.Heads.{Heads, Chain, chained, broken, mostHeads, nextHead, onNext}
+use Rattle.seekchain_rules.specs.Heads.{Heads, Chain, chained, broken, withHead, mostHeads, nextHead, onNext}
 use Rattle.seekchain_rules.specs.Heads.{chain, linkedHeads}
 use Rattle.seekchain_rules.specs.Contract.{headsTold}
-use Rattle.seekchain_rules.specs.Theorems.{ChainUnfolds}
+use Rattle.seekchain_rules.specs.Answers.{onOutcome}
+use Rattle.seekchain_rules.specs.Theorems.{headsFrom, ChainUnfolds}
 use Rattle.seekchain_rules.specs.declared.heads.NextHead.the-variants.{Next, Last, Refused}
 use Rattle.seekchain_rules.specs.declared.heads.HeadsRead.the-variants.{Read as HeadsAre, Refused as HeadsRefused}
 use Rattle.seekchain_rules.proofs.Seen.{noted-address}
 use Rattle.seekchain_rules.proofs.Sought.{next-is}
 
-pub chain-unfolds : ChainUnfolds
+unfolds : (s : List ℕ) (start : ℕ) (heads : Heads) (head : Headed) → length (heads .addresses) < mostHeads
+    → headsFrom s start heads head
+    ≡ onOutcome (headOf s head) broken (λ f.
+    let own = entries s (head .payload .at) f in
+    let all = withHead heads head own in
+    onNext (nextHead s start (all .addresses) (latest seekHeadId own)) (chained all) broken (headsFrom s start all))
 unfolding chain
-chain-unfolds s start heads head l =
+unfolds s start heads head l =
     let m : mostHeads - length (heads .addresses) ≡ suc (mostHeads - (length (heads .addresses) + 1)) = omega arith in
     rw (m, ← (length-append (heads .addresses) (head .place .at ∷ []))) refl
+
+pub chain-unfolds : ChainUnfolds
+chain-unfolds =
+    record { unfolds = unfolds; bounded = λ s start seen link head q. next-is s start seen head link q .few }
 
 -- ---- the loop over the heads
 

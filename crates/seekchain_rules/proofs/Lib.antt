@@ -1,4 +1,4 @@
--- The laws that the proofs of `seekchain` share, and the theorem.
+-- The laws that the proofs of `seekchain` share, and the theorems.
 pub mod Positions
 pub mod Seen
 pub mod Sought

@@ -7,7 +7,8 @@ use native.Mathlib.Omega.{arith}
 use lib.ListN.{length}
 use lib.Dec.{leb, eqb}
 use borrow.Author.Tests.{eqb-true, leb-false}
-use Rattle.refusals.specs.Refusals.{pastEnd, invalidSeekHead, staleEntry, headAgain, tooManyHeads}
+use Rattle.refusals.specs.Refusals.{pastEnd, staleEntry}
+use Rattle.refusals.specs.declared.refusal.Refusal.{Refusal}
 use Rattle.header.specs.Reads.{headerAt}
 use Rattle.header.specs.declared.cursor.Headed.{Headed}
 use Rattle.header.specs.declared.cursor.HeaderRead.{HeaderRead}
@@ -20,9 +21,10 @@ use Rattle.seekhead_rules.specs.declared.head.Latest.the-variants.{Nowhere, At}
 use Rattle.seekchain_rules.specs.Answers.{onHeader}
 use Rattle.seekchain_rules.specs.Step.{childAt, onChild}
 use Rattle.seekchain_rules.specs.Heads.{tooFar, sought, mostHeads, nextHead}
-use Rattle.seekchain_rules.specs.Theorems.{IsAt}
+use Rattle.seekchain_rules.specs.Theorems.{IsAt, NextOrder, NextInOrder}
 use Rattle.seekchain_rules.specs.declared.step.ChildRead.{ChildRead}
 use Rattle.seekchain_rules.specs.declared.step.ChildRead.the-variants.{Child, End, Refused as ChildRefused}
+use Rattle.seekchain_rules.specs.declared.heads.NextHead.{NextHead}
 use Rattle.seekchain_rules.specs.declared.heads.NextHead.the-variants.{Next, Refused}
 
 -- A child of a walk is the element whose header is there.
@@ -63,7 +65,22 @@ pub record IsNext (s seen : List ℕ) (head : Headed) : Type 0 where
   pub new : member (head .place .at) seen ≡ false
   pub few : length seen < mostHeads
 
+-- ---- the order of the tests
+
+pub next-in-order : NextInOrder
+unfolding nextHead
+next-in-order s start seen = record {
+  none = refl;
+  eight = λ p a. rw a refl;
+  ten = λ p a b. rw (a, b) refl;
+  eleven = λ p a b c. rw (a, b, c) refl;
+  there = λ p a b c. rw (a, b, c) refl;
+}
+
 module _ (s : List ℕ) (start : ℕ) (seen : List ℕ) (head : Headed) where
+  abbrev order : NextOrder s start seen
+  order = next-in-order s start seen
+
   by-sought : (to : ℕ) → member to seen ≡ false → length seen < mostHeads
       → (x : HeaderRead) → sought s to seekHeadId ≡ x → onHeader x Refused Next ≡ Next head → IsNext s seen head
   by-sought to m l (Read e) q w =
@@ -77,21 +94,19 @@ module _ (s : List ℕ) (start : ℕ) (seen : List ℕ) (head : Headed) where
       }
   by-sought to m l (HeaderRefused e) q w = let z : _≡_ {A = ℕ} 0 1 = cc in absurd (omega arith)
 
-  by-tests : (to : ℕ) (far : Bool) (b : Bool) → member to seen ≡ b → (c : Bool) → leb mostHeads (length seen) ≡ c
-      → cond far (Refused (invalidSeekHead seekHeadId))
-      (cond b (Refused headAgain)
-      (cond c (Refused tooManyHeads) (onHeader (sought s to seekHeadId) Refused Next)))
-      ≡ Next head
-      → IsNext s seen head
-  by-tests to false false m false l w =
-      by-sought to m (leb-false mostHeads (length seen) l) (sought s to seekHeadId) refl w
-  by-tests to true b m c l w = let z : _≡_ {A = ℕ} 0 1 = cc in absurd (omega arith)
-  by-tests to false true m c l w = let z : _≡_ {A = ℕ} 0 1 = cc in absurd (omega arith)
-  by-tests to false false m true l w = let z : _≡_ {A = ℕ} 0 1 = cc in absurd (omega arith)
+  refused-is-none : (e : Refusal) (x : NextHead) → x ≡ Refused e → x ≡ Next head → ⊥
+  refused-is-none e x q w = let z : _≡_ {A = ℕ} 0 1 = cc in omega arith
+
+  by-tests : (p : ℕ) → nextHead s start seen (At p) ≡ Next head → (far : Bool) → tooFar start p ≡ far
+      → (b : Bool) → member (start + p) seen ≡ b → (c : Bool) → leb mostHeads (length seen) ≡ c → IsNext s seen head
+  by-tests p w true a b m c l = absurd (refused-is-none _ _ (order .eight p a) w)
+  by-tests p w false a true m c l = absurd (refused-is-none _ _ (order .ten p a m) w)
+  by-tests p w false a false m true l = absurd (refused-is-none _ _ (order .eleven p a m l) w)
+  by-tests p w false a false m false l =
+      by-sought (start + p) m (leb-false mostHeads (length seen) l) (sought s (start + p) seekHeadId) refl
+      (sym (order .there p a m l) ∙ w)
 
   pub next-is : (link : Latest) → nextHead s start seen link ≡ Next head → IsNext s seen head
-  unfolding nextHead
-  next-is Nowhere w = let z : _≡_ {A = ℕ} 0 1 = cc in absurd (omega arith)
-  next-is (At position) w =
-      by-tests (start + position) (tooFar start position) (member (start + position) seen) refl
-      (leb mostHeads (length seen)) refl w
+  next-is Nowhere w = let n = sym (order .none) ∙ w in let z : _≡_ {A = ℕ} 0 1 = cc in absurd (omega arith)
+  next-is (At p) w =
+      by-tests p w (tooFar start p) refl (member (start + p) seen) refl (leb mostHeads (length seen)) refl

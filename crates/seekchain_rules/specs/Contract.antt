@@ -26,5 +26,5 @@ placeTold (absent heads) = Absent (length heads)
 placeTold (stopped e) = Refused e
 
 -- What `part_at` answers where so many heads were read: it needs their count alone.
-abbrev pub PartMet : List ℕ → ℕ → ℕ → ℕ → Latest → PartPlace → Type 0
+abbrev pub PartMet : List ℕ → (wanted start n : ℕ) → Latest → PartPlace → Type 0
 PartMet s wanted start n link r = (heads : List ℕ) → length heads ≡ n → r ≡ placeTold (partAt s wanted start heads link)

@@ -28,7 +28,7 @@ abbrev pub lastAddress : ℕ
 lastAddress = 18446744073709551615
 
 -- Whether the segment's start plus a position exceeds it.
-abbrev pub tooFar : ℕ → ℕ → Bool
+abbrev pub tooFar : (start position : ℕ) → Bool
 tooFar start position = ltb lastAddress (start + position)
 
 -- The element that a sought address holds, up to the recording's end: 1 past it, 9 where its id is another.
@@ -45,7 +45,7 @@ mostHeads = 64
 
 -- The head that a head's entry for one leads to, where the heads at some addresses were read: 8, 10, 11, header, 9.
 -- Without such an entry there is none.
-unfoldable pub nextHead : List ℕ → ℕ → List ℕ → Latest → NextHead
+unfoldable pub nextHead : List ℕ → (start : ℕ) (seen : List ℕ) (link : Latest) → NextHead
 nextHead s start seen link =
     onLatest link Last (λ position.
     cond (tooFar start position) (Refused (invalidSeekHead seekHeadId))
@@ -83,7 +83,7 @@ pub data Chain : Type 0 where
 -- The heads from one on, after others: its payload is read by the element rules, and its entry for a head leads to the
 -- next. It is looked for in the head's own entries, since those before were followed and dropped. `more` heads may be
 -- read.
-unfoldable pub chain : List ℕ → ℕ → ℕ → Heads → Headed → Chain
+unfoldable pub chain : List ℕ → (start more : ℕ) → Heads → Headed → Chain
 chain s start zero heads head = broken tooManyHeads
 chain s start (suc more) heads head =
     onOutcome (headOf s head) broken (λ f.
@@ -92,5 +92,5 @@ chain s start (suc more) heads head =
     onNext (nextHead s start (all .addresses) (latest seekHeadId own)) (chained all) broken (chain s start more all))
 
 -- All heads from the first on.
-abbrev pub linkedHeads : List ℕ → ℕ → Headed → Chain
+abbrev pub linkedHeads : List ℕ → (start : ℕ) → Headed → Chain
 linkedHeads s start first = chain s start mostHeads noHeads first

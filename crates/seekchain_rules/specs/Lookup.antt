@@ -22,7 +22,7 @@ onChain (chained heads) next = next heads
 onChain (broken e) next = stopped e
 
 -- The part by the latest position of its id, where the heads at some addresses were read: absent, or 8, header, 9.
-unfoldable pub partAt : List ℕ → ℕ → ℕ → List ℕ → Latest → Lookup
+unfoldable pub partAt : List ℕ → (wanted start : ℕ) (heads : List ℕ) (link : Latest) → Lookup
 partAt s wanted start heads link =
     onLatest link (absent heads) (λ position.
     cond (tooFar start position) (stopped (invalidSeekHead wanted))
@@ -30,7 +30,7 @@ partAt s wanted start heads link =
 
 -- When all linked heads were read, the wanted id is looked up. It is never that of a seek head, whose entries were
 -- dropped.
-unfoldable pub byHeads : List ℕ → ℕ → ℕ → Headed → Lookup
+unfoldable pub byHeads : List ℕ → (wanted start : ℕ) (first : Headed) → Lookup
 byHeads s wanted start first =
     onChain (linkedHeads s start first) (λ heads.
     partAt s wanted start (heads .addresses) (latest wanted (heads .entries)))

@@ -1,6 +1,6 @@
--- The step by which the file's elements and the segment's children are read: a child at a place, up to an end (document
--- 01, Seek tables and the search).
-use Prim.Native.Nat.{ℕ, _+_}
+-- The step by which the file's elements, the segment's children and sought addresses are read: a child at a place, up to
+-- an end (document 01, Seek tables and the search).
+use Prim.Native.Nat.{ℕ}
 use mathlib.Core.List.{List}
 use mathlib.Core.Bool.{cond}
 use lib.Dec.{leb}
@@ -19,7 +19,3 @@ abbrev pub onChild : {A : Type 0} → ChildRead → A → (Refusal → A) → (H
 onChild (Child e) ended stop next = next e
 onChild End ended stop next = ended
 onChild (Refused e) ended stop next = stop e
-
--- The place behind an element. Its bytes need not exist.
-abbrev pub behind : Headed → ℕ
-behind e = e .payload .at + e .header .size

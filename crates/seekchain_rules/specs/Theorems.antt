@@ -3,41 +3,70 @@
 use Prim.Native.Nat.{ℕ, _+_, _-_, _≤_, _<_}
 use mathlib.Core.Path.{_≡_}
 use mathlib.Core.List.{List, [], _∷_}
+use mathlib.Core.Bool.{true, false}
 use lib.ListN.{length}
+use lib.Dec.{leb}
+use Rattle.refusals.specs.Refusals.{invalidSeekHead, headAgain, tooManyHeads}
 use Rattle.header.specs.Reads.{headerAt}
 use Rattle.header.specs.declared.cursor.Headed.{Headed}
 use Rattle.header.specs.declared.cursor.HeaderRead.the-variants.{Read}
+use Rattle.kinds.specs.Kinds.{member}
 use Rattle.elements_rules.specs.Forest.{Forest}
 use Rattle.elements_rules.specs.Reading.{done}
 use Rattle.seekhead_rules.specs.Seeks.{seekHeadId, headOf, entries}
 use Rattle.seekhead_rules.specs.Table.{latest}
 use Rattle.seekhead_rules.specs.declared.seek.Seek.{Seek}
+use Rattle.seekhead_rules.specs.declared.head.Latest.{Latest}
 use Rattle.seekhead_rules.specs.declared.head.Latest.the-variants.{Nowhere, At}
-use Rattle.seekchain_rules.specs.Answers.{onOutcome}
+use Rattle.seekchain_rules.specs.Answers.{onHeader, onOutcome}
 use Rattle.seekchain_rules.specs.Heads.{Heads, Chain, chained, broken, withHead, mostHeads, nextHead, onNext}
-use Rattle.seekchain_rules.specs.Heads.{chain, linkedHeads}
+use Rattle.seekchain_rules.specs.Heads.{tooFar, sought, chain, linkedHeads}
 use Rattle.seekchain_rules.specs.Lookup.{Lookup, found, absent, stopped, byHeads}
+use Rattle.seekchain_rules.specs.declared.heads.NextHead.the-variants.{Next, Last, Refused}
 
 -- An element with that id is at an address: its header was read there.
 pub record IsAt (s : List ℕ) (id address : ℕ) (e : Headed) : Type 0 where
   pub head : headerAt s address ≡ Read e
   pub named : e .header .id ≡ id
 
+-- ---- what follows a head
+
+-- The order of the tests on an entry for a further head: 8, 10, 11, then what is at the address. It shuts out a reader
+-- that gives 11 for a head that was read already, and one that looks at the header of a 65th head.
+pub record NextOrder (s : List ℕ) (start : ℕ) (seen : List ℕ) : Type 0 where
+  pub none : nextHead s start seen Nowhere ≡ Last
+  pub eight : (p : ℕ) → tooFar start p ≡ true → nextHead s start seen (At p) ≡ Refused (invalidSeekHead seekHeadId)
+  pub ten :
+      (p : ℕ) → tooFar start p ≡ false → member (start + p) seen ≡ true
+      → nextHead s start seen (At p) ≡ Refused headAgain
+  pub eleven :
+      (p : ℕ) → tooFar start p ≡ false → member (start + p) seen ≡ false → leb mostHeads (length seen) ≡ true
+      → nextHead s start seen (At p) ≡ Refused tooManyHeads
+  pub there :
+      (p : ℕ) → tooFar start p ≡ false → member (start + p) seen ≡ false → leb mostHeads (length seen) ≡ false
+      → nextHead s start seen (At p) ≡ onHeader (sought s (start + p) seekHeadId) Refused Next
+
+abbrev pub NextInOrder : Type 0
+NextInOrder = (s : List ℕ) (start : ℕ) (seen : List ℕ) → NextOrder s start seen
+
 -- ---- the heads
 
 -- The heads from one on, where others were read.
-abbrev pub headsFrom : List ℕ → ℕ → Heads → Headed → Chain
+abbrev pub headsFrom : List ℕ → (start : ℕ) → Heads → Headed → Chain
 headsFrom s start heads head = chain s start (mostHeads - length (heads .addresses)) heads head
 
--- One head after another, with no bound but that of `nextHead`.
-abbrev pub ChainUnfolds : Type 0
-ChainUnfolds =
-    (s : List ℕ) (start : ℕ) (heads : Heads) (head : Headed) → length (heads .addresses) < mostHeads
-    → headsFrom s start heads head
-    ≡ onOutcome (headOf s head) broken (λ f.
-    let own = entries s (head .payload .at) f in
-    let all = withHead heads head own in
-    onNext (nextHead s start (all .addresses) (latest seekHeadId own)) (chained all) broken (headsFrom s start all))
+-- One head after another. The bound of the definition hides no answer: where it is reached, `nextHead` has refused.
+pub record ChainUnfolds : Type 0 where
+  pub unfolds :
+      (s : List ℕ) (start : ℕ) (heads : Heads) (head : Headed) → length (heads .addresses) < mostHeads
+      → headsFrom s start heads head
+      ≡ onOutcome (headOf s head) broken (λ f.
+      let own = entries s (head .payload .at) f in
+      let all = withHead heads head own in
+      onNext (nextHead s start (all .addresses) (latest seekHeadId own)) (chained all) broken (headsFrom s start all))
+  pub bounded :
+      (s : List ℕ) (start : ℕ) (seen : List ℕ) (link : Latest) (head : Headed)
+      → nextHead s start seen link ≡ Next head → length seen < mostHeads
 
 -- A seek head is at the address, and its whole payload was read.
 pub record IsHead (s : List ℕ) (address : ℕ) : Type 0 where
@@ -83,7 +112,7 @@ pub record Unnamed (s : List ℕ) (wanted start : ℕ) (first : Headed) (heads :
   pub never : latest wanted entries ≡ Nowhere
 
 -- What a place that the heads lead to is.
-abbrev pub ByHeads : List ℕ → ℕ → ℕ → Headed → Lookup → Type 0
+abbrev pub ByHeads : List ℕ → (wanted start : ℕ) (first : Headed) → Lookup → Type 0
 ByHeads s wanted start first (found part heads) = Named s wanted start first part heads × GoodHeads s heads
 ByHeads s wanted start first (absent heads) = Unnamed s wanted start first heads × GoodHeads s heads
 ByHeads s wanted start first (stopped e) = Unit

@@ -10,10 +10,10 @@ use Rattle.kinds.specs.Kinds.{kindUnder}
 use Rattle.bodies_rules.specs.Bodies.{bodyOf}
 use Rattle.elements_rules.specs.Forest.{Forest, none, node, span, count, join}
 use Rattle.elements_rules.specs.Reading.{Outcome, done, refused, prepend, above, full, held, siblings, elementOf}
-use Rattle.elements_rules.specs.Reading.{elementRead, element, depths, masterBody}
+use Rattle.elements_rules.specs.Reading.{elementHeaderRead, element, depths, masterBody}
 use Rattle.elements_rules.proofs.Forests.{join-none, span-join, prepend-none, prepend-prepend}
 use Rattle.elements_rules.proofs.Reading.{el-refused, el-body, stops, child-refused, child-over, child-more}
-use Rattle.header.specs.Reads.{headerAt}
+use Rattle.header.specs.Reads.{behind, headerAt}
 use Rattle.seekhead_rules.specs.Seeks.{withoutRows}
 use Rattle.seekhead_rules.specs.Contract.{elementAt, told}
 use Rattle.header.specs.declared.cursor.Headed.{Headed}
@@ -44,13 +44,9 @@ pub record Lawful (l : Level) : Type 0 where
       (at : ℕ) (f g : Forest) (a : l .A) → l .make at (join f g) a ≡ l .make (at + span f) g (l .make at f a)
 
 -- The element rules read the header that is there.
-pub header-is : (s : List ℕ) (at : ℕ) (r : HeaderRead) → elementRead s at ≡ r → headerAt s at ≡ r
+pub header-is : (s : List ℕ) (at : ℕ) (r : HeaderRead) → elementHeaderRead s at ≡ r → headerAt s at ≡ r
 unfolding headerAt
 header-is s at r q = q
-
--- Where an element ends.
-abbrev pub behind : Headed → ℕ
-behind e = e .payload .at + e .header .size
 
 module _ (s : List ℕ) (l : Level) (law : Lawful l) where
   -- What one element at an address makes of a value, told.

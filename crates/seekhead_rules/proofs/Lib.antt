@@ -1,4 +1,4 @@
--- The laws that the proofs of `seekhead` share.
+-- The laws that the proofs of `seekhead` share, and the theorem.
 pub mod Uncounted
 pub mod Positions
 pub mod Levels

@@ -9,7 +9,8 @@ use lib.Seq.{take-nil, drop-drop}
 use borrow.Author.Tests.{eq-eqb, ne-eqb}
 use Rattle.header.specs.Vint.{bigEndian}
 use Rattle.seekhead_rules.specs.Seeks.{lastFour}
-use Rattle.seekhead_rules.specs.Table.{later, latestFrom, latestEach, positionsFrom, PositionsEach}
+use Rattle.seekhead_rules.specs.Table.{later, latestFrom, positionsFrom}
+use Rattle.seekhead_rules.specs.Theorems.{latestEach, PositionsEach}
 use Rattle.seekhead_rules.specs.declared.seek.Seek.{Seek}
 use Rattle.seekhead_rules.specs.declared.head.Latest.{Latest}
 use Rattle.seekhead_rules.specs.declared.head.Latest.the-variants.{At}

@@ -46,7 +46,7 @@ abbrev pub Shallow : ℕ → Type 0
 Shallow depth = depth < depths
 
 -- An element at an address that is read without rows, at a depth and under a parent id.
-abbrev pub elementAt : List ℕ → ℕ → ℕ → ℕ → Outcome
+abbrev pub elementAt : List ℕ → (depth parent at : ℕ) → Outcome
 elementAt s depth parent at = element s withoutRows 0 (depths - depth) parent at 0
 
 -- A body that was read, and the elements below it.

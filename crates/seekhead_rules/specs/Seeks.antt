@@ -37,7 +37,7 @@ withoutRows = record { keep = false }
 
 -- The whole payload of an element, read by the element rules without rows: its direct children have that depth, and
 -- stand under that id.
-abbrev pub skimmed : List ℕ → ℕ → ℕ → Headed → Outcome
+abbrev pub skimmed : List ℕ → (depth parent : ℕ) → Headed → Outcome
 skimmed s depth parent e = masterBody s withoutRows 0 depth parent (e .payload .at) (e .header .size) 0
 
 -- A seek head's direct children have depth 0, and Segment's full set of kinds applies to them. A Seek's members have
@@ -51,7 +51,7 @@ seekBody s seek = skimmed s 1 seekId seek
 -- ---- a Seek
 
 -- The last four octets of a payload as a number; all of them where there are fewer.
-unfoldable pub lastFour : List ℕ → ℕ → ℕ → ℕ
+unfoldable pub lastFour : List ℕ → (at size : ℕ) → ℕ
 lastFour s at size = bigEndian (drop (size - 4) (payload s at size))
 
 -- A Seek with one more of its members, by what it holds: its id is the last four octets of the last 53AB, its position

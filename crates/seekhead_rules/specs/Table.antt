@@ -1,6 +1,5 @@
 -- The table of a search: the latest position of each wanted id (document 01, Seek tables and the search).
 use Prim.Native.Nat.{ℕ}
-use mathlib.Core.Path.{_≡_}
 use mathlib.Core.List.{List, [], _∷_}
 use mathlib.Core.Bool.{cond}
 use lib.Dec.{eqb}
@@ -28,18 +27,6 @@ latest id seeks = latestFrom id Nowhere seeks
 
 -- ---- a set of ids
 
--- The latest position of each id of a list.
-unfoldable pub latestEach : List ℕ → List Seek → List Latest
-latestEach [] seeks = []
-latestEach (id ∷ ids) seeks = latest id seeks ∷ latestEach ids seeks
-
--- The wanted ids and their positions as lists.
-abbrev pub idsOf : Wanted → List ℕ
-idsOf w = w .first ∷ w .second ∷ w .third ∷ w .fourth ∷ w .fifth ∷ []
-
-abbrev pub listed : Positions → List Latest
-listed p = p .first ∷ p .second ∷ p .third ∷ p .fourth ∷ p .fifth ∷ []
-
 -- The one id that a search for a part wants.
 abbrev pub only : ℕ → Wanted
 only id = record { first = id; second = 0; third = 0; fourth = 0; fifth = 0 }
@@ -60,8 +47,3 @@ noPositions = record { first = Nowhere; second = Nowhere; third = Nowhere; fourt
 -- The latest position of each wanted id.
 abbrev pub positions : Wanted → List Seek → Positions
 positions wanted seeks = positionsFrom wanted noPositions seeks
-
--- They are those of the list of wanted ids.
-abbrev pub PositionsEach : Type 0
-PositionsEach =
-    (wanted : Wanted) (seeks : List Seek) → listed (positions wanted seeks) ≡ latestEach (idsOf wanted) seeks

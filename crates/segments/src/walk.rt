@@ -2,8 +2,8 @@
 ghost use mathlib.Core.Path.{_≡_};
 ghost use Rattle.seekhead_rules.specs.Contract.{Readable};
 ghost use Rattle.seekchain_rules.specs.Contract.{placeTold};
-ghost use Rattle.segments_rules.specs.Segment.{visit as visitOf, children, lookupOf};
-ghost use Rattle.segments_rules.specs.Contract.{visitTold, Listed};
+ghost use Rattle.segments_rules.specs.Segment.{visit as visitOf, segmentChildren, lookupOf};
+ghost use Rattle.segments_rules.specs.Contract.{visitTold, KindsLent};
 use crate::segment::segment_of;
 use header::Cursor;
 use header::Headed;
@@ -45,7 +45,7 @@ fn visit_child(
 // if it was larger than what was left.
 fn walk(recording: &[u8], kinds: &[u64], wanted: u32, segment: Headed) -> PartPlace
     requires { ⌜ Readable (now recording) (now kinds) segment ⌝ }
-    ensures { λ r. ⌜ r ≡ placeTold (children (now (recording .entry)) wanted segment) ⌝ }
+    ensures { λ r. ⌜ r ≡ placeTold (segmentChildren (now (recording .entry)) wanted segment) ⌝ }
 {
     let mut at = segment.payload.at;
     let end = at + segment.header.size;
@@ -78,7 +78,7 @@ fn walk(recording: &[u8], kinds: &[u64], wanted: u32, segment: Headed) -> PartPl
 
 // Where the wanted part is.
 pub fn look_up(recording: &[u8], kinds: &[u64], wanted: u32) -> PartPlace
-    requires { ⌜ Listed (now recording) (now kinds) ⌝ }
+    requires { ⌜ KindsLent (now recording) (now kinds) ⌝ }
     ensures { λ r. ⌜ r ≡ placeTold (lookupOf (now (recording .entry)) wanted) ⌝ }
 {
     match segment_of(recording) {

@@ -1,2 +1,2 @@
--- The laws that the proofs of `segments` share.
+-- The laws that the proofs of `segments` share, and the theorems.
 pub mod Walks

@@ -9,7 +9,7 @@ use lib.Dec.{ltb, leb, eqb}
 use borrow.Author.Tests.{le-leb, leb-false}
 use Rattle.refusals.specs.Refusals.{pastEnd, overrun}
 use Rattle.refusals.specs.declared.refusal.Refusal.{Refusal}
-use Rattle.header.specs.Reads.{headerAt}
+use Rattle.header.specs.Reads.{behind, headerAt}
 use Rattle.header.specs.declared.cursor.Headed.{Headed}
 use Rattle.header.specs.declared.cursor.HeaderRead.{HeaderRead}
 use Rattle.header.specs.declared.cursor.HeaderRead.the-variants.{Read, Refused as HeaderRefused}
@@ -19,11 +19,11 @@ use Rattle.seekchain_rules.specs.Answers.{onHeader}
 use Rattle.seekchain_rules.specs.Lookup.{Lookup, found, absent, stopped, byHeads}
 use Rattle.seekchain_rules.specs.Contract.{placeTold}
 use Rattle.seekchain_rules.specs.declared.lookup.PartPlace.{PartPlace}
-use Rattle.seekchain_rules.specs.Step.{childAt, onChild, behind}
+use Rattle.seekchain_rules.specs.Step.{childAt, onChild}
 use Rattle.segments_rules.specs.Walk.{Visit, ends, over, onVisit, Walk, walk, walkFrom}
-use Rattle.segments_rules.specs.Walk.{WalkUnfolds}
-use Rattle.segments_rules.specs.Segment.{seeking, segmentFrom, segmentOf, SegmentUnfolds, within, visit}
-use Rattle.segments_rules.specs.Segment.{searching, childrenFrom, ChildrenUnfold}
+use Rattle.segments_rules.specs.Segment.{seeking, segmentFrom, segmentOf, withinSegment, visit}
+use Rattle.segments_rules.specs.Segment.{searching, segmentChildrenFrom}
+use Rattle.segments_rules.specs.Theorems.{WalkUnfolds, SegmentUnfolds, ChildrenUnfold}
 use Rattle.segments_rules.specs.Contract.{visitTold}
 use Rattle.segments_rules.specs.declared.walk.Visit.the-variants.{Ends, Over}
 use Rattle.seekchain_rules.specs.declared.step.ChildRead.{ChildRead}
@@ -128,7 +128,7 @@ segment-unfolds s at =
 pub children-unfold : ChildrenUnfold
 unfolding visit
 children-unfold s wanted segment at =
-    walk-unfolds Unit Lookup s (behind segment) (within segment (searching s wanted segment)) at tt
+    walk-unfolds Unit Lookup s (behind segment) (withinSegment segment (searching s wanted segment)) at tt
     ∙ by (childAt s (behind segment) at)
   where
     by-tests : (b c t : Bool) (x y z : Lookup) (o : Unit → Lookup)
@@ -143,15 +143,15 @@ children-unfold s wanted segment at =
 
     by : (x : ChildRead)
         → onChild x (absent []) stopped (λ e.
-        onVisit (within segment (searching s wanted segment) .visit tt e) (λ r. r)
-        (walkFrom s (behind segment) (within segment (searching s wanted segment)) (behind e)))
+        onVisit (withinSegment segment (searching s wanted segment) .visit tt e) (λ r. r)
+        (walkFrom s (behind segment) (withinSegment segment (searching s wanted segment)) (behind e)))
         ≡ onChild x (absent []) stopped (λ e.
         cond (eqb (e .header .id) seekHeadId) (byHeads s wanted (segment .payload .at) e)
         (cond (eqb (e .header .id) wanted) (found e [])
-        (cond (ltb (behind segment) (behind e)) (stopped overrun) (childrenFrom s wanted segment (behind e)))))
+        (cond (ltb (behind segment) (behind e)) (stopped overrun) (segmentChildrenFrom s wanted segment (behind e)))))
     by (Child e) =
         by-tests (eqb (e .header .id) seekHeadId) (eqb (e .header .id) wanted) (ltb (behind segment) (behind e)) _ _ _
-        (walkFrom s (behind segment) (within segment (searching s wanted segment)) (behind e))
+        (walkFrom s (behind segment) (withinSegment segment (searching s wanted segment)) (behind e))
     by End = refl
     by (Refused r) = refl
 
@@ -162,14 +162,14 @@ module _ (s : List ℕ) (wanted : ℕ) (segment : Headed) (at : ℕ) (e : Headed
   abbrev seen-as : Visit Unit Lookup → Lookup
   seen-as v =
       onVisit (onVisit v ends (λ more. cond (ltb (behind segment) (behind e)) (ends (stopped overrun)) (over more)))
-      (λ p. p) (walkFrom s (behind segment) (within segment (searching s wanted segment)) (behind e))
+      (λ p. p) (walkFrom s (behind segment) (withinSegment segment (searching s wanted segment)) (behind e))
 
-  visited : childrenFrom s wanted segment at ≡ seen-as (visit s wanted segment e)
+  visited : segmentChildrenFrom s wanted segment at ≡ seen-as (visit s wanted segment e)
   visited =
-      walk-unfolds Unit Lookup s (behind segment) (within segment (searching s wanted segment)) at tt ∙ rw q refl
+      walk-unfolds Unit Lookup s (behind segment) (withinSegment segment (searching s wanted segment)) at tt ∙ rw q refl
 
   pub child-ends : (p : PartPlace) → Ends p ≡ visitTold (visit s wanted segment e)
-      → p ≡ placeTold (childrenFrom s wanted segment at)
+      → p ≡ placeTold (segmentChildrenFrom s wanted segment at)
   child-ends p w = go (visit s wanted segment e) w ∙ sym (ap placeTold visited)
     where
       go : (v : Visit Unit Lookup) → Ends p ≡ visitTold v → p ≡ placeTold (seen-as v)
@@ -177,8 +177,8 @@ module _ (s : List ℕ) (wanted : ℕ) (segment : Headed) (at : ℕ) (e : Headed
       go (over known) w = let z : _≡_ {A = ℕ} 0 1 = cc in absurd (omega arith)
 
   pub child-over : Over ≡ visitTold (visit s wanted segment e)
-      → childrenFrom s wanted segment at
-      ≡ cond (ltb (behind segment) (behind e)) (stopped overrun) (childrenFrom s wanted segment (behind e))
+      → segmentChildrenFrom s wanted segment at
+      ≡ cond (ltb (behind segment) (behind e)) (stopped overrun) (segmentChildrenFrom s wanted segment (behind e))
   child-over w = visited ∙ go (visit s wanted segment e) w
     where
       by-test : (b : Bool) (f : Unit → Lookup)
@@ -188,7 +188,7 @@ module _ (s : List ℕ) (wanted : ℕ) (segment : Headed) (at : ℕ) (e : Headed
 
       go : (v : Visit Unit Lookup) → Over ≡ visitTold v
           → seen-as v
-          ≡ cond (ltb (behind segment) (behind e)) (stopped overrun) (childrenFrom s wanted segment (behind e))
+          ≡ cond (ltb (behind segment) (behind e)) (stopped overrun) (segmentChildrenFrom s wanted segment (behind e))
       go (over known) w = by-test (ltb (behind segment) (behind e)) _
       go (ends x) w = let z : _≡_ {A = ℕ} 0 1 = cc in absurd (omega arith)
 

@@ -13,7 +13,7 @@ use Rattle.segments_rules.specs.declared.walk.Visit.{Visit as VisitTold}
 use Rattle.segments_rules.specs.declared.walk.Visit.the-variants.{Ends, Over}
 
 -- The list of kinds, and a recording within its limit.
-pub record Listed (s kinds : List ℕ) : Type 0 where
+pub record KindsLent (s kinds : List ℕ) : Type 0 where
   pub listed : kinds ≡ entries elements
   pub small : length s ≤ mostBytes
 

@@ -1,4 +1,5 @@
--- The definitions that the contracts of `segments` cite, and the statements of its laws.
+-- The definitions that the contracts of `segments` cite, and the statements of its theorems.
 pub mod Walk
 pub mod Segment
 pub mod Contract
+pub mod Theorems

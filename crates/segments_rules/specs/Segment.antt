@@ -1,19 +1,18 @@
 -- The way to a part (document 01, Seek tables and the search): past what stands before the segment, then over the
 -- segment's children in turn.
 use Prim.Native.Nat.{ℕ}
-use mathlib.Core.Path.{_≡_}
 use mathlib.Core.List.{List, []}
 use mathlib.Core.Bool.{cond}
 use lib.ListN.{length}
 use lib.Dec.{ltb, eqb}
 use Rattle.refusals.specs.Refusals.{pastEnd, overrun}
+use Rattle.header.specs.Reads.{behind}
 use Rattle.header.specs.declared.cursor.Headed.{Headed}
 use Rattle.header.specs.declared.cursor.HeaderRead.{HeaderRead}
 use Rattle.header.specs.declared.cursor.HeaderRead.the-variants.{Read, Refused}
 use Rattle.seekhead_rules.specs.Seeks.{segmentId, seekHeadId}
 use Rattle.seekchain_rules.specs.Answers.{onHeader}
 use Rattle.seekchain_rules.specs.Lookup.{Lookup, found, absent, stopped, byHeads}
-use Rattle.seekchain_rules.specs.Step.{childAt, onChild, behind}
 use Rattle.segments_rules.specs.Walk.{Visit, ends, over, onVisit, Walk}
 use Rattle.segments_rules.specs.Walk.{walkFrom}
 
@@ -35,20 +34,12 @@ segmentFrom s at = walkFrom s (length s) seeking at tt
 unfoldable pub segmentOf : List ℕ → HeaderRead
 segmentOf s = segmentFrom s 0
 
--- The way there goes from element to element.
-abbrev pub SegmentUnfolds : Type 0
-SegmentUnfolds =
-    (s : List ℕ) (at : ℕ)
-    → segmentFrom s at
-    ≡ onChild (childAt s (length s) at) (Refused pastEnd) Refused (λ e.
-    cond (eqb (e .header .id) segmentId) (Read e) (segmentFrom s (behind e)))
-
 -- ---- the segment's children
 
--- A walk within a segment: a child that is passed over need not be there, but it is 3 if it is larger than what was
+-- A walk withinSegment a segment: a child that is passed over need not be there, but it is 3 if it is larger than what was
 -- left.
-abbrev pub within : {A B : Type 0} → Headed → Walk A B → Walk A B
-within segment w = record {
+abbrev pub withinSegment : {A B : Type 0} → Headed → Walk A B → Walk A B
+withinSegment segment w = record {
   visit = λ known e.
       onVisit (w .visit known e) ends (λ more.
       cond (ltb (behind segment) (behind e)) (ends (w .stop overrun)) (over more));
@@ -58,33 +49,23 @@ within segment w = record {
 
 -- What a child does to the search: a seek head leads on by its entries, with positions counted from the segment's
 -- start; the wanted part is found; anything else is passed over.
-unfoldable pub visit : List ℕ → ℕ → Headed → Headed → Visit Unit Lookup
+unfoldable pub visit : List ℕ → (wanted : ℕ) (segment e : Headed) → Visit Unit Lookup
 visit s wanted segment e =
     cond (eqb (e .header .id) seekHeadId) (ends (byHeads s wanted (segment .payload .at) e))
     (cond (eqb (e .header .id) wanted) (ends (found e [])) (over tt))
 
-abbrev pub searching : List ℕ → ℕ → Headed → Walk Unit Lookup
+abbrev pub searching : List ℕ → (wanted : ℕ) (segment : Headed) → Walk Unit Lookup
 searching s wanted segment =
     record { visit = λ known e. visit s wanted segment e; ended = λ known. absent []; stop = stopped }
 
 -- The children from an address on, up to the segment's end.
-abbrev pub childrenFrom : List ℕ → ℕ → Headed → ℕ → Lookup
-childrenFrom s wanted segment at = walkFrom s (behind segment) (within segment (searching s wanted segment)) at tt
+abbrev pub segmentChildrenFrom : List ℕ → (wanted : ℕ) (segment : Headed) (at : ℕ) → Lookup
+segmentChildrenFrom s wanted segment at = walkFrom s (behind segment) (withinSegment segment (searching s wanted segment)) at tt
 
 -- All of them. The segment starts at the address after its header.
-unfoldable pub children : List ℕ → ℕ → Headed → Lookup
-children s wanted segment = childrenFrom s wanted segment (segment .payload .at)
-
--- The walk goes from child to child.
-abbrev pub ChildrenUnfold : Type 0
-ChildrenUnfold =
-    (s : List ℕ) (wanted : ℕ) (segment : Headed) (at : ℕ)
-    → childrenFrom s wanted segment at
-    ≡ onChild (childAt s (behind segment) at) (absent []) stopped (λ e.
-    cond (eqb (e .header .id) seekHeadId) (byHeads s wanted (segment .payload .at) e)
-    (cond (eqb (e .header .id) wanted) (found e [])
-    (cond (ltb (behind segment) (behind e)) (stopped overrun) (childrenFrom s wanted segment (behind e)))))
+unfoldable pub segmentChildren : List ℕ → (wanted : ℕ) (segment : Headed) → Lookup
+segmentChildren s wanted segment = segmentChildrenFrom s wanted segment (segment .payload .at)
 
 -- Where the wanted part is.
-unfoldable pub lookupOf : List ℕ → ℕ → Lookup
-lookupOf s wanted = onHeader (segmentOf s) stopped (children s wanted)
+unfoldable pub lookupOf : List ℕ → (wanted : ℕ) → Lookup
+lookupOf s wanted = onHeader (segmentOf s) stopped (segmentChildren s wanted)

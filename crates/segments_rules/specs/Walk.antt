@@ -1,11 +1,11 @@
 -- A walk over the elements from a place up to an end, one after another: over the file's elements to the segment, and
 -- over the segment's children (document 01, Seek tables and the search).
 use Prim.Native.Nat.{ℕ, zero, suc, _-_}
-use mathlib.Core.Path.{_≡_}
 use mathlib.Core.List.{List}
 use Rattle.refusals.specs.declared.refusal.Refusal.{Refusal}
+use Rattle.header.specs.Reads.{behind}
 use Rattle.header.specs.declared.cursor.Headed.{Headed}
-use Rattle.seekchain_rules.specs.Step.{childAt, onChild, behind}
+use Rattle.seekchain_rules.specs.Step.{childAt, onChild}
 
 -- What a visit of an element does: it ends the walk with an answer, or passes the element over, with what is known
 -- then.
@@ -24,19 +24,11 @@ pub record Walk (A B : Type 0) : Type 0 where
   pub stop : Refusal → B
 
 -- The elements from a place on. Each takes a byte at least: `most` bounds how many there are.
-unfoldable pub walk : {A B : Type 0} → List ℕ → ℕ → Walk A B → ℕ → ℕ → A → B
+unfoldable pub walk : {A B : Type 0} → List ℕ → (end : ℕ) → Walk A B → (most at : ℕ) → A → B
 walk s end w zero at a = w .ended a
 walk s end w (suc most) at a =
     onChild (childAt s end at) (w .ended a) (w .stop) (λ e.
     onVisit (w .visit a e) (λ b. b) (walk s end w most (behind e)))
 
-abbrev pub walkFrom : {A B : Type 0} → List ℕ → ℕ → Walk A B → ℕ → A → B
+abbrev pub walkFrom : {A B : Type 0} → List ℕ → (end : ℕ) → Walk A B → (at : ℕ) → A → B
 walkFrom s end w at a = walk s end w (end - at) at a
-
--- There are never more elements than bytes, so that a walk is one step after another, with no bound.
-abbrev pub WalkUnfolds : Type 1
-WalkUnfolds =
-    (A B : Type 0) (s : List ℕ) (end : ℕ) (w : Walk A B) (at : ℕ) (a : A)
-    → walkFrom s end w at a
-    ≡ onChild (childAt s end at) (w .ended a) (w .stop) (λ e.
-    onVisit (w .visit a e) (λ b. b) (walkFrom s end w (behind e)))

@@ -8,12 +8,12 @@ use native.Mathlib.Omega.{arith}
 use borrow.Author.Tests.{lt-ltb, le-ltb}
 use Rattle.header.proofs.Inside.{header-there}
 use Rattle.seekchain_rules.specs.Contract.{placeTold}
-use Rattle.segments_rules.specs.Segment.{childrenFrom, children}
+use Rattle.segments_rules.specs.Segment.{segmentChildrenFrom, segmentChildren}
 use Rattle.segments_rules.proofs.Walks.{stepped, children-unfold, child-ends, child-over}
 
 abbrev Inv-loop : tie.InvT-loop
 Inv-loop recording kinds wanted segment at₀ end at =
-    children recording wanted segment ≡ childrenFrom recording wanted segment at
+    segmentChildren recording wanted segment ≡ segmentChildrenFrom recording wanted segment at
 
 abbrev μ-loop : tie.MeasureT-loop
 μ-loop recording kinds wanted segment at₀ end at = end - at
@@ -25,7 +25,7 @@ add-end c =
     omega (arith, t .inside, t .sized, p .small)
 
 loop-holds : tie.Need-loop-holds Inv-loop μ-loop
-unfolding children
+unfolding segmentChildren
 loop-holds c = refl
 
 returns : tie.Need-returns Inv-loop μ-loop
