@@ -5,6 +5,7 @@ use crate::range::read_bytes;
 use crate::range::read_text;
 use bodies_rules::Body;
 use bodies_rules::BodyRead;
+use header::Cursor;
 use header::Headed;
 use kinds::Kind;
 use number_bodies::read_date;
@@ -16,8 +17,10 @@ use number_bodies::read_uint;
 pub fn read_body(recording: &[u8], element: Headed, kind: Kind) -> BodyRead
     ensures { λ r. ⌜ r ≡ bodyRead kind (now (recording .entry)) (element .payload .at) (element .header .size) ⌝ }
 {
-    let payload = element.payload;
+    // Two numbers cross to the readers, so that the element itself need not lie in memory.
+    let at = element.payload.at;
     let size = element.header.size;
+    let payload = Cursor { at };
     match kind {
         Kind::Master => BodyRead::Read(Body::Master, payload),
         Kind::Int => read_int(payload, recording, size),

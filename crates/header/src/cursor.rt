@@ -13,10 +13,11 @@ pub struct Cursor {
     pub at: u64,
 }
 
-// A header: the id with its marker, the payload's size, and how many bytes the header has.
+// A header: the payload's size, the id with its marker, and how many bytes the header has. Size and length stand apart,
+// since a processor waits where two numbers are written one by one and read as one (bench/README.md).
 pub struct Header {
-    pub id: u32,
     pub size: u64,
+    pub id: u32,
     pub length: u64,
 }
 
