@@ -16,7 +16,7 @@ use Rattle.elements_rules.specs.Reading.{prepend, masterBody}
 use Rattle.elements_rules.specs.Rows.{rows, width, flatten}
 use Rattle.elements_rules.specs.Stands.{IsValue, StandsAt, Stands}
 use Rattle.elements_rules.specs.Promise.{keeping, allowed, filled, readOf, replyOf, zeros, tableOf, ReadPromise}
-use Rattle.elements_rules.specs.Acceptance.{AcceptedExactly, Readable, BodyExactly}
+use Rattle.elements_rules.specs.Acceptance.{AcceptedExactly, ReadableTree, BodyExactly}
 use Rattle.elements_rules.specs.declared.row.Mode.{Mode}
 use Rattle.elements_rules.specs.declared.reply.ReadReply.the-variants.{Rows}
 use Rattle.elements_rules.proofs.Outcomes.{passes, of-refuse}
@@ -76,7 +76,7 @@ module _ (s : List ℕ) (mode : Mode) (cap : ℕ) where
       q ∙ rw (u, v) (ap (prepend (node e kids none)) others)
 
   -- What is a tree for the reader of a master's body is read.
-  pub body-read : (depth parent at size n : ℕ) (f : Forest) → Readable s mode cap depth parent at size n f
+  pub body-read : (depth parent at size n : ℕ) (f : Forest) → ReadableTree s mode cap depth parent at size n f
       → masterBody s mode cap depth parent at size n ≡ done f
   unfolding masterBody
   body-read depth parent at size n f i =

@@ -6,6 +6,7 @@ pub mod Bodies
 pub mod Forests
 pub mod Tables
 pub mod Standing
+pub mod Unfolds
 pub mod Reading
 pub mod Steps
 pub mod Whole

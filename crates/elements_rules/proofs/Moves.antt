@@ -1,5 +1,5 @@
 -- What stands moves with its octets. So an accepted read depends on the payload's own bytes alone (`OwnBytes`), and
--- moves with its address (`Moves`). Assumes nothing.
+-- moves with its address (`Moves`, `BodyMoves`). Assumes nothing.
 use Prim.Native.Nat.{ℕ, _+_, _-_, _/_, _≤_}
 use mathlib.Core.Path.{_≡_, refl, sym, ap, _∙_}
 use mathlib.Core.List.{List, map, map-append}
@@ -19,12 +19,11 @@ use Rattle.utf8.specs.Utf8.{utf8}
 use Rattle.bodies_rules.specs.Bodies.{Told, refused, value, payload, ifThere, bodyOf}
 use Rattle.bodies_rules.specs.declared.body.Value.the-variants.{Text, Bytes}
 use Rattle.elements_rules.specs.Forest.{Element, Forest, none, node, whole, span, count}
-use Rattle.elements_rules.specs.Reading.{done, masterBody}
+use Rattle.elements_rules.specs.Reading.{done}
 use Rattle.elements_rules.specs.Rows.{rows, width}
 use Rattle.elements_rules.specs.Stands.{IsValue, StandsAt, Stands}
 use Rattle.elements_rules.specs.Promise.{allowed, readOf, tableOf, ReadPromise}
-use Rattle.elements_rules.specs.Acceptance.{OwnBytes, elsewhere, Moves}
-use Rattle.elements_rules.specs.declared.row.Mode.{Mode}
+use Rattle.elements_rules.specs.Acceptance.{OwnBytes, elsewhere, Moves, BodyMoves}
 use Rattle.elements_rules.specs.declared.reply.ReadReply.{ReadReply}
 use Rattle.elements_rules.specs.declared.reply.ReadReply.the-variants.{Rows}
 use Rattle.elements_rules.proofs.Limits.{within}
@@ -139,20 +138,6 @@ module _ (s s′ : List ℕ) where
   stands-moves parent at at′ f l q i =
       moves parent at at′ f i (same at at′ (span f) (stands-inside s parent at f i) l q)
 
-  -- A master's body that was read is read there too, as the same tree.
-  pub body-moves : (mode : Mode) (cap depth parent at at′ size n : ℕ) (f : Forest) → at ≤ length s → at′ ≤ length s′
-      → (mode .keep ≡ true → n ≤ cap) → take size (drop at s) ≡ take size (drop at′ s′)
-      → masterBody s mode cap depth parent at size n ≡ done f → masterBody s′ mode cap depth parent at′ size n ≡ done f
-  body-moves mode cap depth parent at at′ size n f i l room q d =
-      let o = body-exactly s mode cap depth parent at size n f i room .0 d in
-      body-read s′ mode cap depth parent at′ size n f
-      (record {
-        stands = stands-moves parent at at′ f l (rw (o .taken) q) (o .stands);
-        taken = o .taken;
-        low = o .low;
-        free = o .free;
-      })
-
   -- The public read, into a table of any length that has rows enough.
   pub outcome-moves : (start start′ size parent numbers numbers′ : ℕ) (f : Forest) → allowed s′ start′ numbers′ ≡ true
       → count f ≤ numbers′ / width → take size (drop start s) ≡ take size (drop start′ s′)
@@ -206,6 +191,17 @@ read-moves s s′ start start′ size parent t u n t′ r u′ same args room p 
     let there = table-rows s′ start′ size parent u n u′ f (a .number) table in
     let moved = rw (add-zero start, add-zero start′) at (rows-elsewhere start start′ 0 0 0 0 f) in
     (reply, record { forest = f; here = a .rows-are; there = there; moved = there ∙ rw (a .rows-are) moved })
+
+pub body-moves : BodyMoves
+body-moves s s′ mode cap depth parent at at′ size n f i l room q d =
+    let o = body-exactly s mode cap depth parent at size n f i room .0 d in
+    body-read s′ mode cap depth parent at′ size n f
+    (record {
+      stands = stands-moves s s′ parent at at′ f l (rw (o .taken) q) (o .stands);
+      taken = o .taken;
+      low = o .low;
+      free = o .free;
+    })
 
 pub own-bytes : OwnBytes
 own-bytes s s′ start size parent t u n t′ r u′ same args long p q =

@@ -117,6 +117,12 @@ module _ (s : List ℕ) where
       } in
       rw (a, u) (omega arith, stands-node parent at (elementOf parent h) none t (i .1) (omega arith)))
 
+  -- An element that was read takes a byte at least.
+  pub element-takes : (mode : Mode) (cap levels parent at n : ℕ) (f : Forest)
+      → element s mode cap levels parent at n ≡ done f → 1 ≤ span f
+  unfolding Reads
+  element-takes mode cap levels parent at n f q = element-stands mode cap levels parent at n f q .0
+
   -- A master's body that was read takes up its size, and stands.
   pub body-stands : (mode : Mode) (cap depth parent at size n : ℕ) (f : Forest) → at ≤ length s
       → masterBody s mode cap depth parent at size n ≡ done f → (span f ≡ size) × Stands s parent at f

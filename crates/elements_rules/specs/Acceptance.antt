@@ -7,7 +7,7 @@ use mathlib.Core.Bool.{true}
 use lib.ListN.{length, take, drop}
 use Rattle.elements_rules.specs.Forest.{Forest, span, count, deep}
 use Rattle.elements_rules.specs.Reading.{done, depths, masterBody}
-use Rattle.elements_rules.specs.Rows.{rows, width, flatten, rowsOf}
+use Rattle.elements_rules.specs.Rows.{rowsAt, width, flatten, rowsOf}
 use Rattle.elements_rules.specs.Stands.{Stands}
 use Rattle.elements_rules.specs.Promise.{allowed, zeros, ReadPromise}
 use Rattle.elements_rules.specs.declared.row.Row.{Row}
@@ -27,7 +27,7 @@ pub record Acceptable (s : List ℕ) (start size parent : ℕ) (t : List ℕ) (n
   pub low : deep forest ≤ depths
   pub number : n ≡ count forest
   pub fits : n ≤ length t / width
-  pub table : t′ ≡ flatten (rows 0 0 start 0 forest) ++ zeros (length t - n * width)
+  pub table : t′ ≡ flatten (rowsAt start forest) ++ zeros (length t - n * width)
 
 -- A read is accepted exactly if that holds, and then with just these rows. It shuts out a reader that refuses more than
 -- it has to: an element of depth 15, the last row of the table, a master without children.
@@ -39,7 +39,7 @@ AcceptedExactly =
 
 -- A tree for the reader of a master's body, whose elements have that depth, with n of `cap` rows taken: it stands
 -- there, takes up the size, has no more depths than are left and, where rows are kept, finds them free.
-pub record Readable (s : List ℕ) (mode : Mode) (cap depth parent at size n : ℕ) (f : Forest) : Type 0 where
+pub record ReadableTree (s : List ℕ) (mode : Mode) (cap depth parent at size n : ℕ) (f : Forest) : Type 0 where
   pub stands : Stands s parent at f
   pub taken : span f ≡ size
   pub low : deep f ≤ depths - depth
@@ -51,8 +51,8 @@ abbrev pub BodyExactly : Type 0
 BodyExactly =
     (s : List ℕ) (mode : Mode) (cap depth parent at size n : ℕ) (f : Forest) → at ≤ length s
     → (mode .keep ≡ true → n ≤ cap)
-    → (masterBody s mode cap depth parent at size n ≡ done f → Readable s mode cap depth parent at size n f)
-    × (Readable s mode cap depth parent at size n f → masterBody s mode cap depth parent at size n ≡ done f)
+    → (masterBody s mode cap depth parent at size n ≡ done f → ReadableTree s mode cap depth parent at size n f)
+    × (ReadableTree s mode cap depth parent at size n f → masterBody s mode cap depth parent at size n ≡ done f)
 
 -- ---- a payload's own bytes
 
@@ -84,8 +84,8 @@ elsewhere start start′ r =
 -- The n rows of two tables are those of one tree, so that they are equal but for the addresses.
 pub record OneTree (start start′ n : ℕ) (t′ u′ : List ℕ) : Type 0 where
   pub forest : Forest
-  pub here : rowsOf t′ n ≡ rows 0 0 start 0 forest
-  pub there : rowsOf u′ n ≡ rows 0 0 start′ 0 forest
+  pub here : rowsOf t′ n ≡ rowsAt start forest
+  pub there : rowsOf u′ n ≡ rowsAt start′ forest
   pub moved : rowsOf u′ n ≡ map (elsewhere start start′) (rowsOf t′ n)
 
 -- An accepted payload's bytes stand at another place, of this or another recording. There they are accepted too, under
@@ -98,3 +98,10 @@ Moves =
     → n ≤ length u / width
     → ReadPromise s start size parent t (Rows n) t′ → ReadPromise s′ start′ size parent u r u′
     → (r ≡ Rows n) × OneTree start start′ n t′ u′
+
+-- The same of a master's body, with rows or without: a seek head that is copied to another place has the same entries.
+abbrev pub BodyMoves : Type 0
+BodyMoves =
+    (s s′ : List ℕ) (mode : Mode) (cap depth parent at at′ size n : ℕ) (f : Forest) → at ≤ length s → at′ ≤ length s′
+    → (mode .keep ≡ true → n ≤ cap) → take size (drop at s) ≡ take size (drop at′ s′)
+    → masterBody s mode cap depth parent at size n ≡ done f → masterBody s′ mode cap depth parent at′ size n ≡ done f

@@ -5,10 +5,9 @@ use mathlib.Core.Path.{_≡_}
 use mathlib.Core.List.{List, [], _∷_}
 use lib.IntN.{pos, negsuc}
 use Rattle.refusals.specs.Refusals.{because}
-use Rattle.refusals.specs.Reply.{Reply, accepted, refusal}
-use Rattle.refusals.specs.declared.refusal.Cause.the-variants.{PastEnd, InvalidId, InvalidSize, Overrun}
-use Rattle.refusals.specs.declared.refusal.Cause.the-variants.{InvalidFloat, InvalidDate, NotUtf8}
-use Rattle.header.specs.Header.{Heading, heading, refused, headerOf}
+use Rattle.refusals.specs.Reply.{Reply, refusal, Numbered, given, refused, numbered}
+use Rattle.header.specs.Header.{Heading, heading, headerOf}
+use Rattle.header.specs.Header.{refused as refusedHeader}
 use Rattle.header.specs.Promise.{headerReply}
 use Rattle.header.specs.declared.cursor.Header.{Header}
 use Rattle.bodies_rules.specs.Promise.{bodyReply}
@@ -21,19 +20,19 @@ use Rattle.elements_rules.specs.Promise.{readOf, replyOf, zeros, tableOf
 -- Each case has the number behind its P.
 pub data Case : Type 0 where
   -- the header at 0
-  header : ℕ → List ℕ → Reply Header → Case
+  header : (name : ℕ) → List ℕ → Numbered Header → Case
   -- the body behind the header at 0, under no parent
-  body : ℕ → List ℕ → Reply Body → Case
+  body : (name : ℕ) → List ℕ → Numbered Body → Case
   -- the elements of a payload at 0, of a size and under a parent id, into a table of two rows: the reply, and the table
-  read : ℕ → List ℕ → ℕ → ℕ → Reply ℕ → List ℕ → Case
+  read : (name : ℕ) → List ℕ → (size parent : ℕ) → Numbered ℕ → List ℕ → Case
 
 -- Two rows.
 abbrev pub numbers : ℕ
 numbers = 2 * width
 
 -- A header with that id, size and length.
-abbrev is : ℕ → ℕ → ℕ → Reply Header
-is id size length = accepted (record { id = id; size = size; length = length })
+abbrev is : (id size length : ℕ) → Numbered Header
+is id size length = given (record { id = id; size = size; length = length })
 
 abbrev pub cases : List Case
 cases =
@@ -42,36 +41,34 @@ cases =
     ∷ header 3 (0x1A ∷ 0x45 ∷ 0xDF ∷ 0xA3 ∷ 0x40 ∷ 0x02 ∷ []) (is 0x1A45DFA3 2 6)
     ∷ header 4 (0x18 ∷ 0x53 ∷ 0x80 ∷ 0x67 ∷ 0x01 ∷ 0xFF ∷ 0xFF ∷ 0xFF ∷ 0xFF ∷ 0xFF ∷ 0xFF ∷ 0xFF ∷ [])
     (is 0x18538067 (2 ^ 56 - 1) 12)
-    ∷ header 5 (0x0F ∷ 0x80 ∷ []) (refusal (because InvalidId))
-    ∷ header 5 (0x00 ∷ 0x01 ∷ []) (refusal (because InvalidId))
-    ∷ header 6 (0x00 ∷ 0x00 ∷ []) (refusal (because PastEnd))
-    ∷ header 6 (0xAE ∷ []) (refusal (because PastEnd))
-    ∷ header 6 (0xAE ∷ 0x00 ∷ []) (refusal (because PastEnd))
-    ∷ header 7 (0xAE ∷ 0x00 ∷ 0x01 ∷ []) (refusal (because InvalidSize))
-    ∷ body 8 (0xFB ∷ 0x81 ∷ 0xFF ∷ []) (accepted (Value (Integer (negsuc 0))))
-    ∷ body 8 (0xFB ∷ 0x82 ∷ 0x00 ∷ 0x80 ∷ []) (accepted (Value (Integer (pos 128))))
-    ∷ body 9 (0xB5 ∷ 0x80 ∷ []) (refusal (because InvalidFloat))
-    ∷ body 9 (0x44 ∷ 0x61 ∷ 0x87 ∷ []) (refusal (because InvalidDate))
-    ∷ body 10 (0x45 ∷ 0xA3 ∷ 0x82 ∷ 0xC0 ∷ 0x80 ∷ []) (refusal (because NotUtf8))
-    ∷ body 10 (0x45 ∷ 0xA3 ∷ 0x83 ∷ 0xED ∷ 0xA0 ∷ 0x80 ∷ []) (refusal (because NotUtf8))
-    ∷ read 11 (0x67 ∷ 0xC8 ∷ 0x84 ∷ 0x45 ∷ 0xA3 ∷ 0x82 ∷ 0x41 ∷ 0x42 ∷ []) 7 0
-    (refusal (because Overrun)) (zeros numbers)
-    ∷ read 11 (0x67 ∷ 0xC8 ∷ 0x84 ∷ 0x45 ∷ 0xA3 ∷ 0x82 ∷ 0x41 ∷ []) 7 0 (refusal (because PastEnd))
-    (zeros numbers)
-    ∷ read 12 (0x16 ∷ 0x54 ∷ 0xAE ∷ 0x6B ∷ 0x82 ∷ 0xE0 ∷ 0x80 ∷ []) 7 0x18538067 (accepted 2)
+    ∷ header 5 (0x0F ∷ 0x80 ∷ []) (refused 2 0)
+    ∷ header 5 (0x00 ∷ 0x01 ∷ []) (refused 2 0)
+    ∷ header 6 (0x00 ∷ 0x00 ∷ []) (refused 1 0)
+    ∷ header 6 (0xAE ∷ []) (refused 1 0)
+    ∷ header 6 (0xAE ∷ 0x00 ∷ []) (refused 1 0)
+    ∷ header 7 (0xAE ∷ 0x00 ∷ 0x01 ∷ []) (refused 3 0)
+    ∷ body 8 (0xFB ∷ 0x81 ∷ 0xFF ∷ []) (given (Value (Integer (negsuc 0))))
+    ∷ body 8 (0xFB ∷ 0x82 ∷ 0x00 ∷ 0x80 ∷ []) (given (Value (Integer (pos 128))))
+    ∷ body 9 (0xB5 ∷ 0x80 ∷ []) (refused 5 0)
+    ∷ body 9 (0x44 ∷ 0x61 ∷ 0x87 ∷ []) (refused 6 0)
+    ∷ body 10 (0x45 ∷ 0xA3 ∷ 0x82 ∷ 0xC0 ∷ 0x80 ∷ []) (refused 7 0)
+    ∷ body 10 (0x45 ∷ 0xA3 ∷ 0x83 ∷ 0xED ∷ 0xA0 ∷ 0x80 ∷ []) (refused 7 0)
+    ∷ read 11 (0x67 ∷ 0xC8 ∷ 0x84 ∷ 0x45 ∷ 0xA3 ∷ 0x82 ∷ 0x41 ∷ 0x42 ∷ []) 7 0 (refused 3 0) (zeros numbers)
+    ∷ read 11 (0x67 ∷ 0xC8 ∷ 0x84 ∷ 0x45 ∷ 0xA3 ∷ 0x82 ∷ 0x41 ∷ []) 7 0 (refused 1 0) (zeros numbers)
+    ∷ read 12 (0x16 ∷ 0x54 ∷ 0xAE ∷ 0x6B ∷ 0x82 ∷ 0xE0 ∷ 0x80 ∷ []) 7 0x18538067 (given 2)
     (0x1654AE6B ∷ 0 ∷ 0 ∷ 5 ∷ 2 ∷ 1 ∷ 0 ∷ 2 ∷ 0xE0 ∷ 1 ∷ 5 ∷ 2 ∷ 0 ∷ 6 ∷ 1 ∷ 2 ∷ [])
     ∷ []
 
 -- The body behind a header that was read at 0.
 abbrev pub bodyBehind : List ℕ → Heading → Reply Body
 bodyBehind s (heading h) = bodyReply s (h .id) 0 (h .length) (h .size)
-bodyBehind s (refused cause) = refusal (because cause)
+bodyBehind s (refusedHeader cause) = refusal (because cause)
 
 abbrev pub Holds : Case → Type 0
-Holds (header name s reply) = headerReply s 0 ≡ reply
-Holds (body name s reply) = bodyBehind s (headerOf s) ≡ reply
+Holds (header name s reply) = numbered (headerReply s 0) ≡ reply
+Holds (body name s reply) = numbered (bodyBehind s (headerOf s)) ≡ reply
 Holds (read name s size parent reply table) =
-    (replyOf (readOf s 0 size parent numbers) ≡ reply)
+    (numbered (replyOf (readOf s 0 size parent numbers)) ≡ reply)
     × (tableOf 0 numbers (readOf s 0 size parent numbers) ≡ table)
 
 -- The one statement: each case's question has the case's reply.

@@ -10,7 +10,7 @@ use Rattle.refusals.specs.Refusals.{badArgument}
 use Rattle.refusals.specs.Reply.{Reply, accepted, refusal}
 use Rattle.elements_rules.specs.Forest.{count}
 use Rattle.elements_rules.specs.Reading.{Outcome, done, refused, refuseIf, masterBody}
-use Rattle.elements_rules.specs.Rows.{rows, width, flatten}
+use Rattle.elements_rules.specs.Rows.{rowsAt, width, flatten}
 use Rattle.elements_rules.specs.declared.row.Mode.{Mode}
 use Rattle.elements_rules.specs.declared.reply.ReadReply.{ReadReply}
 use Rattle.elements_rules.specs.declared.reply.ReadReply.the-variants.{Rows, Refused}
@@ -51,7 +51,7 @@ zeros n = replicate n 0
 
 -- The table: the rows and zeros beyond the last; after a refusal zeros alone.
 unfoldable pub tableOf : (start numbers : ℕ) → Outcome → List ℕ
-tableOf start numbers (done f) = flatten (rows 0 0 start 0 f) ++ zeros (numbers - count f * width)
+tableOf start numbers (done f) = flatten (rowsAt start f) ++ zeros (numbers - count f * width)
 tableOf start numbers (refused e) = zeros numbers
 
 -- Document 01's value for each case of `ReadReply`: the count of rows, or the refusal.

@@ -49,8 +49,8 @@ abbrev pub elementHeader : List ℕ → ℕ → Heading
 elementHeader s at = headerOf (drop at s)
 
 -- The same as the code tells it.
-abbrev pub elementRead : List ℕ → ℕ → HeaderRead
-elementRead s at = headerRead at (elementHeader s at)
+abbrev pub elementHeaderRead : List ℕ → ℕ → HeaderRead
+elementHeaderRead s at = headerRead at (elementHeader s at)
 
 -- What follows a header that was read.
 abbrev pub headed : Heading → (Header → Outcome) → Outcome
@@ -68,7 +68,7 @@ unfoldable pub full : Mode → ℕ → ℕ → Bool
 full mode cap n = (mode .keep) && leb cap n
 
 -- Elements one after another at a place, until the bytes that are left are used up; n rows stand before them. `read`
--- reads one of them. Each takes a byte at least, so there are no more elements than bytes: `most` is that bound.
+-- reads one of them. Each takes a byte at least: `most` bounds how many there are.
 unfoldable pub siblings : (read : ℕ → ℕ → Outcome) → (most at left n : ℕ) → Outcome
 siblings read zero at left n = done none
 siblings read (suc most) at left n =

@@ -30,6 +30,10 @@ rows parent depth at n (node e kids rest) =
     ∷ (rows (n + 1) (depth + 1) (at + e .header .length) (n + 1) kids
     ++ rows parent depth (at + whole e) (n + 1 + count kids) rest)
 
+-- The rows of a payload that begins at an address: its own elements have no parent and depth 0, and the first is row 0.
+abbrev pub rowsAt : ℕ → Forest → List Row
+rowsAt at f = rows 0 0 at 0 f
+
 -- How many numbers a row has.
 abbrev pub width : ℕ
 width = 8

@@ -1,10 +1,12 @@
 -- What is proved of the definitions beside the contracts: the statements of the theorems.
-use Prim.Native.Nat.{ℕ, suc, _+_, _/_, _≤_, _<_}
+use Prim.Native.Nat.{ℕ, suc, _+_, _-_, _/_, _≤_, _<_}
 use mathlib.Core.Path.{_≡_}
 use mathlib.Core.List.{List, [], _∷_, _++_}
 use mathlib.Core.Logic.{_⊎_}
-use mathlib.Core.Bool.{true}
+use mathlib.Core.Bool.{true, cond}
 use lib.ListN.{length, take, drop}
+use lib.Dec.{ltb, eqb}
+use Rattle.refusals.specs.Refusals.{overrun}
 use Rattle.refusals.specs.Theorems.{Listed}
 use Rattle.refusals.specs.declared.refusal.Refusal.{Refusal}
 use Rattle.header.specs.Reads.{headedAt, headerAt}
@@ -13,13 +15,14 @@ use Rattle.header.specs.declared.cursor.HeaderRead.the-variants.{Read}
 use Rattle.kinds.specs.Entries.{kindOf}
 use Rattle.kinds.specs.Kinds.{numberOf, kindUnder}
 use Rattle.bodies_rules.specs.Bodies.{bodyOf}
-use Rattle.elements_rules.specs.Forest.{Forest, span, count}
-use Rattle.elements_rules.specs.Reading.{depths}
-use Rattle.elements_rules.specs.Rows.{rows, width, rowsOf, nth, payloadOf}
+use Rattle.elements_rules.specs.Forest.{Forest, none, span, count}
+use Rattle.elements_rules.specs.Reading.{done, andThen, prepend, refuseIf, depths, element, masterBody}
+use Rattle.elements_rules.specs.Rows.{rowsAt, width, rowsOf, nth, payloadOf}
 use Rattle.elements_rules.specs.Stands.{IsValue, Stands}
 use Rattle.elements_rules.specs.Holds.{isLeaf, holders}
 use Rattle.elements_rules.specs.Promise.{ReadPromise}
 use Rattle.elements_rules.specs.declared.row.Row.{Row}
+use Rattle.elements_rules.specs.declared.row.Mode.{Mode}
 use Rattle.elements_rules.specs.declared.reply.ReadReply.{ReadReply}
 use Rattle.elements_rules.specs.declared.reply.ReadReply.the-variants.{Rows, Refused}
 
@@ -74,7 +77,7 @@ pub record Tree (s : List ℕ) (start size parent n : ℕ) (t′ : List ℕ) : T
   pub stands : Stands s parent start forest
   pub taken : span forest ≡ size
   pub number : n ≡ count forest
-  pub preorder : rowsOf t′ n ≡ rows 0 0 start 0 forest
+  pub preorder : rowsOf t′ n ≡ rowsAt start forest
 
 abbrev pub ReadsATree : Type 0
 ReadsATree =
@@ -124,3 +127,15 @@ abbrev pub RowsFit : Type 0
 RowsFit =
     (s : List ℕ) (start size parent : ℕ) (t : List ℕ) (n : ℕ) (t′ : List ℕ)
     → ReadPromise s start size parent t (Rows n) t′ → (n ≤ length t / width) × (length t′ ≡ length t)
+
+-- ---- the bound of the definition
+
+-- There are never more elements than bytes, so that a master's body is one element after another, with no bound.
+abbrev pub BodyUnfolds : Type 0
+BodyUnfolds =
+    (s : List ℕ) (mode : Mode) (cap depth parent at size n : ℕ)
+    → masterBody s mode cap depth parent at size n
+    ≡ cond (eqb size 0) (done none)
+    (andThen (element s mode cap (depths - depth) parent at n) (λ f.
+    refuseIf (ltb size (span f)) overrun
+    (prepend f (masterBody s mode cap depth parent (at + span f) (size - span f) (n + count f)))))

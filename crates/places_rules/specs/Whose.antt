@@ -6,7 +6,7 @@ use Rattle.refusals.specs.Refusals.{badArgument, outside}
 use Rattle.refusals.specs.Reply.{Reply, accepted, refusal}
 use Rattle.elements_rules.specs.Forest.{count}
 use Rattle.elements_rules.specs.Reading.{Outcome, done, refused, refuseIf}
-use Rattle.elements_rules.specs.Rows.{rows}
+use Rattle.elements_rules.specs.Rows.{rowsAt}
 use Rattle.elements_rules.specs.Holds.{within, inHeader, inLeaf}
 use Rattle.elements_rules.specs.Promise.{allowed, filled}
 use Rattle.elements_rules.specs.declared.row.Row.{Row}
@@ -41,5 +41,5 @@ askedOf s start size parent x numbers =
     (filled s start size parent numbers))
 
 abbrev pub whoseOf : (start x : ℕ) → Outcome → Reply Whose
-whoseOf start x (done f) = whoseIn (rows 0 0 start 0 f) 0 (count f) x
+whoseOf start x (done f) = whoseIn (rowsAt start f) 0 (count f) x
 whoseOf start x (refused e) = refusal e

@@ -4,12 +4,11 @@ use Prim.Native.Nat.{ℕ, _*_}
 use mathlib.Core.Path.{_≡_}
 use mathlib.Core.List.{List, [], _∷_, _++_}
 use Rattle.elements_rules.specs.Rows.{width}
-use Rattle.refusals.specs.Refusals.{pastEnd, overrun, invalidSeekHead, staleEntry, headAgain, badArgument}
-use Rattle.refusals.specs.Reply.{Reply, accepted, refusal}
+use Rattle.refusals.specs.Reply.{Numbered, given, refused, numbered}
 use Rattle.search_rules.specs.Part.{searchOf, PartTold, foundPart, absentPart, replyOf}
 
 pub data Case : Type 0 where
-  search : (bytes : List ℕ) (part : ℕ) → Reply PartTold → Case
+  search : (bytes : List ℕ) (part : ℕ) → Numbered PartTold → Case
 
 -- Three rows.
 abbrev pub numbers : ℕ
@@ -28,8 +27,8 @@ abbrev tags : ℕ
 tags = 0x1254C367
 
 -- A part that is absent after so many heads.
-abbrev absentAfter : ℕ → Reply PartTold
-absentAfter heads = accepted (absentPart heads)
+abbrev absentAfter : ℕ → Numbered PartTold
+absentAfter heads = given (absentPart heads)
 
 -- A segment with a seek head that has one entry: the id's four bytes, and position 0.
 abbrev withEntry : List ℕ → List ℕ
@@ -59,35 +58,35 @@ tooFarAway =
 abbrev pub cases : List Case
 cases =
     -- A seek head that names itself: 10 for every part.
-    search namingItself tracks (refusal headAgain)
-    ∷ search namingItself attachments (refusal headAgain)
-    ∷ search namingItself chapters (refusal headAgain)
-    ∷ search namingItself tags (refusal headAgain)
+    search namingItself tracks (refused 10 0)
+    ∷ search namingItself attachments (refused 10 0)
+    ∷ search namingItself chapters (refused 10 0)
+    ∷ search namingItself tags (refused 10 0)
     -- The entry for Tags leads to the head: 9 for Tags, the others are absent.
-    ∷ search stale tags (refusal staleEntry)
+    ∷ search stale tags (refused 9 0)
     ∷ search stale tracks (absentAfter 1)
     ∷ search stale attachments (absentAfter 1)
     ∷ search stale chapters (absentAfter 1)
     -- Tags is found with three rows, the others are absent.
-    ∷ search listing tags (accepted (foundPart 29 10 3 1))
+    ∷ search listing tags (given (foundPart 29 10 3 1))
     ∷ search listing tracks (absentAfter 1)
     ∷ search listing attachments (absentAfter 1)
     ∷ search listing chapters (absentAfter 1)
     -- 8 for a linked head carries the head's own id.
-    ∷ search tooFarAway tags (refusal (invalidSeekHead 0x114D9B74))
+    ∷ search tooFarAway tags (refused 8 0x114D9B74)
     -- An inner place past the end is 1.
-    ∷ search (0xEC ∷ 0x81 ∷ []) tags (refusal pastEnd)
-    ∷ search (0x18 ∷ 0x53 ∷ 0x80 ∷ 0x67 ∷ 0x84 ∷ 0xEC ∷ 0x81 ∷ []) tags (refusal pastEnd)
+    ∷ search (0xEC ∷ 0x81 ∷ []) tags (refused 1 0)
+    ∷ search (0x18 ∷ 0x53 ∷ 0x80 ∷ 0x67 ∷ 0x84 ∷ 0xEC ∷ 0x81 ∷ []) tags (refused 1 0)
     -- Skipped bytes need not exist.
     ∷ search (0x18 ∷ 0x53 ∷ 0x80 ∷ 0x67 ∷ 0x84 ∷ 0xEC ∷ 0x82 ∷ []) tags (absentAfter 0)
     -- A child that is passed over and overruns the segment is 3.
-    ∷ search (0x18 ∷ 0x53 ∷ 0x80 ∷ 0x67 ∷ 0xFF ∷ 0xEC ∷ 0xFF ∷ []) tags (refusal overrun)
+    ∷ search (0x18 ∷ 0x53 ∷ 0x80 ∷ 0x67 ∷ 0xFF ∷ 0xEC ∷ 0xFF ∷ []) tags (refused 3 0)
     -- None of the four parts.
-    ∷ search listing 0x1549A966 (refusal badArgument)
+    ∷ search listing 0x1549A966 (refused 14 0)
     ∷ []
 
 abbrev pub Holds : Case → Type 0
-Holds (search s part reply) = replyOf (searchOf s part numbers) ≡ reply
+Holds (search s part reply) = numbered (replyOf (searchOf s part numbers)) ≡ reply
 
 -- The one statement: each search has the case's reply.
 abbrev pub Hold : List Case → Type 0

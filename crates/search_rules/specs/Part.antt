@@ -50,7 +50,7 @@ onLookup (stoppedAt e) next = refused e
 -- The search for a part with a table of so many numbers (document 01, Seek tables and the search): 14 for the lengths
 -- (no start is given) and for the part; then the walk; then the part's payload, read as the public read would fill the
 -- table.
-unfoldable pub searchOf : List ℕ → ℕ → ℕ → Search
+unfoldable pub searchOf : List ℕ → (part numbers : ℕ) → Search
 searchOf s part numbers =
     cond (not (allowed s 0 numbers)) (refused badArgument)
     (onParent (parentOf part) (refused badArgument) (λ parent.
