@@ -8,7 +8,7 @@ use Rattle.bodies_rules.specs.declared.body.Range.{Range}
 use Rattle.kinds.specs.declared.kind.Kind.the-variants.{Master}
 use Rattle.elements_rules.specs.declared.row.Row.{Row}
 use Rattle.fields_rules.specs.Children.{subtree, children, nthOf}
-use Rattle.fields_rules.specs.Values.{Value, unset, contentIn, rangeIn}
+use Rattle.fields_rules.specs.Values.{FieldValue, unset, contentIn, rangeIn}
 use Rattle.fields_rules.specs.Fields.{contentOf}
 use Rattle.fields_rules.specs.Told.{contentTold}
 use Rattle.fields_rules.specs.declared.child.Child.{Child}
@@ -56,14 +56,14 @@ module _ (s : List ℕ) (rs : List Row) (j n : ℕ) (r : Row) (ds : List Child) 
 -- ---- by the strings of the displays
 
 -- The first of values that is set, counted from number `from` on.
-data FirstSet (v : ℕ → Value) (from : ℕ) : FirstString → Type 0 where
+data FirstSet (v : ℕ → FieldValue) (from : ℕ) : FirstString → Type 0 where
   none : ((m : ℕ) → v m ≡ unset) → FirstSet v from Absent
   some :
       (k j : ℕ) (g : Range) → k ≡ from + j → v j ≡ contentTold (SetAt g) → ((m : ℕ) → m < j → v m ≡ unset)
       → FirstSet v from (At k g)
 
 module _ (s : List ℕ) (rs : List Row) where
-  abbrev strings : List Child → ℕ → Value
+  abbrev strings : List Child → ℕ → FieldValue
   strings ds m = contentIn (stringRow s rs (nthOf m ds))
 
   module _ (d : Child) (ds : List Child) (from : ℕ) where
@@ -88,7 +88,7 @@ module _ (s : List ℕ) (rs : List Row) where
   first-set (d ∷ ds) from = set-first d ds from (stringRow s rs d) refl _ (first-set ds (from + 1))
 
 -- What is the first of values is the first of the strings that they tell.
-told-first : (v : ℕ → Value) (told : ℕ → Content) → ((m : ℕ) → contentTold (told m) ≡ v m) → (f : FirstString)
+told-first : (v : ℕ → FieldValue) (told : ℕ → Content) → ((m : ℕ) → contentTold (told m) ≡ v m) → (f : FirstString)
     → FirstSet v 0 f → First told f
 told-first v told w _ (none u) =
     record {

@@ -4,23 +4,20 @@ use Prim.Native.Nat.{ℕ}
 use mathlib.Core.List.{List, [], _∷_}
 use mathlib.Core.Bool.{true}
 use lib.ListN.{length}
-use Rattle.refusals.specs.Refusals.{because, noRecord}
-use Rattle.refusals.specs.declared.refusal.Cause.the-variants.{InvalidUint}
 use Rattle.fields_rules.specs.Values.{unset, number, flag, content, iso, ietf, count}
-use Rattle.locate_rules.specs.Told.{Answer, fields, refusal}
 use Rattle.locate_rules.specs.Promise.{answerOf, ofBelow}
-use Rattle.locate_rules.specs.Cases.{Case, case, numbers}
+use Rattle.locate_rules.specs.Cases.{numbers, Due, told, refused, Case, case}
 use Rattle.chapters.specs.Records.{editionOf, chapterOf, displayOf}
 use Rattle.chapters.specs.Promise.{editionAsked, chapterAsked, displayAsked}
 
 -- The questions, of a whole payload: the indices, and the answer.
-abbrev edition : List ℕ → ℕ → Answer → Case
+abbrev edition : List ℕ → (k : ℕ) → Due → Case
 edition s k a = case (answerOf (ofBelow (editionOf s)) (editionAsked s 0 (length s) k numbers)) a
 
-abbrev chapter : List ℕ → ℕ → ℕ → Answer → Case
+abbrev chapter : List ℕ → (k i : ℕ) → Due → Case
 chapter s k i a = case (answerOf (ofBelow (chapterOf s)) (chapterAsked s 0 (length s) k i numbers)) a
 
-abbrev display : List ℕ → ℕ → ℕ → ℕ → Answer → Case
+abbrev display : List ℕ → (k i j : ℕ) → Due → Case
 display s k i j a = case (answerOf (ofBelow (displayOf s)) (displayAsked s 0 (length s) k i j numbers)) a
 
 -- An edition whose hidden flag is 2.
@@ -48,18 +45,18 @@ emptyString =
 abbrev pub cases : List Case
 cases =
     -- Any number but 0 is yes; a flag that is not there is unset.
-    edition flagOfTwo 0 (fields (unset ∷ flag true ∷ unset ∷ unset ∷ count 0 ∷ []) 2)
+    edition flagOfTwo 0 (told (unset ∷ flag true ∷ unset ∷ unset ∷ count 0 ∷ []) 2)
     -- There is no second edition.
-    ∷ edition flagOfTwo 1 (refusal noRecord)
+    ∷ edition flagOfTwo 1 (refused 15 0)
     -- The last child sets a field; an atom inside is passed over.
     ∷ chapter nestedAtom 0 0
-    (fields (unset ∷ number 2 ∷ unset ∷ unset ∷ unset ∷ unset ∷ unset ∷ count 0 ∷ []) 7)
-    ∷ chapter nestedAtom 0 1 (refusal noRecord)
+    (told (unset ∷ number 2 ∷ unset ∷ unset ∷ unset ∷ unset ∷ unset ∷ count 0 ∷ []) 7)
+    ∷ chapter nestedAtom 0 1 (refused 15 0)
     -- A set empty string is set; an ISO 639 language never replaces an IETF one.
-    ∷ display emptyString 0 0 0 (fields (content 9 0 ∷ ietf 12 1 ∷ []) 6)
+    ∷ display emptyString 0 0 0 (told (content 9 0 ∷ ietf 12 1 ∷ []) 6)
     -- The first display has no string; the second has one.
-    ∷ display twoDisplays 0 0 0 (fields (unset ∷ unset ∷ []) 6)
-    ∷ display twoDisplays 0 0 1 (fields (content 11 1 ∷ iso 15 1 ∷ []) 6)
+    ∷ display twoDisplays 0 0 0 (told (unset ∷ unset ∷ []) 6)
+    ∷ display twoDisplays 0 0 1 (told (content 11 1 ∷ iso 15 1 ∷ []) 6)
     -- The read's refusals come before 15: here a number of 9 bytes, and no second edition.
-    ∷ edition (0x45 ∷ 0xB9 ∷ 0x83 ∷ 0x45 ∷ 0xBC ∷ 0x89 ∷ []) 1 (refusal (because InvalidUint))
+    ∷ edition (0x45 ∷ 0xB9 ∷ 0x83 ∷ 0x45 ∷ 0xBC ∷ 0x89 ∷ []) 1 (refused 4 0)
     ∷ []

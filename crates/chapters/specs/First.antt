@@ -4,7 +4,7 @@ use mathlib.Core.List.{List, [], _∷_}
 use Rattle.kinds.specs.declared.kind.Kind.the-variants.{Master, Utf8}
 use Rattle.elements_rules.specs.declared.row.Row.{Row}
 use Rattle.fields_rules.specs.Children.{subtree, children}
-use Rattle.fields_rules.specs.Values.{Value, rangeIn}
+use Rattle.fields_rules.specs.Values.{FieldValue, rangeIn}
 use Rattle.fields_rules.specs.Fields.{lastChild, contentOf}
 use Rattle.fields_rules.specs.declared.child.Child.{Child}
 use Rattle.fields_rules.specs.declared.child.Child.the-variants.{At as ChildAt, Absent as NoChild}
@@ -14,7 +14,7 @@ use Rattle.chapters.specs.declared.first.FirstString.the-variants.{Absen
 -- Of displays among the rows that were read.
 module _ (s : List ℕ) (rs : List Row) where
   -- The string of the display in row n, and the row that sets it.
-  abbrev pub stringOf : ℕ → Value
+  abbrev pub stringOf : ℕ → FieldValue
   stringOf n = contentOf s (suc n) (subtree rs (suc n)) 0x85 Utf8
 
   abbrev pub stringRow : Child → Child

@@ -17,25 +17,25 @@ use Rattle.chapters.specs.declared.display.DisplayReply.{DisplayReply}
 -- Each reads the payload under 45B9, the id that document 01, Kinds, gives for Chapters, so that the full set of
 -- masters holds for its direct children; then a step for each level.
 module _ (s : List ℕ) (start size k : ℕ) where
-  abbrev pub editionAsked : ℕ → Asked
+  abbrev pub editionAsked : (numbers : ℕ) → Asked
   editionAsked numbers = asked s start size 0x45B9 numbers (way (Nth 0x45B9 k) Here Here)
 
-  abbrev pub chapterAsked : ℕ → ℕ → Asked
+  abbrev pub chapterAsked : (i numbers : ℕ) → Asked
   chapterAsked i numbers = asked s start size 0x45B9 numbers (way (Nth 0x45B9 k) (Nth 0xB6 i) Here)
 
-  abbrev pub displayAsked : ℕ → ℕ → ℕ → Asked
+  abbrev pub displayAsked : (i j numbers : ℕ) → Asked
   displayAsked i j numbers = asked s start size 0x45B9 numbers (way (Nth 0x45B9 k) (Nth 0xB6 i) (Nth 0x80 j))
 
 -- ---- the promises
 
-abbrev pub EditionPromise : List ℕ → ℕ → ℕ → ℕ → List ℕ → EditionReply → List ℕ → Type 0
+abbrev pub EditionPromise : (s : List ℕ) (start size k : ℕ) (t : List ℕ) (r : EditionReply) (t′ : List ℕ) → Type 0
 EditionPromise s start size k t r t′ =
     RecordPromise (ofBelow (editionOf s)) (editionAsked s start size k (length t)) (length t) (editionTold r) t′
 
-abbrev pub ChapterPromise : List ℕ → ℕ → ℕ → ℕ → ℕ → List ℕ → ChapterReply → List ℕ → Type 0
+abbrev pub ChapterPromise : (s : List ℕ) (start size k i : ℕ) (t : List ℕ) (r : ChapterReply) (t′ : List ℕ) → Type 0
 ChapterPromise s start size k i t r t′ =
     RecordPromise (ofBelow (chapterOf s)) (chapterAsked s start size k i (length t)) (length t) (chapterTold r) t′
 
-abbrev pub DisplayPromise : List ℕ → ℕ → ℕ → ℕ → ℕ → ℕ → List ℕ → DisplayReply → List ℕ → Type 0
+abbrev pub DisplayPromise : (s : List ℕ) (start size k i j : ℕ) (t : List ℕ) (r : DisplayReply) (t′ : List ℕ) → Type 0
 DisplayPromise s start size k i j t r t′ =
     RecordPromise (ofBelow (displayOf s)) (displayAsked s start size k i j (length t)) (length t) (displayTold r) t′

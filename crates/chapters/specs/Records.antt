@@ -4,12 +4,12 @@ use Prim.Native.Nat.{ℕ}
 use mathlib.Core.List.{List, [], _∷_}
 use Rattle.kinds.specs.declared.kind.Kind.the-variants.{Master, Utf8, Binary}
 use Rattle.elements_rules.specs.declared.row.Row.{Row}
-use Rattle.fields_rules.specs.Values.{Value}
+use Rattle.fields_rules.specs.Values.{FieldValue}
 use Rattle.fields_rules.specs.Fields.{numberOf, flagOf, contentOf, languageOf, countOf}
 
 -- Of a master in a recording, with the rows below it.
 module _ (s : List ℕ) (parent : ℕ) (below : List Row) where
-  unfoldable pub editionOf : List Value
+  unfoldable pub editionOf : List FieldValue
   editionOf =
       numberOf s parent below 0x45BC  -- uid
       ∷ flagOf s parent below 0x45BD  -- hidden
@@ -19,7 +19,7 @@ module _ (s : List ℕ) (parent : ℕ) (below : List Row) where
       ∷ []
 
   -- Times are in nanoseconds.
-  unfoldable pub chapterOf : List Value
+  unfoldable pub chapterOf : List FieldValue
   chapterOf =
       numberOf s parent below 0x73C4  -- uid
       ∷ numberOf s parent below 0x91  -- start
@@ -31,7 +31,7 @@ module _ (s : List ℕ) (parent : ℕ) (below : List Row) where
       ∷ countOf s parent below 0x80 Master  -- displays
       ∷ []
 
-  unfoldable pub displayOf : List Value
+  unfoldable pub displayOf : List FieldValue
   displayOf =
       contentOf s parent below 0x85 Utf8  -- string
       ∷ languageOf s parent below 0x437C 0x437D  -- language: ISO 639, IETF

@@ -1,6 +1,6 @@
 -- Document 01's values for the fields of each record of Chapters.
 use mathlib.Core.List.{List, [], _∷_}
-use Rattle.fields_rules.specs.Values.{Value, count}
+use Rattle.fields_rules.specs.Values.{FieldValue, count}
 use Rattle.fields_rules.specs.Told.{numberTold, flagTold, contentTold, languageTold}
 use Rattle.locate_rules.specs.Told.{Answer, fields, refusal}
 use Rattle.chapters.specs.declared.edition.ChapterEdition.{ChapterEdition}
@@ -15,7 +15,7 @@ use Rattle.chapters.specs.declared.display.DisplayReply.the-variants.{Di
 
 -- ---- the fields of a record
 
-abbrev pub editionValues : ChapterEdition → List Value
+abbrev pub editionValues : ChapterEdition → List FieldValue
 editionValues e =
     numberTold (e .uid)
     ∷ flagTold (e .hidden)
@@ -24,7 +24,7 @@ editionValues e =
     ∷ count (e .chapters)
     ∷ []
 
-abbrev pub chapterValues : Chapter → List Value
+abbrev pub chapterValues : Chapter → List FieldValue
 chapterValues c =
     numberTold (c .uid)
     ∷ numberTold (c .«time_start»)
@@ -36,7 +36,7 @@ chapterValues c =
     ∷ count (c .displays)
     ∷ []
 
-abbrev pub displayValues : ChapterDisplay → List Value
+abbrev pub displayValues : ChapterDisplay → List FieldValue
 displayValues d = contentTold (d .string) ∷ languageTold (d .language) ∷ []
 
 -- ---- the replies

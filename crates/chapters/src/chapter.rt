@@ -39,6 +39,7 @@ pub enum ChapterReply {
     Refused(Refusal),
 }
 
+// The chapter, by the rows below its master.
 pub fn chapter_in(recording: &[u8], table: &[u64], master: Below) -> Chapter
     requires { ⌜ Readable (now recording) (now table) master ⌝ }
     ensures { λ r. ⌜ chapterValues r ≡ chapterOf (now (recording .entry))

@@ -29,6 +29,7 @@ pub enum DisplayReply {
     Refused(Refusal),
 }
 
+// The display, by the rows below its master.
 pub fn display_in(recording: &[u8], table: &[u64], master: Below) -> ChapterDisplay
     requires { ⌜ Readable (now recording) (now table) master ⌝ }
     ensures { λ r. ⌜ displayValues r ≡ displayOf (now (recording .entry))

@@ -34,6 +34,7 @@ pub enum EditionReply {
     Refused(Refusal),
 }
 
+// The edition, by the rows below its master.
 pub fn edition_in(recording: &[u8], table: &[u64], master: Below) -> ChapterEdition
     requires { ⌜ Readable (now recording) (now table) master ⌝ }
     ensures { λ r. ⌜ editionValues r ≡ editionOf (now (recording .entry))

@@ -30,6 +30,7 @@ fn string_of(recording: &[u8], table: &[u64], rows: usize, display: usize) -> Co
     content_field(recording, table, master, ids::CHAPSTRING, Kind::Utf8)
 }
 
+// The first display with a set string, of the chapter that has those rows below it.
 pub fn first_string(recording: &[u8], table: &[u64], rows: usize, chapter: Below) -> FirstString
     requires { ⌜ Stands (now recording) (now table) rows chapter ⌝ }
     ensures { λ r. ⌜ r ≡ firstString (now (recording .entry)) (rowsOf

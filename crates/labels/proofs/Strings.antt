@@ -1,4 +1,5 @@
--- A display's string comes from a text row, whose shown text is the label (`StageIsShown`). Assumes nothing.
+-- A display's string comes from a text row, whose shown text is the label (`StageIsShown`, `FirstIsShown`). Assumes
+-- nothing.
 use Prim.Native.Nat.{ℕ, _+_, _-_, _*_, _<_}
 use mathlib.Core.Path.{_≡_, refl, sym, ap, _∙_, subst}
 use mathlib.Core.List.{List}
@@ -28,11 +29,14 @@ use Rattle.locate_rules.proofs.Addressed.{Known-in, child-row, asked-in}
 use Rattle.locate_rules.proofs.Settled.{record-is-read}
 use Rattle.chapters.specs.Records.{displayOf}
 use Rattle.chapters.specs.Told.{displayTold}
-use Rattle.chapters.specs.Promise.{displayAsked}
+use Rattle.chapters.specs.Promise.{displayAsked, DisplayPromise}
+use Rattle.chapters.specs.Theorems.{stringTold}
 use Rattle.chapters.specs.declared.display.ChapterDisplay.{ChapterDisplay}
-use Rattle.chapters.specs.declared.display.DisplayReply.the-variants.{Display}
+use Rattle.chapters.specs.declared.display.DisplayReply.{DisplayReply}
+use Rattle.chapters.specs.declared.display.DisplayReply.the-variants.{Display, Refused}
+use Rattle.chapters.proofs.Displays.{first-of-displays}
 use Rattle.labels.specs.Shown.{isText, textRange}
-use Rattle.labels.specs.Theorems.{StageIsShown}
+use Rattle.labels.specs.Theorems.{StringRow, StageIsShown, FirstIsShown}
 use Rattle.labels.proofs.Stages.{label-is-shown}
 
 -- A part that is told comes from a child.
@@ -90,3 +94,14 @@ stage-is-shown s start size k i j t d rows t′ g p w =
       place = place;
       shown = label-is-shown s t′ n (g .at) (g .length) place;
     }
+
+pub first-is-shown : FirstIsShown
+first-is-shown s start size k i t replies tables p rs chapter a j g q =
+    let first = first-of-displays s start size k i t replies tables p rs chapter a in
+    by (replies j) refl (first .at j g .0 q .0)
+  where
+    by : (r : DisplayReply) → replies j ≡ r → stringTold r ≡ At g → (rows : ℕ) × StringRow s (tables j) rows g
+    by (Display d rows) e w =
+        let shown : DisplayPromise s start size k i j t (Display d rows) (tables j) = rw e at (p j) in
+        (rows, stage-is-shown s start size k i j t d rows (tables j) g shown w)
+    by (Refused e) x w = let z : _≡_ {A = ℕ} 0 1 = cc in absurd (omega arith)

@@ -2,17 +2,23 @@
 use Prim.Native.Nat.{ℕ, _<_}
 use mathlib.Core.Path.{_≡_}
 use mathlib.Core.List.{List}
+use lib.ListN.{length}
 use Rattle.refusals.specs.Theorems.{Listed}
 use Rattle.refusals.specs.declared.refusal.Refusal.{Refusal}
 use Rattle.bodies_rules.specs.declared.body.Range.{Range}
+use Rattle.elements_rules.specs.declared.row.Row.{Row}
 use Rattle.places_rules.specs.Payload.{range, bytesOf}
 use Rattle.places_rules.specs.declared.payload.RangeReply.{RangeReply}
 use Rattle.places_rules.specs.declared.payload.RangeReply.the-variants.{Refused}
 use Rattle.fields_rules.specs.declared.field.Content.{Content}
 use Rattle.fields_rules.specs.declared.field.Content.the-variants.{At}
-use Rattle.chapters.specs.Promise.{DisplayPromise}
+use Rattle.locate_rules.specs.Asked.{found}
+use Rattle.chapters.specs.First.{firstString}
+use Rattle.chapters.specs.Promise.{chapterAsked, DisplayPromise}
 use Rattle.chapters.specs.declared.display.ChapterDisplay.{ChapterDisplay}
+use Rattle.chapters.specs.declared.display.DisplayReply.{DisplayReply}
 use Rattle.chapters.specs.declared.display.DisplayReply.the-variants.{Display}
+use Rattle.chapters.specs.declared.first.FirstString.the-variants.{At as FirstAt}
 use Rattle.labels.specs.Shown.{textRange, labelOf}
 use Rattle.labels.specs.Promise.{TextPromise, ShownPromise, LabelPromise}
 
@@ -54,3 +60,13 @@ StageIsShown =
     (s : List ℕ) (start size k i j : ℕ) (t : List ℕ) (d : ChapterDisplay) (rows : ℕ) (t′ : List ℕ) (string : Range)
     → DisplayPromise s start size k i j t (Display d rows) t′ → d .string ≡ At string
     → StringRow s t′ rows string
+
+-- So it is of a chapter's first display with a set string, as `first_string` gives it: the stage label that is asked
+-- with it is the shown text of a row of the table that the question for that display leaves.
+abbrev pub FirstIsShown : Type 0
+FirstIsShown =
+    (s : List ℕ) (start size k i : ℕ) (t : List ℕ) (replies : ℕ → DisplayReply) (tables : ℕ → List ℕ)
+    → ((j : ℕ) → DisplayPromise s start size k i j t (replies j) (tables j))
+    → (rs : List Row) (chapter : ℕ) → chapterAsked s start size k i (length t) ≡ found rs chapter
+    → (j : ℕ) (string : Range) → firstString s rs chapter ≡ FirstAt j string
+    → (rows : ℕ) × StringRow s (tables j) rows string

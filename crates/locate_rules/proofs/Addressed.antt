@@ -15,7 +15,7 @@ use Rattle.elements_rules.specs.Promise.{readOf, zeros}
 use Rattle.elements_rules.specs.declared.row.Row.{Row}
 use Rattle.elements_rules.proofs.Readback.{rows-back}
 use Rattle.fields_rules.specs.Children.{deeper, subtree, children, lastOf}
-use Rattle.fields_rules.specs.Values.{Value, text, binary}
+use Rattle.fields_rules.specs.Values.{FieldValue, text, binary}
 use Rattle.fields_rules.specs.Values.{numberIn, flagIn, contentIn, realIn, languageIn, valueIn}
 use Rattle.fields_rules.specs.Fields.{numberOf, flagOf, contentOf, realOf, languageOf, valueOf, countOf}
 use Rattle.fields_rules.specs.declared.child.Child.{Child}
@@ -194,7 +194,7 @@ listed-in (found rs parent) member k = go (member rs parent)
     go NoChild = tt
     go (ChildAt n r) = k
 
-addressed : (values : List Row → ℕ → List Value) (a : Asked) (numbers : ℕ) (vs : List Value) (n : ℕ) (t′ : List ℕ)
+addressed : (values : List Row → ℕ → List FieldValue) (a : Asked) (numbers : ℕ) (vs : List FieldValue) (n : ℕ) (t′ : List ℕ)
     → ((rs : List Row) (parent : ℕ) → parent ≤ length rs → AllPlaced rs (values rs parent)) → Known-in a
     → RecordPromise values a numbers (fields vs n) t′ → AllPlaced (rowsOf t′ n) vs
 addressed values (refusing e) numbers vs n t′ f k p =
@@ -208,7 +208,7 @@ addressed values (found rs parent) numbers vs n t′ f k p =
     subst (λ (x : List Row). AllPlaced x vs) (sym w) (subst (AllPlaced rs) (sym e) (f rs parent k))
 
 -- A question whose values are placed among any rows is addressed.
-module _ (values : List Row → ℕ → List Value)
+module _ (values : List Row → ℕ → List FieldValue)
     (f : (rs : List Row) (master : ℕ) → master ≤ length rs → AllPlaced rs (values rs master))
     (s : List ℕ) (start size parent : ℕ) (w : Way) where
   abbrev ask : ℕ → Asked

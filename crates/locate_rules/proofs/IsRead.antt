@@ -8,7 +8,7 @@ use Rattle.refusals.specs.Reply.{accepted}
 use Rattle.elements_rules.specs.Promise.{ReadPromise}
 use Rattle.elements_rules.specs.declared.row.Row.{Row}
 use Rattle.elements_rules.specs.declared.reply.ReadReply.the-variants.{Rows}
-use Rattle.fields_rules.specs.Values.{Value}
+use Rattle.fields_rules.specs.Values.{FieldValue}
 use Rattle.fields_rules.specs.declared.child.Child.{Child}
 use Rattle.fields_rules.specs.declared.child.Child.the-variants.{At as ChildAt, Absent as NoChild}
 use Rattle.locate_rules.specs.Asked.{Asked, found, refusing, asked, listed, hasMember}
@@ -19,8 +19,8 @@ use Rattle.locate_rules.specs.declared.steps.Way.{Way}
 use Rattle.locate_rules.proofs.Settled.{record-is-read}
 
 module _
-    (values : List Row → ℕ → List Value) (s : List ℕ) (start size parent : ℕ) (t : List ℕ) (w : Way)
-    (vs : List Value) (n : ℕ) (t′ : List ℕ) where
+    (values : List Row → ℕ → List FieldValue) (s : List ℕ) (start size parent : ℕ) (t : List ℕ) (w : Way)
+    (vs : List FieldValue) (n : ℕ) (t′ : List ℕ) where
   told-is-read : (a : Asked) → asked s start size parent (length t) w ≡ a
       → RecordPromise values a (length t) (fields vs n) t′ → ReadPromise s start size parent t (Rows n) t′
   told-is-read (refusing e) h p = let q = p .reply in let z : _≡_ {A = ℕ} 0 1 = cc in absurd (omega arith)

@@ -28,7 +28,7 @@ use Rattle.fields_rules.specs.declared.child.Below.{Below}
 use Rattle.locate_rules.specs.Steps.{stepped, entered, way, reached}
 use Rattle.locate_rules.specs.Asked.{Asked, found, refusing, settled, sought, asked, tableAfter}
 use Rattle.locate_rules.specs.Contract.{Filled, Stands, FindMet, LocateMet}
-use Rattle.locate_rules.specs.Theorems.{FilledAfterRead, RecordIsRead}
+use Rattle.locate_rules.specs.Theorems.{FilledAfterRead, FoundStands, RecordIsRead}
 use Rattle.locate_rules.specs.declared.steps.Step.{Step}
 use Rattle.locate_rules.specs.declared.steps.Step.the-variants.{Here}
 use Rattle.locate_rules.specs.declared.steps.Way.{Way}
@@ -38,6 +38,13 @@ use Rattle.locate_rules.specs.declared.steps.Found.{Found}
 use Rattle.locate_rules.specs.declared.steps.Found.the-variants.{Absent as Nowhere, At as FoundAt}
 use Rattle.locate_rules.specs.declared.steps.Located.the-variants.{At, Refused}
 use Rattle.locate_rules.proofs.Ways.{readable}
+
+-- ---- a filled table
+
+pub find-stands : FoundStands
+find-stands s t rows w b filled m =
+    let stands : Stands s t rows b = record { filled = filled; below = m .leads .1 } in
+    (stands, readable stands)
 
 -- ---- the reading
 
@@ -68,10 +75,10 @@ module _ {s : List ℕ} {start size parent : ℕ} {t t₁ : List ℕ} {r : ReadR
   -- A master that was found in it, for the builders of records.
   module _ {w : Way} {f : Found} (m : FindMet t₁ n w f) {b : Below} (a : f ≡ FoundAt b) where
     pub found-stands : Stands s t₁ n b
-    found-stands = record { filled = read-filled; below = (rw a at m) .leads .1 }
+    found-stands = find-stands s t₁ n w b read-filled (rw a at m) .0
 
     pub found-readable : Readable s t₁ b
-    found-readable = readable found-stands
+    found-readable = find-stands s t₁ n w b read-filled (rw a at m) .1
 
 module _ {s : List ℕ} {start size parent : ℕ} {t t₁ : List ℕ} {r : ReadReply}
     (p : ReadPromise s start size parent t r t₁) (w : Way) where

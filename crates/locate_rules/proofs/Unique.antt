@@ -4,7 +4,7 @@ use mathlib.Core.Path.{_≡_, sym, ap, _∙_}
 use mathlib.Core.List.{List}
 use lib.ListN.{length}
 use Rattle.elements_rules.specs.declared.row.Row.{Row}
-use Rattle.fields_rules.specs.Values.{Value}
+use Rattle.fields_rules.specs.Values.{FieldValue}
 use Rattle.locate_rules.specs.Asked.{Asked, tableAfter}
 use Rattle.locate_rules.specs.Told.{Answer}
 use Rattle.locate_rules.specs.Promise.{answerOf, RecordPromise}
@@ -18,7 +18,7 @@ one-answer values ask n m x y t′ u′ l p q = (
 )
 
 -- A question whose replies are told apart by their answers has one reply.
-pub one-reply : {R : Type 0} (values : List Row → ℕ → List Value) (ask : ℕ → Asked) (told : R → Answer)
+pub one-reply : {R : Type 0} (values : List Row → ℕ → List FieldValue) (ask : ℕ → Asked) (told : R → Answer)
     → ((r r′ : R) → told r ≡ told r′ → r ≡ r′)
     → OneReply (λ (t : List ℕ) (r : R) (t′ : List ℕ). RecordPromise values (ask (length t)) (length t) (told r) t′)
 one-reply values ask told once t u r r′ t′ u′ l p q =

@@ -6,7 +6,7 @@ use lib.ListN.{length}
 use Rattle.refusals.specs.Refusals.{noRecord}
 use Rattle.refusals.specs.declared.refusal.Refusal.{Refusal}
 use Rattle.elements_rules.specs.Reading.{Outcome, done, refused}
-use Rattle.elements_rules.specs.Rows.{rows, width, flatten}
+use Rattle.elements_rules.specs.Rows.{rowsAt, width, flatten}
 use Rattle.elements_rules.specs.Promise.{readOf, zeros}
 use Rattle.elements_rules.specs.declared.row.Row.{Row}
 use Rattle.fields_rules.specs.declared.child.Child.{Child}
@@ -27,7 +27,7 @@ settled rs (At parent) = found rs parent
 
 -- What is sought among the rows of a read.
 abbrev pub sought : ℕ → Outcome → (List Row → Spot) → Asked
-sought start (done f) way = settled (rows 0 0 start 0 f) (way (rows 0 0 start 0 f))
+sought start (done f) way = settled (rowsAt start f) (way (rowsAt start f))
 sought start (refused e) way = refusing e
 
 -- The payload is read under a parent id into a table of so many numbers; then the way is gone.

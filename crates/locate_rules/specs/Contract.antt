@@ -32,7 +32,7 @@ Numbered (ChildAt n r) = suc n < 2 ^ 64
 
 -- ---- a filled table
 
--- The first `rows` rows of a table are those that were read of a recording.
+-- The first `rows` rows of a table are in order and stand in the recording, as a read leaves them (`FilledAfterRead`).
 pub record Filled (s t : List ℕ) (rows : ℕ) : Type 0 where
   pub ordered : Ordered t rows
   pub short : length s ≤ mostBytes

@@ -31,9 +31,9 @@ abbrev pub entered : List Row → Spot → Step → Spot
 entered rs Absent step = Absent
 entered rs (At parent) step = stepped rs parent step
 
--- From the payload that was read, a step for each level.
 abbrev pub way : (first second third : Step) → Way
 way first second third = record { first = first; second = second; third = third }
 
+-- From the payload that was read, a step for each level.
 unfoldable pub reached : List Row → Way → Spot
 reached rs w = entered rs (entered rs (entered rs (At 0) (w .first)) (w .second)) (w .third)

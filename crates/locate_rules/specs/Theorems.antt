@@ -9,19 +9,22 @@ use Rattle.elements_rules.specs.Rows.{rowsOf, nth}
 use Rattle.elements_rules.specs.Promise.{ReadPromise}
 use Rattle.elements_rules.specs.declared.row.Row.{Row}
 use Rattle.elements_rules.specs.declared.reply.ReadReply.the-variants.{Rows}
-use Rattle.fields_rules.specs.Values.{Value, unset, number, flag, content, iso, ietf, text, binary, real, count}
+use Rattle.fields_rules.specs.Values.{FieldValue, unset, number, flag, content, iso, ietf, text, binary, real, count}
+use Rattle.fields_rules.specs.Contract.{Readable}
+use Rattle.fields_rules.specs.declared.child.Below.{Below}
 use Rattle.fields_rules.specs.declared.child.Child.{Child}
 use Rattle.locate_rules.specs.Asked.{Asked, found, asked, listed, tableAfter}
 use Rattle.locate_rules.specs.Told.{Answer, fields}
-use Rattle.locate_rules.specs.Contract.{Filled}
+use Rattle.locate_rules.specs.Contract.{Filled, Stands, FindMet}
 use Rattle.locate_rules.specs.Promise.{RecordPromise}
 use Rattle.locate_rules.specs.declared.steps.Way.{Way}
+use Rattle.locate_rules.specs.declared.steps.Found.the-variants.{At}
 
 -- Any two answers and tables that the promise permits to one question are equal (document 01, Strength of the
 -- promises). The numbers that stood in the lent table do not matter, only how many there are.
 abbrev pub OneAnswer : Type 0
 OneAnswer =
-    (values : List Row → ℕ → List Value) (ask : ℕ → Asked) (n m : ℕ) (x y : Answer) (t′ u′ : List ℕ) → n ≡ m
+    (values : List Row → ℕ → List FieldValue) (ask : ℕ → Asked) (n m : ℕ) (x y : Answer) (t′ u′ : List ℕ) → n ≡ m
     → RecordPromise values (ask n) n x t′ → RecordPromise values (ask m) m y u′ → (x ≡ y) × (t′ ≡ u′)
 
 -- The same of the replies of a question: by the table at entry, the reply and the table at exit.
@@ -44,7 +47,7 @@ pub record PayloadOf (rs : List Row) (at n : ℕ) : Type 0 where
   pub long : nth rs row .payload ≡ n
 
 -- The place that a value names is the payload of a row; a number names none.
-abbrev pub Placed : List Row → Value → Type 0
+abbrev pub Placed : List Row → FieldValue → Type 0
 Placed rs unset = Unit
 Placed rs (number v) = Unit
 Placed rs (flag b) = Unit
@@ -56,14 +59,14 @@ Placed rs (binary at n) = PayloadOf rs at n
 Placed rs (real x) = Unit
 Placed rs (count v) = Unit
 
-unfoldable pub AllPlaced : List Row → List Value → Type 0
+unfoldable pub AllPlaced : List Row → List FieldValue → Type 0
 AllPlaced rs [] = Unit
 AllPlaced rs (v ∷ vs) = Placed rs v × AllPlaced rs vs
 
 -- Every address in a record that is told is the payload's place of one of the rows that the table holds at exit.
-abbrev pub Addressed : (List Row → ℕ → List Value) → (ℕ → Asked) → Type 0
+abbrev pub Addressed : (List Row → ℕ → List FieldValue) → (ℕ → Asked) → Type 0
 Addressed values ask =
-    (numbers : ℕ) (vs : List Value) (n : ℕ) (t′ : List ℕ) → RecordPromise values (ask numbers) numbers (fields vs n) t′
+    (numbers : ℕ) (vs : List FieldValue) (n : ℕ) (t′ : List ℕ) → RecordPromise values (ask numbers) numbers (fields vs n) t′
     → AllPlaced (rowsOf t′ n) vs
 
 -- ---- the table is the read's
@@ -73,6 +76,13 @@ abbrev pub FilledAfterRead : Type 0
 FilledAfterRead =
     (s : List ℕ) (start size parent : ℕ) (t : List ℕ) (n : ℕ) (t′ : List ℕ)
     → ReadPromise s start size parent t (Rows n) t′ → Filled s t′ n
+
+-- And a master that `find` gives in it stands there: the builders ask no more, those that need the other rows too ask
+-- `Stands`, the others `Readable`.
+abbrev pub FoundStands : Type 0
+FoundStands =
+    (s t : List ℕ) (rows : ℕ) (w : Way) (b : Below) → Filled s t rows → FindMet t rows w (At b)
+    → Stands s t rows b × Readable s t b
 
 -- A question that is not refused leaves the table that the public read leaves, and counts its rows: all that is proved
 -- of an accepted read holds of it.
@@ -86,15 +96,15 @@ RecordIsRead =
 -- rows.
 abbrev pub AnswerIsRead : Type 0
 AnswerIsRead =
-    (values : List Row → ℕ → List Value) (s : List ℕ) (start size parent : ℕ) (t : List ℕ) (w : Way)
-    (vs : List Value) (n : ℕ) (t′ : List ℕ)
+    (values : List Row → ℕ → List FieldValue) (s : List ℕ) (start size parent : ℕ) (t : List ℕ) (w : Way)
+    (vs : List FieldValue) (n : ℕ) (t′ : List ℕ)
     → RecordPromise values (asked s start size parent (length t) w) (length t) (fields vs n) t′
     → ReadPromise s start size parent t (Rows n) t′
 
 -- And of the question for a list member.
 abbrev pub MemberIsRead : Type 0
 MemberIsRead =
-    (values : List Row → ℕ → List Value) (member : List Row → ℕ → Child) (s : List ℕ) (start size parent : ℕ)
-    (t : List ℕ) (w : Way) (vs : List Value) (n : ℕ) (t′ : List ℕ)
+    (values : List Row → ℕ → List FieldValue) (member : List Row → ℕ → Child) (s : List ℕ) (start size parent : ℕ)
+    (t : List ℕ) (w : Way) (vs : List FieldValue) (n : ℕ) (t′ : List ℕ)
     → RecordPromise values (listed (asked s start size parent (length t) w) member) (length t) (fields vs n) t′
     → ReadPromise s start size parent t (Rows n) t′

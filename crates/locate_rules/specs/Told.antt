@@ -2,9 +2,9 @@
 use Prim.Native.Nat.{ℕ}
 use mathlib.Core.List.{List}
 use Rattle.refusals.specs.declared.refusal.Refusal.{Refusal}
-use Rattle.fields_rules.specs.Values.{Value}
+use Rattle.fields_rules.specs.Values.{FieldValue}
 
 -- The fields in their order and how many rows there are, or a refusal.
 pub data Answer : Type 0 where
-  fields : List Value → ℕ → Answer
+  fields : List FieldValue → ℕ → Answer
   refusal : Refusal → Answer
