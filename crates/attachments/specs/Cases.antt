@@ -4,14 +4,13 @@ use Prim.Native.Nat.{ℕ}
 use mathlib.Core.List.{List, [], _∷_}
 use lib.ListN.{length}
 use Rattle.fields_rules.specs.Values.{unset, content}
-use Rattle.locate_rules.specs.Told.{Answer, fields}
 use Rattle.locate_rules.specs.Promise.{answerOf, ofBelow}
-use Rattle.locate_rules.specs.Cases.{Case, case, numbers}
+use Rattle.locate_rules.specs.Cases.{numbers, Due, told, Case, case}
 use Rattle.attachments.specs.Records.{attachmentOf}
 use Rattle.attachments.specs.Promise.{attachmentAsked}
 
 -- The question, of a whole payload: the index, and the answer.
-abbrev attachment : List ℕ → ℕ → Answer → Case
+abbrev attachment : List ℕ → ℕ → Due → Case
 attachment s k a = case (answerOf (ofBelow (attachmentOf s)) (attachmentAsked s 0 (length s) k numbers)) a
 
 -- An attached file with a name and one byte of data, behind an empty one.
@@ -22,6 +21,6 @@ twoFiles =
 abbrev pub cases : List Case
 cases =
     -- Records are counted from 0.
-    attachment twoFiles 0 (fields (unset ∷ unset ∷ unset ∷ unset ∷ []) 4)
-    ∷ attachment twoFiles 1 (fields (unset ∷ content 9 1 ∷ unset ∷ content 13 1 ∷ []) 4)
+    attachment twoFiles 0 (told (unset ∷ unset ∷ unset ∷ unset ∷ []) 4)
+    ∷ attachment twoFiles 1 (told (unset ∷ content 9 1 ∷ unset ∷ content 13 1 ∷ []) 4)
     ∷ []

@@ -15,12 +15,12 @@ use Rattle.attachments.specs.declared.attachment.AttachmentReply.{Attach
 -- The payload is read under 61A7, the id that document 01, Kinds, gives for Attachments, so that the full set of
 -- masters holds for its direct children.
 module _ (s : List ℕ) (start size k : ℕ) where
-  abbrev pub attachmentAsked : ℕ → Asked
+  abbrev pub attachmentAsked : (numbers : ℕ) → Asked
   attachmentAsked numbers = asked s start size 0x61A7 numbers (way (Nth 0x61A7 k) Here Here)
 
 -- ---- the promises
 
-abbrev pub AttachmentPromise : List ℕ → ℕ → ℕ → ℕ → List ℕ → AttachmentReply → List ℕ → Type 0
+abbrev pub AttachmentPromise : (s : List ℕ) (start size k : ℕ) (t : List ℕ) (r : AttachmentReply) (t′ : List ℕ) → Type 0
 AttachmentPromise s start size k t r t′ =
     RecordPromise (ofBelow (attachmentOf s)) (attachmentAsked s start size k (length t)) (length t)
     (attachmentTold r) t′

@@ -4,12 +4,12 @@ use Prim.Native.Nat.{ℕ}
 use mathlib.Core.List.{List, [], _∷_}
 use Rattle.kinds.specs.declared.kind.Kind.the-variants.{String, Utf8, Binary}
 use Rattle.elements_rules.specs.declared.row.Row.{Row}
-use Rattle.fields_rules.specs.Values.{Value}
+use Rattle.fields_rules.specs.Values.{FieldValue}
 use Rattle.fields_rules.specs.Fields.{contentOf}
 
 -- Of a master in a recording, with the rows below it.
 module _ (s : List ℕ) (parent : ℕ) (below : List Row) where
-  unfoldable pub attachmentOf : List Value
+  unfoldable pub attachmentOf : List FieldValue
   attachmentOf =
       contentOf s parent below 0x467E Utf8  -- description
       ∷ contentOf s parent below 0x466E Utf8  -- name

@@ -1,6 +1,6 @@
 -- Document 01's values for the fields of an attached file.
 use mathlib.Core.List.{List, [], _∷_}
-use Rattle.fields_rules.specs.Values.{Value}
+use Rattle.fields_rules.specs.Values.{FieldValue}
 use Rattle.fields_rules.specs.Told.{contentTold}
 use Rattle.locate_rules.specs.Told.{Answer, fields, refusal}
 use Rattle.attachments.specs.declared.attachment.Attachment.{Attachment}
@@ -10,7 +10,7 @@ use Rattle.attachments.specs.declared.attachment.AttachmentReply.the-var
 
 -- ---- the fields of a record
 
-abbrev pub attachmentValues : Attachment → List Value
+abbrev pub attachmentValues : Attachment → List FieldValue
 attachmentValues a =
     contentTold (a .description) ∷ contentTold (a .name) ∷ contentTold (a .«mime_type») ∷ contentTold (a .data) ∷ []
 

@@ -29,6 +29,7 @@ pub enum AttachmentReply {
     Refused(Refusal),
 }
 
+// The attached file, by the rows below its master.
 pub fn attachment_in(recording: &[u8], table: &[u64], master: Below) -> Attachment
     requires { ⌜ Readable (now recording) (now table) master ⌝ }
     ensures { λ r. ⌜ attachmentValues r ≡ attachmentOf (now (recording .entry))

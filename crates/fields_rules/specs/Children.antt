@@ -24,18 +24,18 @@ subtree rs zero = rs
 subtree rs (suc n) = deeper (nth rs n .depth) (drop (suc n) rs)
 
 -- Whether a row is a direct child of that master, of this id and kind.
-unfoldable pub fits : ℕ → ℕ → Kind → Row → Bool
+unfoldable pub fits : (parent id : ℕ) → Kind → Row → Bool
 fits parent id kind r = eqb (r .parent) parent && (eqb (r .id) id && eqb (r .kind) (numberOf kind))
 
 -- The children among rows that are counted from row n on, in order.
-unfoldable pub childrenFrom : ℕ → ℕ → ℕ → Kind → List Row → List Child
+unfoldable pub childrenFrom : (n parent id : ℕ) → Kind → List Row → List Child
 childrenFrom n parent id kind [] = []
 childrenFrom n parent id kind (r ∷ rs) =
     cond (fits parent id kind r) (At n r ∷ childrenFrom (n + 1) parent id kind rs)
     (childrenFrom (n + 1) parent id kind rs)
 
 -- The direct children of this id and kind, among the rows below the master: the first of those is row `parent`.
-abbrev pub children : ℕ → ℕ → Kind → List Row → List Child
+abbrev pub children : (parent id : ℕ) → Kind → List Row → List Child
 children parent id kind below = childrenFrom parent parent id kind below
 
 -- The last of them, or c where there is none.

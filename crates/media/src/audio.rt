@@ -16,6 +16,7 @@ use locate_rules::Way;
 use media_rules::Audio;
 use media_rules::AudioReply;
 
+// The audio settings, by the rows below their master.
 pub fn audio_in(recording: &[u8], table: &[u64], master: Below) -> Audio
     requires { ⌜ Readable (now recording) (now table) master ⌝ }
     ensures { λ r. ⌜ audioValues r ≡ audioOf (now (recording .entry))

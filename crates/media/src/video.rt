@@ -30,6 +30,7 @@ fn interlaced_of(number: Number) -> Flag
     }
 }
 
+// The video settings, by the rows below their master.
 pub fn video_in(recording: &[u8], table: &[u64], master: Below) -> Video
     requires { ⌜ Readable (now recording) (now table) master ⌝ }
     ensures { λ r. ⌜ videoValues r ≡ videoOf (now (recording .entry))

@@ -8,7 +8,7 @@ use lib.Dec.{ltb, eqb}
 use Rattle.kinds.specs.declared.kind.Kind.the-variants.{Uint}
 use Rattle.elements_rules.specs.declared.row.Row.{Row}
 use Rattle.fields_rules.specs.Children.{subtree}
-use Rattle.fields_rules.specs.Values.{Value, unset, number, flag}
+use Rattle.fields_rules.specs.Values.{FieldValue, unset, number, flag}
 use Rattle.fields_rules.specs.Fields.{lastChild}
 use Rattle.fields_rules.specs.declared.child.Child.{Child}
 use Rattle.fields_rules.specs.declared.child.Child.the-variants.{At as ChildAt, Absent as NoChild}
@@ -21,7 +21,7 @@ use Rattle.media_rules.specs.Records.{audioOf, videoOf}
 use Rattle.media_rules.specs.Theorems.{MediaAddressed}
 
 -- What a number says is placed, if it is so for each number.
-pub said-placed : (rs : List Row) (says : ℕ → Value) → ((n : ℕ) → Placed rs (says n))
+pub said-placed : (rs : List Row) (says : ℕ → FieldValue) → ((n : ℕ) → Placed rs (says n))
     → (s : List ℕ) (parent : ℕ) (below : List Row) (id : ℕ) → Placed rs (saidOf says s parent below id)
 unfolding saidOf
 said-placed rs says p s parent below id = go (lastChild s parent below id Uint)
@@ -30,7 +30,7 @@ said-placed rs says p s parent below id = go (lastChild s parent below id Uint)
     go NoChild = tt
     go (ChildAt n r) = p _
 
-one-placed : (rs : List Row) (b : Bool) (v w : Value) → Placed rs v → Placed rs w → Placed rs (cond b v w)
+one-placed : (rs : List Row) (b : Bool) (v w : FieldValue) → Placed rs v → Placed rs w → Placed rs (cond b v w)
 one-placed rs true v w p q = p
 one-placed rs false v w p q = q
 

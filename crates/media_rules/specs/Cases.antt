@@ -4,16 +4,14 @@ use Prim.Native.Nat.{ℕ}
 use mathlib.Core.List.{List, [], _∷_}
 use lib.ListN.{length}
 use lib.Ieee.{binary64, ofBits}
-use Rattle.refusals.specs.Refusals.{noRecord}
 use Rattle.fields_rules.specs.Values.{unset, real}
-use Rattle.locate_rules.specs.Told.{Answer, fields, refusal}
 use Rattle.locate_rules.specs.Promise.{answerOf, ofBelow}
-use Rattle.locate_rules.specs.Cases.{Case, case, numbers}
+use Rattle.locate_rules.specs.Cases.{numbers, Due, told, refused, Case, case}
 use Rattle.media_rules.specs.Records.{audioOf}
 use Rattle.media_rules.specs.Promise.{audioAsked}
 
 -- The question, of a whole payload: the index, and the answer.
-abbrev audio : List ℕ → ℕ → Answer → Case
+abbrev audio : List ℕ → ℕ → Due → Case
 audio s k a = case (answerOf (ofBelow (audioOf s)) (audioAsked s 0 (length s) k numbers)) a
 
 -- A sample rate of 1.0 in 4 bytes.
@@ -23,6 +21,6 @@ rateOfOne = 0xB5 ∷ 0x84 ∷ 0x3F ∷ 0x80 ∷ 0x00 ∷ 0x00 ∷ []
 abbrev pub cases : List Case
 cases =
     -- A float of 4 bytes is widened; audio has only record 0.
-    audio rateOfOne 0 (fields (real (ofBits binary64 0x3FF0000000000000) ∷ unset ∷ unset ∷ []) 1)
-    ∷ audio rateOfOne 1 (refusal noRecord)
+    audio rateOfOne 0 (told (real (ofBits binary64 0x3FF0000000000000) ∷ unset ∷ unset ∷ []) 1)
+    ∷ audio rateOfOne 1 (refused 15 0)
     ∷ []

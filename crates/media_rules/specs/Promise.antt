@@ -15,11 +15,11 @@ use Rattle.media_rules.specs.declared.audio.AudioReply.{AudioReply}
 -- The payload is that of an E1, and is read under that id.
 module _ (s : List ℕ) (start size k : ℕ) where
   -- The whole payload is the one record.
-  abbrev pub audioAsked : ℕ → Asked
+  abbrev pub audioAsked : (numbers : ℕ) → Asked
   audioAsked numbers = asked s start size 0xE1 numbers (way (Only k) Here Here)
 
 -- ---- the promises
 
-abbrev pub AudioPromise : List ℕ → ℕ → ℕ → ℕ → List ℕ → AudioReply → List ℕ → Type 0
+abbrev pub AudioPromise : (s : List ℕ) (start size k : ℕ) (t : List ℕ) (r : AudioReply) (t′ : List ℕ) → Type 0
 AudioPromise s start size k t r t′ =
     RecordPromise (ofBelow (audioOf s)) (audioAsked s start size k (length t)) (length t) (audioTold r) t′

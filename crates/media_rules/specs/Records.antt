@@ -3,21 +3,21 @@
 use Prim.Native.Nat.{ℕ}
 use mathlib.Core.List.{List, [], _∷_}
 use Rattle.elements_rules.specs.declared.row.Row.{Row}
-use Rattle.fields_rules.specs.Values.{Value}
+use Rattle.fields_rules.specs.Values.{FieldValue}
 use Rattle.fields_rules.specs.Fields.{numberOf, realOf}
 use Rattle.media_rules.specs.Said.{saidOf}
 use Rattle.media_rules.specs.Video.{interlaced, stereo}
 
 -- Of a master in a recording, with the rows below it.
 module _ (s : List ℕ) (parent : ℕ) (below : List Row) where
-  unfoldable pub audioOf : List Value
+  unfoldable pub audioOf : List FieldValue
   audioOf =
       realOf s parent below 0xB5  -- sample rate
       ∷ numberOf s parent below 0x9F  -- channels
       ∷ numberOf s parent below 0x6264  -- bit depth
       ∷ []
 
-  unfoldable pub videoOf : List Value
+  unfoldable pub videoOf : List FieldValue
   videoOf =
       numberOf s parent below 0xB0  -- pixel width
       ∷ numberOf s parent below 0xBA  -- pixel height

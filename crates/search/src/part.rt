@@ -19,7 +19,7 @@ use search_rules::PartReply;
 use seekchain_rules::PartPlace;
 use segments::look_up;
 
-// The four parts that can be searched for.
+// The id that a part's children are read under; none for what is no part.
 fn parent_of(part: u32) -> Parent
     ensures { λ r. ⌜ r ≡ parentOf part ⌝ }
 {

@@ -19,6 +19,7 @@ use locate_rules::Way;
 use tags_rules::SimpleReply;
 use tags_rules::SimpleTag;
 
+// The simple tag, by the rows below its master.
 pub fn simple_tag_in(recording: &[u8], table: &[u64], master: Below) -> SimpleTag
     requires { ⌜ Readable (now recording) (now table) master ⌝ }
     ensures { λ r. ⌜ simpleValues r ≡ simpleOf (now (recording .entry))

@@ -25,6 +25,7 @@ use tags_rules::TagReply;
 use tags_rules::Target;
 use tags_rules::Targets;
 
+// What a tag applies to, by the rows below its Targets.
 pub fn target_in(recording: &[u8], table: &[u64], master: Below) -> Target
     requires { ⌜ Readable (now recording) (now table) master ⌝ }
     ensures { λ r. ⌜ targetValues r ≡ targetOf (now (recording .entry))
@@ -55,6 +56,7 @@ pub fn targets_in(recording: &[u8], table: &[u64], rows: usize, master: Below) -
     }
 }
 
+// The tag, by the rows below its master and those below its last Targets.
 pub fn tag_in(recording: &[u8], table: &[u64], rows: usize, master: Below) -> Tag
     requires { ⌜ Stands (now recording) (now table) rows master ⌝ }
     ensures { λ r. ⌜ tagValues r ≡ tagOf (now (recording .entry)) (rowsOf

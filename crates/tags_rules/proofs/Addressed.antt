@@ -6,7 +6,7 @@ use lib.ListN.{length}
 use Rattle.kinds.specs.declared.kind.Kind.the-variants.{Master}
 use Rattle.elements_rules.specs.declared.row.Row.{Row}
 use Rattle.fields_rules.specs.Children.{subtree, children, lastOf}
-use Rattle.fields_rules.specs.Values.{Value}
+use Rattle.fields_rules.specs.Values.{FieldValue}
 use Rattle.fields_rules.specs.Fields.{countOf}
 use Rattle.fields_rules.specs.declared.child.Child.{Child}
 use Rattle.fields_rules.specs.declared.child.Child.the-variants.{At as ChildAt, Absent as NoChild}
@@ -27,7 +27,7 @@ module _ (s : List ℕ) (rs : List Row) (parent : ℕ) (l : parent ≤ length rs
       let value = values s rs parent l in
       (part _ _, (language _ _, (flag _, (value _ _, tt))))
 
-  target-placed : (vs : List Value) → AllPlaced rs vs → AllPlaced rs (targetOf s parent (subtree rs parent) ++ vs)
+  target-placed : (vs : List FieldValue) → AllPlaced rs vs → AllPlaced rs (targetOf s parent (subtree rs parent) ++ vs)
   unfolding targetOf AllPlaced
   target-placed vs p =
       let many = counts s rs parent l in

@@ -14,7 +14,7 @@ use Rattle.elements_rules.proofs.Numbered.{length-rows-of}
 use Rattle.elements_rules.proofs.Whole.{zeros-as}
 use Rattle.fields_rules.specs.Children.{children, nthOf, rowsIn}
 use Rattle.fields_rules.specs.Contract.{BelowIs}
-use Rattle.fields_rules.specs.Values.{Value, unset, number, flag, count, uintIn, numberIn}
+use Rattle.fields_rules.specs.Values.{FieldValue, unset, number, flag, count, uintIn, numberIn}
 use Rattle.fields_rules.specs.Fields.{countOf}
 use Rattle.fields_rules.specs.Told.{numberTold}
 use Rattle.fields_rules.specs.declared.child.Below.{Below}
@@ -45,20 +45,20 @@ module _ {s t : List ℕ} {rows : ℕ} {b : Below} (h : Stands s t rows b) where
     no-targets a = ap (targetsIn s (rowsOf t rows) (b .parent)) (sym a) ∙ targets-by
 
     pub are-targets :
-        {n : ℕ} {r : Row} {inner : Below} {vs : List Value} → c ≡ ChildAt n r → BelowIs t rows (n + 1) inner
+        {n : ℕ} {r : Row} {inner : Below} {vs : List FieldValue} → c ≡ ChildAt n r → BelowIs t rows (n + 1) inner
         → vs ≡ targetOf s (inner .parent) (rowsIn t inner)
         → flag true ∷ vs ≡ targetsOf s (rowsOf t rows) (b .parent)
     are-targets {n} a m q =
-        ap (λ (v : List Value). flag true ∷ v) (inner-fields (targetOf s) t rows n m q)
+        ap (λ (v : List FieldValue). flag true ∷ v) (inner-fields (targetOf s) t rows n m q)
         ∙ ap (targetsIn s (rowsOf t rows) (b .parent)) (sym a) ∙ targets-by
 
   pub tag-is :
-      {vs : List Value} {n : ℕ} → vs ≡ targetsOf s (rowsOf t rows) (b .parent)
+      {vs : List FieldValue} {n : ℕ} → vs ≡ targetsOf s (rowsOf t rows) (b .parent)
       → n ≡ length (children (b .parent) 0x67C8 Master (rowsIn t b))
       → vs ++ (count n ∷ []) ≡ tagOf s (rowsOf t rows) (b .parent)
   unfolding tagOf countOf
   tag-is {vs} {n} e q =
-      ap (λ (v : List Value). v ++ (count n ∷ [])) e
+      ap (λ (v : List FieldValue). v ++ (count n ∷ [])) e
       ∙ ap (λ (m : ℕ). targetsOf s (rowsOf t rows) (b .parent) ++ (count m ∷ []))
       (q ∙ ap (λ (y : List Row). length (children (b .parent) 0x67C8 Master y)) (h .below .are))
 
@@ -131,7 +131,7 @@ module _ (s : List ℕ) {a : Asked} {numbers : ℕ} {r : Located} {t₁ : List �
         let d : question ≡ found (rowsOf t₁ n) (b .parent) = asks ∙ a-member s _ member v w in
         record {
           reply =
-              ap (λ (x : Value). fields (x ∷ []) n) w
+              ap (λ (x : FieldValue). fields (x ∷ []) n) w
               ∙ ap (fields (numberIn s member ∷ [])) (sym (length-rows-of t₁ n))
               ∙ sym (ap (answerOf (uidOf s list i)) d);
           table = p .table ∙ ap (tableAfter numbers) ((rw q at p) .reply .0 ∙ sym d);

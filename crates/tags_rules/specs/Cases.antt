@@ -4,24 +4,22 @@ use Prim.Native.Nat.{ℕ}
 use mathlib.Core.List.{List, [], _∷_}
 use mathlib.Core.Bool.{true, false}
 use lib.ListN.{length}
-use Rattle.refusals.specs.Refusals.{noRecord}
 use Rattle.fields_rules.specs.Values.{unset, number, flag, text, binary, count}
-use Rattle.locate_rules.specs.Told.{Answer, fields, refusal}
 use Rattle.locate_rules.specs.Promise.{answerOf, ofBelow}
-use Rattle.locate_rules.specs.Cases.{Case, case, numbers}
+use Rattle.locate_rules.specs.Cases.{numbers, Due, told, refused, Case, case}
 use Rattle.tags_rules.specs.Records.{tagOf, uidOf, simpleOf}
 use Rattle.tags_rules.specs.Promise.{tagAsked, uidAsked, simpleAsked}
 use Rattle.tags_rules.specs.declared.uid.UidList.{UidList}
 use Rattle.tags_rules.specs.declared.uid.UidList.the-variants.{Track}
 
 -- The questions, of a whole payload: the indices, and the answer.
-abbrev tag : List ℕ → ℕ → Answer → Case
+abbrev tag : List ℕ → (k : ℕ) → Due → Case
 tag s k a = case (answerOf (tagOf s) (tagAsked s 0 (length s) k numbers)) a
 
-abbrev uid : List ℕ → ℕ → UidList → ℕ → Answer → Case
+abbrev uid : List ℕ → (k : ℕ) → UidList → (i : ℕ) → Due → Case
 uid s k list i a = case (answerOf (uidOf s list i) (uidAsked s 0 (length s) k list i numbers)) a
 
-abbrev simple : List ℕ → ℕ → ℕ → Answer → Case
+abbrev simple : List ℕ → (k i : ℕ) → Due → Case
 simple s k i a = case (answerOf (ofBelow (simpleOf s)) (simpleAsked s 0 (length s) k i numbers)) a
 
 -- A tag with two Targets: the first has a track uid, the last is empty.
@@ -45,15 +43,15 @@ abbrev pub cases : List Case
 cases =
     -- Only the last Targets counts: no track uids, and no member.
     tag twoTargets 0
-    (fields (flag true ∷ unset ∷ unset ∷ count 0 ∷ count 0 ∷ count 0 ∷ count 0 ∷ count 0 ∷ []) 4)
-    ∷ uid twoTargets 0 Track 0 (refusal noRecord)
+    (told (flag true ∷ unset ∷ unset ∷ count 0 ∷ count 0 ∷ count 0 ∷ count 0 ∷ count 0 ∷ []) 4)
+    ∷ uid twoTargets 0 Track 0 (refused 15 0)
     -- The members of a list in their order.
-    ∷ uid twoUids 0 Track 0 (fields (number 7 ∷ []) 4)
-    ∷ uid twoUids 0 Track 1 (fields (number 8 ∷ []) 4)
+    ∷ uid twoUids 0 Track 0 (told (number 7 ∷ []) 4)
+    ∷ uid twoUids 0 Track 1 (told (number 8 ∷ []) 4)
     -- A list member of a tag without Targets.
-    ∷ tag bytesThenText 0 (fields (flag false ∷ count 1 ∷ []) 4)
-    ∷ uid bytesThenText 0 Track 0 (refusal noRecord)
+    ∷ tag bytesThenText 0 (told (flag false ∷ count 1 ∷ []) 4)
+    ∷ uid bytesThenText 0 Track 0 (refused 15 0)
     -- The last of a text and bytes is the value.
-    ∷ simple bytesThenText 0 0 (fields (unset ∷ unset ∷ unset ∷ text 13 0 ∷ []) 4)
-    ∷ simple textThenBytes 0 0 (fields (unset ∷ unset ∷ unset ∷ binary 12 1 ∷ []) 4)
+    ∷ simple bytesThenText 0 0 (told (unset ∷ unset ∷ unset ∷ text 13 0 ∷ []) 4)
+    ∷ simple textThenBytes 0 0 (told (unset ∷ unset ∷ unset ∷ binary 12 1 ∷ []) 4)
     ∷ []

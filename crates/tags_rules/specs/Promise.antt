@@ -18,27 +18,28 @@ use Rattle.tags_rules.specs.declared.simple.SimpleReply.{SimpleReply}
 -- Each reads the payload under 7373, the id that document 01, Kinds, gives for Tags, so that the full set of masters
 -- holds for its direct children; then a step for each level.
 module _ (s : List ℕ) (start size k : ℕ) where
-  abbrev pub tagAsked : ℕ → Asked
+  abbrev pub tagAsked : (numbers : ℕ) → Asked
   tagAsked numbers = asked s start size 0x7373 numbers (way (Nth 0x7373 k) Here Here)
 
   -- A member of a list of the last Targets.
-  abbrev pub uidAsked : UidList → ℕ → ℕ → Asked
+  abbrev pub uidAsked : UidList → (i numbers : ℕ) → Asked
   uidAsked list i numbers =
       listed (asked s start size 0x7373 numbers (way (Nth 0x7373 k) (Last 0x63C0) Here)) (memberOf list i)
 
-  abbrev pub simpleAsked : ℕ → ℕ → Asked
+  abbrev pub simpleAsked : (i numbers : ℕ) → Asked
   simpleAsked i numbers = asked s start size 0x7373 numbers (way (Nth 0x7373 k) (Nth 0x67C8 i) Here)
 
 -- ---- the promises
 
-abbrev pub TagPromise : List ℕ → ℕ → ℕ → ℕ → List ℕ → TagReply → List ℕ → Type 0
+abbrev pub TagPromise : (s : List ℕ) (start size k : ℕ) (t : List ℕ) (r : TagReply) (t′ : List ℕ) → Type 0
 TagPromise s start size k t r t′ =
     RecordPromise (tagOf s) (tagAsked s start size k (length t)) (length t) (tagTold r) t′
 
-abbrev pub UidPromise : List ℕ → ℕ → ℕ → ℕ → UidList → ℕ → List ℕ → UidReply → List ℕ → Type 0
+abbrev pub UidPromise :
+    (s : List ℕ) (start size k : ℕ) (list : UidList) (i : ℕ) (t : List ℕ) (r : UidReply) (t′ : List ℕ) → Type 0
 UidPromise s start size k list i t r t′ =
     RecordPromise (uidOf s list i) (uidAsked s start size k list i (length t)) (length t) (uidTold r) t′
 
-abbrev pub SimplePromise : List ℕ → ℕ → ℕ → ℕ → ℕ → List ℕ → SimpleReply → List ℕ → Type 0
+abbrev pub SimplePromise : (s : List ℕ) (start size k i : ℕ) (t : List ℕ) (r : SimpleReply) (t′ : List ℕ) → Type 0
 SimplePromise s start size k i t r t′ =
     RecordPromise (ofBelow (simpleOf s)) (simpleAsked s start size k i (length t)) (length t) (simpleTold r) t′

@@ -6,7 +6,7 @@ use mathlib.Core.Bool.{true, false}
 use Rattle.kinds.specs.declared.kind.Kind.the-variants.{Master, Uint, String, Utf8}
 use Rattle.elements_rules.specs.declared.row.Row.{Row}
 use Rattle.fields_rules.specs.Children.{subtree, children, nthOf, rowsIn}
-use Rattle.fields_rules.specs.Values.{Value, flag, numberIn}
+use Rattle.fields_rules.specs.Values.{FieldValue, flag, numberIn}
 use Rattle.fields_rules.specs.Fields.{lastChild, numberOf, flagOf, contentOf, languageOf, valueOf, countOf}
 use Rattle.fields_rules.specs.declared.child.Below.{Below}
 use Rattle.fields_rules.specs.declared.child.Child.{Child}
@@ -16,7 +16,7 @@ use Rattle.tags_rules.specs.declared.uid.UidList.the-variants.{Track, Ed
 
 -- Of a master in a recording, with the rows below it.
 module _ (s : List ℕ) (parent : ℕ) (below : List Row) where
-  unfoldable pub simpleOf : List Value
+  unfoldable pub simpleOf : List FieldValue
   simpleOf =
       contentOf s parent below 0x45A3 Utf8  -- name
       ∷ languageOf s parent below 0x447A 0x447B  -- language: ISO 639, IETF
@@ -25,7 +25,7 @@ module _ (s : List ℕ) (parent : ℕ) (below : List Row) where
       ∷ []
 
   -- The target number stays as it is.
-  unfoldable pub targetOf : List Value
+  unfoldable pub targetOf : List FieldValue
   targetOf =
       numberOf s parent below 0x68CA  -- target number
       ∷ contentOf s parent below 0x63CA String  -- target type
@@ -37,14 +37,14 @@ module _ (s : List ℕ) (parent : ℕ) (below : List Row) where
 
 -- Of a master among the rows that were read: Targets is a master of its own, and the last one counts.
 module _ (s : List ℕ) (rs : List Row) (parent : ℕ) where
-  abbrev pub targetsIn : Child → List Value
+  abbrev pub targetsIn : Child → List FieldValue
   targetsIn NoChild = flag false ∷ []
   targetsIn (ChildAt n r) = flag true ∷ targetOf s (suc n) (subtree rs (suc n))
 
-  unfoldable pub targetsOf : List Value
+  unfoldable pub targetsOf : List FieldValue
   targetsOf = targetsIn (lastChild s parent (subtree rs parent) 0x63C0 Master)
 
-  unfoldable pub tagOf : List Value
+  unfoldable pub tagOf : List FieldValue
   tagOf =
       targetsOf  -- whether there are targets, and what they are
       ++ (countOf s parent (subtree rs parent) 0x67C8 Master  -- simple tags
@@ -64,5 +64,5 @@ memberOf list i rs parent = nthOf i (children parent (memberId list) Uint (subtr
 abbrev pub memberIn : List ℕ → Below → UidList → ℕ → Child
 memberIn t b list i = nthOf i (children (b .parent) (memberId list) Uint (rowsIn t b))
 
-unfoldable pub uidOf : List ℕ → UidList → ℕ → List Row → ℕ → List Value
+unfoldable pub uidOf : List ℕ → UidList → ℕ → List Row → ℕ → List FieldValue
 uidOf s list i rs parent = numberIn s (memberOf list i rs parent) ∷ []

@@ -1,7 +1,7 @@
 -- Document 01's values for the fields of each record of Tags.
 use mathlib.Core.List.{List, [], _∷_, _++_}
 use mathlib.Core.Bool.{true, false}
-use Rattle.fields_rules.specs.Values.{Value, number, flag, count}
+use Rattle.fields_rules.specs.Values.{FieldValue, number, flag, count}
 use Rattle.fields_rules.specs.Told.{numberTold, flagTold, contentTold, languageTold, valueTold}
 use Rattle.locate_rules.specs.Told.{Answer, fields, refusal}
 use Rattle.tags_rules.specs.declared.tag.Target.{Target}
@@ -18,11 +18,11 @@ use Rattle.tags_rules.specs.declared.simple.SimpleReply.the-variants.{Si
 
 -- ---- the fields of a record
 
-abbrev pub simpleValues : SimpleTag → List Value
+abbrev pub simpleValues : SimpleTag → List FieldValue
 simpleValues t =
     contentTold (t .name) ∷ languageTold (t .language) ∷ flagTold (t .default) ∷ valueTold (t .value) ∷ []
 
-abbrev pub targetValues : Target → List Value
+abbrev pub targetValues : Target → List FieldValue
 targetValues t =
     numberTold (t .«target_type_value»)
     ∷ contentTold (t .«target_type»)
@@ -32,11 +32,11 @@ targetValues t =
     ∷ count (t .attachments)
     ∷ []
 
-abbrev pub targetsValues : Targets → List Value
+abbrev pub targetsValues : Targets → List FieldValue
 targetsValues Unset = flag false ∷ []
 targetsValues (Set t) = flag true ∷ targetValues t
 
-abbrev pub tagValues : Tag → List Value
+abbrev pub tagValues : Tag → List FieldValue
 tagValues t = targetsValues (t .targets) ++ (count (t .simple) ∷ [])
 
 -- ---- the replies

@@ -44,6 +44,7 @@ fn later(video: Child, audio: Child) -> Deciding
     }
 }
 
+// The last settings of a track, whichever they are.
 pub fn settings_in(recording: &[u8], table: &[u64], rows: usize, master: Below) -> Settings
     requires { ⌜ Stands (now recording) (now table) rows master ⌝ }
     ensures { λ r. ⌜ settingsValues r ≡ settingsOf (now (recording .entry)) (rowsOf

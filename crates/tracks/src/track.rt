@@ -22,6 +22,7 @@ use locate_rules::Way;
 use tracks_rules::Track;
 use tracks_rules::TrackReply;
 
+// The track, by the rows below its master and those below its last settings.
 pub fn track_in(recording: &[u8], table: &[u64], rows: usize, master: Below) -> Track
     requires { ⌜ Stands (now recording) (now table) rows master ⌝ }
     ensures { λ r. ⌜ trackValues r ≡ trackOf (now (recording .entry)) (rowsOf

@@ -6,7 +6,7 @@ use lib.ListN.{length}
 use Rattle.kinds.specs.declared.kind.Kind.the-variants.{Master}
 use Rattle.elements_rules.specs.declared.row.Row.{Row}
 use Rattle.fields_rules.specs.Children.{subtree}
-use Rattle.fields_rules.specs.Values.{Value}
+use Rattle.fields_rules.specs.Values.{FieldValue}
 use Rattle.locate_rules.specs.Theorems.{Placed, AllPlaced}
 use Rattle.locate_rules.proofs.Ways.{last-known}
 use Rattle.locate_rules.proofs.Addressed.{numbers, flags, parts, languages, asked-addressed}
@@ -44,11 +44,11 @@ module _ (s : List ℕ) (rs : List Row) (parent : ℕ) (l : parent ≤ length rs
             (λ m r q. last-known rs parent 0xE1 Master l m r q) (sym e)),
       )
 
-  more : (v : Value) (vs : List Value) → Placed rs v → AllPlaced rs vs → AllPlaced rs (v ∷ vs)
+  more : (v : FieldValue) (vs : List FieldValue) → Placed rs v → AllPlaced rs vs → AllPlaced rs (v ∷ vs)
   unfolding AllPlaced
   more v vs p q = (p, q)
 
-  entry-placed : (vs : List Value) → AllPlaced rs vs → AllPlaced rs (entryOf s parent (subtree rs parent) vs)
+  entry-placed : (vs : List FieldValue) → AllPlaced rs vs → AllPlaced rs (entryOf s parent (subtree rs parent) vs)
   unfolding entryOf
   entry-placed vs p =
       let number = numbers s rs parent l in

@@ -10,7 +10,7 @@ use Rattle.elements_rules.specs.Rows.{rowsOf}
 use Rattle.elements_rules.specs.declared.row.Row.{Row}
 use Rattle.fields_rules.specs.Children.{rowsIn}
 use Rattle.fields_rules.specs.Contract.{BelowIs}
-use Rattle.fields_rules.specs.Values.{Value, unset, number}
+use Rattle.fields_rules.specs.Values.{FieldValue, unset, number}
 use Rattle.fields_rules.specs.declared.child.Below.{Below}
 use Rattle.fields_rules.specs.declared.child.Child.{Child}
 use Rattle.fields_rules.specs.declared.child.Child.the-variants.{At as ChildAt, Absent as NoChild}
@@ -96,22 +96,22 @@ module _ {s t : List ℕ} {rows : ℕ} {b : Below} (h : Stands s t rows b) {v a 
   pub no-settings : d ≡ None → unset ∷ [] ≡ settingsOf s (rowsOf t rows) (b .parent)
   no-settings w = settings-by None w
 
-  module _ {n : ℕ} {inner : Below} (i : BelowIs t rows (n + 1) inner) {vs : List Value} where
+  module _ {n : ℕ} {inner : Below} (i : BelowIs t rows (n + 1) inner) {vs : List FieldValue} where
     pub video-settings : d ≡ Video n → vs ≡ videoOf s (inner .parent) (rowsIn t inner)
         → number 1 ∷ vs ≡ settingsOf s (rowsOf t rows) (b .parent)
     video-settings w f =
-        ap (λ (x : List Value). number 1 ∷ x) (inner-fields (videoOf s) t rows n i f) ∙ settings-by (Video n) w
+        ap (λ (x : List FieldValue). number 1 ∷ x) (inner-fields (videoOf s) t rows n i f) ∙ settings-by (Video n) w
 
     pub audio-settings : d ≡ Audio n → vs ≡ audioOf s (inner .parent) (rowsIn t inner)
         → number 2 ∷ vs ≡ settingsOf s (rowsOf t rows) (b .parent)
     audio-settings w f =
-        ap (λ (x : List Value). number 2 ∷ x) (inner-fields (audioOf s) t rows n i f) ∙ settings-by (Audio n) w
+        ap (λ (x : List FieldValue). number 2 ∷ x) (inner-fields (audioOf s) t rows n i f) ∙ settings-by (Audio n) w
 
 -- ---- the track itself
 
 -- Its fields are built of the rows below it, which stand among those that were read.
 pub track-is :
-    {s t : List ℕ} {rows : ℕ} {b : Below} {vs settings : List Value} → Stands s t rows b
+    {s t : List ℕ} {rows : ℕ} {b : Below} {vs settings : List FieldValue} → Stands s t rows b
     → settings ≡ settingsOf s (rowsOf t rows) (b .parent) → vs ≡ entryOf s (b .parent) (rowsIn t b) settings
     → vs ≡ trackOf s (rowsOf t rows) (b .parent)
 unfolding trackOf

@@ -5,30 +5,27 @@ use mathlib.Core.List.{List, [], _∷_}
 use mathlib.Core.Bool.{true, false}
 use lib.ListN.{length}
 use lib.Ieee.{binary64, ofBits}
-use Rattle.refusals.specs.Refusals.{because, noRecord}
-use Rattle.refusals.specs.declared.refusal.Cause.the-variants.{InvalidUint}
-use Rattle.fields_rules.specs.Values.{Value, unset, number, flag, content, iso, ietf, real}
-use Rattle.locate_rules.specs.Told.{Answer, fields, refusal}
+use Rattle.fields_rules.specs.Values.{FieldValue, unset, number, flag, content, iso, ietf, real}
 use Rattle.locate_rules.specs.Promise.{answerOf}
-use Rattle.locate_rules.specs.Cases.{Case, case, numbers}
+use Rattle.locate_rules.specs.Cases.{numbers, Due, told, refused, Case, case}
 use Rattle.tracks_rules.specs.Records.{trackOf}
 use Rattle.tracks_rules.specs.Promise.{trackAsked}
 
 -- The question, of a whole payload: the index, and the answer.
-abbrev track : List ℕ → ℕ → Answer → Case
+abbrev track : List ℕ → ℕ → Due → Case
 track s k a = case (answerOf (trackOf s) (trackAsked s 0 (length s) k numbers)) a
 
 -- A track of which few fields are set.
-abbrev few : (n type enabled name language : Value) → List Value → List Value
+abbrev few : (n type enabled name language : FieldValue) → List FieldValue → List FieldValue
 few n type enabled name language settings =
     n ∷ unset ∷ type ∷ enabled ∷ unset ∷ unset ∷ unset ∷ unset ∷ unset ∷ unset ∷ unset ∷ unset ∷ unset ∷ name
     ∷ language ∷ unset ∷ unset ∷ unset ∷ settings
 
-abbrev bare : List Value
+abbrev bare : List FieldValue
 bare = few unset unset unset unset unset (unset ∷ [])
 
 -- Video settings: interlaced, stereo mode and gamma.
-abbrev video : (interlaced stereo gamma : Value) → List Value
+abbrev video : (interlaced stereo gamma : FieldValue) → List FieldValue
 video interlaced stereo gamma =
     number 1 ∷ unset ∷ unset ∷ unset ∷ unset ∷ interlaced ∷ stereo ∷ gamma ∷ []
 
@@ -71,7 +68,7 @@ full =
     ∷ 0xFF ∷ 0x00 ∷ 0x25 ∷ 0x86 ∷ 0x88 ∷ 0x81 ∷ 0x43 ∷ 0xE0 ∷ 0x91 ∷ 0xB0 ∷ 0x81 ∷ 0x05 ∷ 0xBA ∷ 0x81 ∷ 0x06 ∷ 0x54
     ∷ 0xB0 ∷ 0x81 ∷ 0x07 ∷ 0x54 ∷ 0xBA ∷ 0x81 ∷ 0x08 ∷ 0x9A ∷ 0x81 ∷ 0x01 ∷ []
 
-abbrev fullValues : List Value
+abbrev fullValues : List FieldValue
 fullValues =
     unset ∷ number 3 ∷ unset ∷ unset ∷ flag false ∷ flag true ∷ unset ∷ unset ∷ unset ∷ unset ∷ unset ∷ flag false
     ∷ number 4 ∷ unset ∷ iso 25 1 ∷ content 28 1 ∷ content 32 2 ∷ content 38 1 ∷ number 1 ∷ number 5
@@ -85,30 +82,30 @@ twoVideos =
 abbrev pub cases : List Case
 cases =
     -- An entry without fields has none set.
-    track twoEntries 0 (fields bare 7)
+    track twoEntries 0 (told bare 7)
     -- The last child sets a field; any number but 0 is yes.
-    ∷ track twoEntries 1 (fields (few (number 2) (number 17) (flag true) (content 19 1) unset (unset ∷ [])) 7)
-    ∷ track twoEntries 2 (refusal noRecord)
+    ∷ track twoEntries 1 (told (few (number 2) (number 17) (flag true) (content 19 1) unset (unset ∷ [])) 7)
+    ∷ track twoEntries 2 (refused 15 0)
     -- Any other number is the type Unknown; an ISO 639 language never replaces an IETF one.
-    ∷ track languages 0 (fields (few unset (number 0) unset unset (ietf 9 1) (unset ∷ [])) 4)
+    ∷ track languages 0 (told (few unset (number 0) unset unset (ietf 9 1) (unset ∷ [])) 4)
     -- The last settings count, whichever they are.
     ∷ track (0xAE ∷ 0x96 ∷ frames (channels [])) 0
-    (fields (few unset unset unset unset unset (number 2 ∷ unset ∷ number 2 ∷ unset ∷ [])) 7)
+    (told (few unset unset unset unset unset (number 2 ∷ unset ∷ number 2 ∷ unset ∷ [])) 7)
     ∷ track (0xAE ∷ 0x96 ∷ channels (frames [])) 0
-    (fields
+    (told
     (few unset unset unset unset unset
     (video (flag false) (number 14) (real (ofBits binary64 0x3FF0000000000000)))) 7)
     -- Interlaced other than 1 and 2, and a mode over 14, stay unset.
-    ∷ track others 0 (fields (few unset unset unset unset unset (video unset unset unset)) 4)
+    ∷ track others 0 (told (few unset unset unset unset unset (video unset unset unset)) 4)
     -- The flags 55AB to 55AF stay unset; their rows are there.
-    ∷ track unread 0 (fields bare 6)
+    ∷ track unread 0 (told bare 6)
     -- Each field is taken from its own id.
-    ∷ track full 0 (fields fullValues 16)
+    ∷ track full 0 (told fullValues 16)
     -- What an earlier E0 held is not kept; an entry inside an entry is none of Tracks, and sets nothing.
-    ∷ track twoVideos 0 (fields (few unset unset unset unset unset (video unset unset unset)) 6)
-    ∷ track twoVideos 1 (refusal noRecord)
+    ∷ track twoVideos 0 (told (few unset unset unset unset unset (video unset unset unset)) 6)
+    ∷ track twoVideos 1 (refused 15 0)
     -- The full set of masters holds for the direct children of Tracks: an E0 there has a row below it.
-    ∷ track (0xE0 ∷ 0x83 ∷ 0xB0 ∷ 0x81 ∷ 0x05 ∷ 0xAE ∷ 0x80 ∷ []) 0 (fields bare 3)
+    ∷ track (0xE0 ∷ 0x83 ∷ 0xB0 ∷ 0x81 ∷ 0x05 ∷ 0xAE ∷ 0x80 ∷ []) 0 (told bare 3)
     -- The read's refusals come before 15: here a number of 9 bytes, and no second entry.
-    ∷ track (0xAE ∷ 0x82 ∷ 0xD7 ∷ 0x89 ∷ []) 1 (refusal (because InvalidUint))
+    ∷ track (0xAE ∷ 0x82 ∷ 0xD7 ∷ 0x89 ∷ []) 1 (refused 4 0)
     ∷ []

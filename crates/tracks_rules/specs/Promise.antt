@@ -14,11 +14,11 @@ use Rattle.tracks_rules.specs.declared.track.TrackReply.{TrackReply}
 
 -- It reads the payload under AE, the id that document 01, Kinds, gives for Tracks, so that the full set of masters
 -- holds for its direct children; then goes to the k-th entry.
-abbrev pub trackAsked : List ℕ → ℕ → ℕ → ℕ → ℕ → Asked
+abbrev pub trackAsked : List ℕ → (start size k numbers : ℕ) → Asked
 trackAsked s start size k numbers = asked s start size 0xAE numbers (way (Nth 0xAE k) Here Here)
 
 -- ---- the promise
 
-abbrev pub TrackPromise : List ℕ → ℕ → ℕ → ℕ → List ℕ → TrackReply → List ℕ → Type 0
+abbrev pub TrackPromise : (s : List ℕ) (start size k : ℕ) (t : List ℕ) (r : TrackReply) (t′ : List ℕ) → Type 0
 TrackPromise s start size k t r t′ =
     RecordPromise (trackOf s) (trackAsked s start size k (length t)) (length t) (trackTold r) t′

@@ -5,7 +5,7 @@ use mathlib.Core.List.{List, _∷_}
 use Rattle.kinds.specs.declared.kind.Kind.the-variants.{String, Utf8, Binary}
 use Rattle.elements_rules.specs.declared.row.Row.{Row}
 use Rattle.fields_rules.specs.Children.{subtree}
-use Rattle.fields_rules.specs.Values.{Value, unset}
+use Rattle.fields_rules.specs.Values.{FieldValue, unset}
 use Rattle.fields_rules.specs.Fields.{numberOf, flagOf, contentOf, languageOf}
 use Rattle.media_rules.specs.Said.{saidOf}
 use Rattle.tracks_rules.specs.Typed.{typed}
@@ -13,7 +13,7 @@ use Rattle.tracks_rules.specs.Settings.{settingsOf}
 
 -- Of a master in a recording, with the rows below it: its own fields, and then the settings.
 module _ (s : List ℕ) (parent : ℕ) (below : List Row) where
-  unfoldable pub entryOf : List Value → List Value
+  unfoldable pub entryOf : List FieldValue → List FieldValue
   entryOf settings =
       numberOf s parent below 0xD7  -- number
       ∷ numberOf s parent below 0x73C5  -- uid
@@ -37,5 +37,5 @@ module _ (s : List ℕ) (parent : ℕ) (below : List Row) where
       ∷ settings
 
 -- Of a master among the rows that were read.
-unfoldable pub trackOf : List ℕ → List Row → ℕ → List Value
+unfoldable pub trackOf : List ℕ → List Row → ℕ → List FieldValue
 trackOf s rs parent = entryOf s parent (subtree rs parent) (settingsOf s rs parent)

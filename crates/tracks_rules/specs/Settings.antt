@@ -7,7 +7,7 @@ use lib.Dec.{ltb}
 use Rattle.kinds.specs.declared.kind.Kind.the-variants.{Master}
 use Rattle.elements_rules.specs.declared.row.Row.{Row}
 use Rattle.fields_rules.specs.Children.{subtree}
-use Rattle.fields_rules.specs.Values.{Value, unset, number}
+use Rattle.fields_rules.specs.Values.{FieldValue, unset, number}
 use Rattle.fields_rules.specs.Fields.{lastChild}
 use Rattle.fields_rules.specs.declared.child.Child.{Child}
 use Rattle.fields_rules.specs.declared.child.Child.the-variants.{At as ChildAt, Absent as NoChild}
@@ -25,7 +25,7 @@ decided (ChildAt n r) (ChildAt m q) = cond (ltb n m) (Audio m) (Video n)
 -- Of a master among the rows that were read. Which settings they are is told by the number of the track type, 1 for
 -- video and 2 for audio, and none by unset.
 module _ (s : List ℕ) (rs : List Row) (parent : ℕ) where
-  abbrev pub settingsIn : Deciding → List Value
+  abbrev pub settingsIn : Deciding → List FieldValue
   settingsIn None = unset ∷ []
   settingsIn (Video n) = number 1 ∷ videoOf s (suc n) (subtree rs (suc n))
   settingsIn (Audio n) = number 2 ∷ audioOf s (suc n) (subtree rs (suc n))
@@ -33,5 +33,5 @@ module _ (s : List ℕ) (rs : List Row) (parent : ℕ) where
   abbrev pub lastMaster : ℕ → Child
   lastMaster id = lastChild s parent (subtree rs parent) id Master
 
-  unfoldable pub settingsOf : List Value
+  unfoldable pub settingsOf : List FieldValue
   settingsOf = settingsIn (decided (lastMaster 0xE0) (lastMaster 0xE1))

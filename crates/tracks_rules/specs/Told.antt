@@ -1,6 +1,6 @@
 -- The values of a track's fields (document 02, C-11), in document 01's terms.
 use mathlib.Core.List.{List, [], _∷_}
-use Rattle.fields_rules.specs.Values.{Value, unset, number}
+use Rattle.fields_rules.specs.Values.{FieldValue, unset, number}
 use Rattle.fields_rules.specs.Told.{numberTold, flagTold, contentTold, languageTold}
 use Rattle.locate_rules.specs.Told.{Answer, fields, refusal}
 use Rattle.codes.specs.Tracktypes.{typeNumber}
@@ -15,16 +15,16 @@ use Rattle.tracks_rules.specs.declared.track.TrackReply.the-variants.{Tr
 
 -- ---- the fields of a record
 
-abbrev pub typedTold : Typed → Value
+abbrev pub typedTold : Typed → FieldValue
 typedTold Unset = unset
 typedTold (Is type) = number (typeNumber type)
 
-abbrev pub settingsValues : Settings → List Value
+abbrev pub settingsValues : Settings → List FieldValue
 settingsValues None = unset ∷ []
 settingsValues (Video v) = number 1 ∷ videoValues v
 settingsValues (Audio a) = number 2 ∷ audioValues a
 
-abbrev pub trackValues : Track → List Value
+abbrev pub trackValues : Track → List FieldValue
 trackValues t =
     numberTold (t .number)
     ∷ numberTold (t .uid)
