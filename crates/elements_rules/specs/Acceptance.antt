@@ -99,7 +99,7 @@ Moves =
     → ReadPromise s start size parent t (Rows n) t′ → ReadPromise s′ start′ size parent u r u′
     → (r ≡ Rows n) × OneTree start start′ n t′ u′
 
--- The same of a master's body, with rows or without: a seek head that is copied to another place has the same entries.
+-- The same of a master's body, with rows or without: a seek head that is copied to another place is the same tree there.
 abbrev pub BodyMoves : Type 0
 BodyMoves =
     (s s′ : List ℕ) (mode : Mode) (cap depth parent at at′ size n : ℕ) (f : Forest) → at ≤ length s → at′ ≤ length s′

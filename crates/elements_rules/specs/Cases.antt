@@ -5,7 +5,7 @@ use mathlib.Core.Path.{_≡_}
 use mathlib.Core.List.{List, [], _∷_}
 use lib.IntN.{pos, negsuc}
 use Rattle.refusals.specs.Refusals.{because}
-use Rattle.refusals.specs.Reply.{Reply, refusal, Numbered, given, refused, numbered}
+use Rattle.refusals.specs.Reply.{Reply, refusal, ByNumber, given, refused, byNumber}
 use Rattle.header.specs.Header.{Heading, heading, headerOf}
 use Rattle.header.specs.Header.{refused as refusedHeader}
 use Rattle.header.specs.Promise.{headerReply}
@@ -20,18 +20,18 @@ use Rattle.elements_rules.specs.Promise.{readOf, replyOf, zeros, tableOf
 -- Each case has the number behind its P.
 pub data Case : Type 0 where
   -- the header at 0
-  header : (name : ℕ) → List ℕ → Numbered Header → Case
+  header : (name : ℕ) → List ℕ → ByNumber Header → Case
   -- the body behind the header at 0, under no parent
-  body : (name : ℕ) → List ℕ → Numbered Body → Case
+  body : (name : ℕ) → List ℕ → ByNumber Body → Case
   -- the elements of a payload at 0, of a size and under a parent id, into a table of two rows: the reply, and the table
-  read : (name : ℕ) → List ℕ → (size parent : ℕ) → Numbered ℕ → List ℕ → Case
+  read : (name : ℕ) → List ℕ → (size parent : ℕ) → ByNumber ℕ → List ℕ → Case
 
 -- Two rows.
 abbrev pub numbers : ℕ
 numbers = 2 * width
 
 -- A header with that id, size and length.
-abbrev is : (id size length : ℕ) → Numbered Header
+abbrev is : (id size length : ℕ) → ByNumber Header
 is id size length = given (record { id = id; size = size; length = length })
 
 abbrev pub cases : List Case
@@ -65,10 +65,10 @@ bodyBehind s (heading h) = bodyReply s (h .id) 0 (h .length) (h .size)
 bodyBehind s (refusedHeader cause) = refusal (because cause)
 
 abbrev pub Holds : Case → Type 0
-Holds (header name s reply) = numbered (headerReply s 0) ≡ reply
-Holds (body name s reply) = numbered (bodyBehind s (headerOf s)) ≡ reply
+Holds (header name s reply) = byNumber (headerReply s 0) ≡ reply
+Holds (body name s reply) = byNumber (bodyBehind s (headerOf s)) ≡ reply
 Holds (read name s size parent reply table) =
-    (numbered (replyOf (readOf s 0 size parent numbers)) ≡ reply)
+    (byNumber (replyOf (readOf s 0 size parent numbers)) ≡ reply)
     × (tableOf 0 numbers (readOf s 0 size parent numbers) ≡ table)
 
 -- The one statement: each case's question has the case's reply.

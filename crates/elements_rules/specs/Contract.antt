@@ -57,12 +57,12 @@ pub record Met
   pub room : (f : Forest) → o ≡ done f → Room mode t (n + count f)
 
 -- What `element` gives at a place, and `master_body` for a payload there: each under what stands above it.
-abbrev pub ElementMet : List ℕ → Mode → Cursor → ℕ → Above → List ℕ → List ℕ → ElementRead → Type 0
+abbrev pub ElementMet : List ℕ → Mode → (place : Cursor) (n : ℕ) → Above → (t t′ : List ℕ) → ElementRead → Type 0
 ElementMet s mode place n above t t′ r =
     Met s mode (place .at + 1) (above .row) (above .depth) (place .at) n
     (element s mode (length t / width) (depths - above .depth) (above .id) (place .at) n) t t′ r
 
-abbrev pub BodyMet : List ℕ → Mode → Cursor → ℕ → ℕ → Above → List ℕ → List ℕ → ElementRead → Type 0
+abbrev pub BodyMet : List ℕ → Mode → (from : Cursor) (size n : ℕ) → Above → (t t′ : List ℕ) → ElementRead → Type 0
 BodyMet s mode from size n above t t′ r =
     Met s mode (from .at) (above .row) (above .depth) (from .at) n
     (masterBody s mode (length t / width) (above .depth) (above .id) (from .at) size n) t t′ r

@@ -36,7 +36,7 @@ use Rattle.chapters.specs.declared.display.DisplayReply.{DisplayReply}
 use Rattle.chapters.specs.declared.display.DisplayReply.the-variants.{Display, Refused}
 use Rattle.chapters.proofs.Displays.{first-of-displays}
 use Rattle.labels.specs.Shown.{isText, textRange}
-use Rattle.labels.specs.Theorems.{StringRow, StageIsShown, FirstIsShown}
+use Rattle.labels.specs.Theorems.{StageIsShown, ShownBy, FirstIsShown}
 use Rattle.labels.proofs.Stages.{label-is-shown}
 
 -- A part that is told comes from a child.
@@ -100,8 +100,13 @@ first-is-shown s start size k i t replies tables p rs chapter a j g q =
     let first = first-of-displays s start size k i t replies tables p rs chapter a in
     by (replies j) refl (first .at j g .0 q .0)
   where
-    by : (r : DisplayReply) → replies j ≡ r → stringTold r ≡ At g → (rows : ℕ) × StringRow s (tables j) rows g
+    by : (r : DisplayReply) → replies j ≡ r → stringTold r ≡ At g → ShownBy s (replies j) (tables j) g
     by (Display d rows) e w =
         let shown : DisplayPromise s start size k i j t (Display d rows) (tables j) = rw e at (p j) in
-        (rows, stage-is-shown s start size k i j t d rows (tables j) g shown w)
+        record {
+          display = d;
+          rows = rows;
+          told = e;
+          row = stage-is-shown s start size k i j t d rows (tables j) g shown w;
+        }
     by (Refused e) x w = let z : _≡_ {A = ℕ} 0 1 = cc in absurd (omega arith)

@@ -61,6 +61,13 @@ StageIsShown =
     → DisplayPromise s start size k i j t (Display d rows) t′ → d .string ≡ At string
     → StringRow s t′ rows string
 
+-- A display's reply that has a string, and the row that the string comes from.
+pub record ShownBy (s : List ℕ) (reply : DisplayReply) (t′ : List ℕ) (string : Range) : Type 0 where
+  pub display : ChapterDisplay
+  pub rows : ℕ
+  pub told : reply ≡ Display display rows
+  pub row : StringRow s t′ rows string
+
 -- So it is of a chapter's first display with a set string, as `first_string` gives it: the stage label that is asked
 -- with it is the shown text of a row of the table that the question for that display leaves.
 abbrev pub FirstIsShown : Type 0
@@ -69,4 +76,4 @@ FirstIsShown =
     → ((j : ℕ) → DisplayPromise s start size k i j t (replies j) (tables j))
     → (rs : List Row) (chapter : ℕ) → chapterAsked s start size k i (length t) ≡ found rs chapter
     → (j : ℕ) (string : Range) → firstString s rs chapter ≡ FirstAt j string
-    → (rows : ℕ) × StringRow s (tables j) rows string
+    → ShownBy s (replies j) (tables j) string

@@ -19,7 +19,7 @@ abbrev pub tableNumbers : ℕ
 tableNumbers = 1024 * width
 
 -- The payload's address and size, and how many rows it has.
-unfoldable pub placeText : ℕ → ℕ → ℕ → List ℕ
+unfoldable pub placeText : (at size rows : ℕ) → List ℕ
 placeText at size rows =
     ascii " at " ++ decimal at ++ ascii " size " ++ decimal size ++ ascii " rows " ++ decimal rows ++ ascii "\n"
 

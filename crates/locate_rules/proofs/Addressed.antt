@@ -194,7 +194,8 @@ listed-in (found rs parent) member k = go (member rs parent)
     go NoChild = tt
     go (ChildAt n r) = k
 
-addressed : (values : List Row → ℕ → List FieldValue) (a : Asked) (numbers : ℕ) (vs : List FieldValue) (n : ℕ) (t′ : List ℕ)
+addressed :
+    (values : List Row → ℕ → List FieldValue) (a : Asked) (numbers : ℕ) (vs : List FieldValue) (n : ℕ) (t′ : List ℕ)
     → ((rs : List Row) (parent : ℕ) → parent ≤ length rs → AllPlaced rs (values rs parent)) → Known-in a
     → RecordPromise values a numbers (fields vs n) t′ → AllPlaced (rowsOf t′ n) vs
 addressed values (refusing e) numbers vs n t′ f k p =

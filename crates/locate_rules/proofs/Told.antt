@@ -31,7 +31,8 @@ module _ {s : List ℕ} {a : Asked} {numbers : ℕ} {r : Located} {t′ : List �
     pub readable-at : Readable s t′ b
     readable-at = readable stands-at
 
-    pub told-found : {values : List Row → ℕ → List FieldValue} {vs : List FieldValue} → vs ≡ values (rowsOf t′ n) (b .parent)
+    pub told-found : {values : List Row → ℕ → List FieldValue} {vs : List FieldValue}
+        → vs ≡ values (rowsOf t′ n) (b .parent)
         → RecordPromise values a numbers (fields vs n) t′
     told-found {values} e =
         record {

@@ -11,8 +11,8 @@ use Rattle.locate_rules.specs.Told.{Answer, fields, refusal}
 abbrev pub numbers : ℕ
 numbers = 16 * width
 
--- An answer as document 01's cases write one: the fields and how many rows there are, or a refusal by its number, with
--- the id that 8 carries.
+-- An answer in document 01's numbers: the fields and how many rows there are, or a refusal's number with the id that 8
+-- carries.
 pub data Due : Type 0 where
   told : List FieldValue → ℕ → Due
   refused : (number id : ℕ) → Due

@@ -66,8 +66,8 @@ AllPlaced rs (v ∷ vs) = Placed rs v × AllPlaced rs vs
 -- Every address in a record that is told is the payload's place of one of the rows that the table holds at exit.
 abbrev pub Addressed : (List Row → ℕ → List FieldValue) → (ℕ → Asked) → Type 0
 Addressed values ask =
-    (numbers : ℕ) (vs : List FieldValue) (n : ℕ) (t′ : List ℕ) → RecordPromise values (ask numbers) numbers (fields vs n) t′
-    → AllPlaced (rowsOf t′ n) vs
+    (numbers : ℕ) (vs : List FieldValue) (n : ℕ) (t′ : List ℕ)
+    → RecordPromise values (ask numbers) numbers (fields vs n) t′ → AllPlaced (rowsOf t′ n) vs
 
 -- ---- the table is the read's
 

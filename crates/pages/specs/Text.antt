@@ -17,7 +17,7 @@ glyph digit = cond (ltb digit 10) (48 + digit) (55 + digit)
 
 -- A number in a base, with no zero in front, of at most so many digits: below the base it is its digit; else the
 -- numeral of the quotient comes first, and the remainder is the last digit.
-unfoldable pub numeral : ℕ → ℕ → ℕ → List ℕ
+unfoldable pub numeral : (base most n : ℕ) → List ℕ
 numeral base zero n = []
 numeral base (suc most) n =
     cond (ltb n base) (glyph n ∷ []) (numeral base most (n / base) ++ glyph (n % base) ∷ [])

@@ -8,10 +8,10 @@ pub data Reply (A : Type 0) : Type 0 where
   refusal : Refusal → Reply A
 
 -- The same with document 01's number in place of the cause: as its cases write a reply.
-pub data Numbered (A : Type 0) : Type 0 where
-  given : A → Numbered A
-  refused : (number id : ℕ) → Numbered A
+pub data ByNumber (A : Type 0) : Type 0 where
+  given : A → ByNumber A
+  refused : (number id : ℕ) → ByNumber A
 
-abbrev pub numbered : {A : Type 0} → Reply A → Numbered A
-numbered (accepted a) = given a
-numbered (refusal e) = refused (causeNumber (e .cause)) (causeId (e .cause))
+abbrev pub byNumber : {A : Type 0} → Reply A → ByNumber A
+byNumber (accepted a) = given a
+byNumber (refusal e) = refused (causeNumber (e .cause)) (causeId (e .cause))

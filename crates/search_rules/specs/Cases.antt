@@ -4,11 +4,11 @@ use Prim.Native.Nat.{ℕ, _*_}
 use mathlib.Core.Path.{_≡_}
 use mathlib.Core.List.{List, [], _∷_, _++_}
 use Rattle.elements_rules.specs.Rows.{width}
-use Rattle.refusals.specs.Reply.{Numbered, given, refused, numbered}
+use Rattle.refusals.specs.Reply.{ByNumber, given, refused, byNumber}
 use Rattle.search_rules.specs.Part.{searchOf, PartTold, foundPart, absentPart, replyOf}
 
 pub data Case : Type 0 where
-  search : (bytes : List ℕ) (part : ℕ) → Numbered PartTold → Case
+  search : (bytes : List ℕ) (part : ℕ) → ByNumber PartTold → Case
 
 -- Three rows.
 abbrev pub numbers : ℕ
@@ -27,7 +27,7 @@ abbrev tags : ℕ
 tags = 0x1254C367
 
 -- A part that is absent after so many heads.
-abbrev absentAfter : ℕ → Numbered PartTold
+abbrev absentAfter : ℕ → ByNumber PartTold
 absentAfter heads = given (absentPart heads)
 
 -- A segment with a seek head that has one entry: the id's four bytes, and position 0.
@@ -86,7 +86,7 @@ cases =
     ∷ []
 
 abbrev pub Holds : Case → Type 0
-Holds (search s part reply) = numbered (replyOf (searchOf s part numbers)) ≡ reply
+Holds (search s part reply) = byNumber (replyOf (searchOf s part numbers)) ≡ reply
 
 -- The one statement: each search has the case's reply.
 abbrev pub Hold : List Case → Type 0

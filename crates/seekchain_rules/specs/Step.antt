@@ -1,5 +1,5 @@
--- The step by which the file's elements, the segment's children and sought addresses are read: a child at a place, up to
--- an end (document 01, Seek tables and the search).
+-- The step by which the file's elements, the segment's children and sought addresses are read: a child at a place, up
+-- to an end (document 01, Seek tables and the search).
 use Prim.Native.Nat.{ℕ}
 use mathlib.Core.List.{List}
 use mathlib.Core.Bool.{cond}

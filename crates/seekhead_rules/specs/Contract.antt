@@ -1,5 +1,5 @@
 -- What the functions of `seekhead` promise each other: how the definitions are told by the code's enums.
-use Prim.Native.Nat.{ℕ, _+_, _-_, _≤_, _<_}
+use Prim.Native.Nat.{ℕ, _-_, _≤_, _<_}
 use mathlib.Core.Path.{_≡_}
 use mathlib.Core.List.{List}
 use lib.ListN.{length}
@@ -12,7 +12,7 @@ use Rattle.bodies_rules.specs.Bodies.{body, bodyOf}
 use Rattle.bodies_rules.specs.declared.body.Body.{Body}
 use Rattle.elements_rules.specs.Forest.{Forest, none, node}
 use Rattle.elements_rules.specs.Reading.{Outcome, done, refused, depths, elementOf, element}
-use Rattle.header.specs.Reads.{headerAt}
+use Rattle.header.specs.Reads.{behind, headerAt}
 use Rattle.seekhead_rules.specs.Seeks.{segmentId, seekHeadId, seekId, withoutRows, noSeek, withMembers}
 use Rattle.seekhead_rules.specs.Seeks.{headOf, seekBody, entries}
 use Rattle.seekhead_rules.specs.Table.{latestFrom, positionsFrom}
@@ -39,7 +39,7 @@ pub record Readable (s kinds : List ℕ) (e : Headed) : Type 0 where
 
 -- The whole payload of an element is in the recording.
 abbrev pub Whole : List ℕ → Headed → Type 0
-Whole s e = e .payload .at + e .header .size ≤ length s
+Whole s e = behind e ≤ length s
 
 -- A depth at which an element may stand.
 abbrev pub Shallow : ℕ → Type 0

@@ -36,7 +36,7 @@ segmentOf s = segmentFrom s 0
 
 -- ---- the segment's children
 
--- A walk withinSegment a segment: a child that is passed over need not be there, but it is 3 if it is larger than what was
+-- A walk within a segment: a child that is passed over need not be there, but it is 3 if it is larger than what was
 -- left.
 abbrev pub withinSegment : {A B : Type 0} → Headed → Walk A B → Walk A B
 withinSegment segment w = record {
@@ -60,7 +60,8 @@ searching s wanted segment =
 
 -- The children from an address on, up to the segment's end.
 abbrev pub segmentChildrenFrom : List ℕ → (wanted : ℕ) (segment : Headed) (at : ℕ) → Lookup
-segmentChildrenFrom s wanted segment at = walkFrom s (behind segment) (withinSegment segment (searching s wanted segment)) at tt
+segmentChildrenFrom s wanted segment at =
+    walkFrom s (behind segment) (withinSegment segment (searching s wanted segment)) at tt
 
 -- All of them. The segment starts at the address after its header.
 unfoldable pub segmentChildren : List ℕ → (wanted : ℕ) (segment : Headed) → Lookup

@@ -15,7 +15,15 @@ partFace (accepted (foundPart at size rows heads)) =
 partFace (accepted (absentPart heads)) =
     record { refused = 0; id = 0; found = 0; at = 0; size = 0; rows = 0; heads = heads }
 partFace (refusal e) =
-    record { refused = causeNumber (e .cause); id = causeId (e .cause); found = 0; at = 0; size = 0; rows = 0; heads = 0 }
+    record {
+      refused = causeNumber (e .cause);
+      id = causeId (e .cause);
+      found = 0;
+      at = 0;
+      size = 0;
+      rows = 0;
+      heads = 0;
+    }
 
 abbrev pub rangeFace : Reply Range → UzRange
 rangeFace (accepted r) = record { refused = 0; at = r .at; length = r .length }

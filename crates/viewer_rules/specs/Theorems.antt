@@ -80,7 +80,15 @@ partNamed (Found at size rows heads) =
     record { refused = 0; id = 0; found = 1; at = at; size = size; rows = rows; heads = heads }
 partNamed (Absent heads) = record { refused = 0; id = 0; found = 0; at = 0; size = 0; rows = 0; heads = heads }
 partNamed (NoPart e) =
-    record { refused = causeNumber (e .cause); id = causeId (e .cause); found = 0; at = 0; size = 0; rows = 0; heads = 0 }
+    record {
+      refused = causeNumber (e .cause);
+      id = causeId (e .cause);
+      found = 0;
+      at = 0;
+      size = 0;
+      rows = 0;
+      heads = 0;
+    }
 
 abbrev pub rangeNamed : RangeReply → UzRange
 rangeNamed (Range r) = record { refused = 0; at = r .at; length = r .length }
