@@ -6,7 +6,7 @@ use questions::asked::Asked;
 
 // `kind K`
 pub fn kind(asked: Asked) -> Told {
-    let kind = kinds::kind_of(asked.id, asked.parent);
+    let kind = kind_decision::kind_of(asked.id, asked.parent);
     told::word(
         told::word(told::before(told::ENDED, 0), 0),
         kind_index(kind),

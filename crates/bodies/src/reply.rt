@@ -8,7 +8,7 @@ use header::Cursor;
 use header::Headed;
 use header::Header;
 use header::MOST_BYTES;
-use kinds::kind_of;
+use kind_decision::kind_of;
 use refusals::Cause;
 use refusals::Refusal;
 

@@ -9,7 +9,6 @@ use elements_rules::ElementRead;
 use elements_rules::Mode;
 use elements_rules::ReadReply;
 use header::Cursor;
-use kinds::TABLE;
 use refusals::Cause;
 use refusals::Refusal;
 use rowstore::clear;
@@ -22,7 +21,6 @@ pub fn fill(recording: &[u8], start: u64, size: u64, parent: u32, table: &mut [u
     ensures { λ r. ⌜ ReadPromise (now (recording .entry)) start size parent
         (now (table .entry)) r (now (table .exit)) ⌝ }
 {
-    let kinds = TABLE;
     let mode = Mode { keep: true };
     let from = Cursor { at: start };
     let above = Above {
@@ -30,7 +28,7 @@ pub fn fill(recording: &[u8], start: u64, size: u64, parent: u32, table: &mut [u
         row: 0,
         depth: 0,
     };
-    match master_body(recording, &kinds, table, mode, from, size, 0, above) {
+    match master_body(recording, table, mode, from, size, 0, above) {
         ElementRead::Refused(refusal) => {
             clear(table);
             ReadReply::Refused(refusal)

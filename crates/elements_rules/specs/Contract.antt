@@ -7,8 +7,6 @@ use lib.ListN.{length, set}
 use lib.Seq.{sets}
 use Rattle.header.specs.Promise.{mostBytes}
 use Rattle.header.specs.declared.cursor.Cursor.{Cursor}
-use Rattle.kinds.specs.Elements.{elements}
-use Rattle.kinds.specs.Entries.{entries}
 use Rattle.elements_rules.specs.Forest.{Forest, span, count}
 use Rattle.elements_rules.specs.Reading.{Outcome, done, refused, depths, element, masterBody}
 use Rattle.elements_rules.specs.Rows.{rows, width, afterColumn, flatten}
@@ -37,8 +35,7 @@ abbrev pub Room : Mode → List ℕ → ℕ → Type 0
 Room mode t n = mode .keep ≡ true → n ≤ length t / width
 
 -- What a reader at a place asks, with n rows before it: each row took a byte at least.
-pub record Ready (s kinds : List ℕ) (mode : Mode) (t : List ℕ) (at n : ℕ) : Type 0 where
-  pub listed : kinds ≡ entries elements
+pub record Ready (s : List ℕ) (mode : Mode) (t : List ℕ) (at n : ℕ) : Type 0 where
   pub small : length s ≤ mostBytes
   pub inside : at ≤ length s
   pub few : n ≤ at

@@ -12,8 +12,7 @@ use Rattle.refusals.specs.declared.refusal.Refusal.{Refusal}
 use Rattle.header.specs.Reads.{headedAt, headerAt}
 use Rattle.header.specs.Theorems.{Octets}
 use Rattle.header.specs.declared.cursor.HeaderRead.the-variants.{Read}
-use Rattle.kinds.specs.Entries.{kindOf}
-use Rattle.kinds.specs.Kinds.{numberOf, kindUnder}
+use Rattle.kinds.specs.Kinds.{numberOf, kindOf, kindUnder}
 use Rattle.bodies_rules.specs.Bodies.{bodyOf}
 use Rattle.elements_rules.specs.Forest.{Forest, none, span, count}
 use Rattle.elements_rules.specs.Reading.{done, andThen, prepend, refuseIf, depths, element, masterBody}

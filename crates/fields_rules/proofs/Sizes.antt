@@ -7,8 +7,7 @@ use mathlib.Core.Logic.{_⊎_, inl, inr}
 use lib.Dec.{leb, eqb}
 use borrow.Author.Tests.{leb-true, eqb-true}
 use Rattle.refusals.specs.declared.refusal.Cause.{Cause}
-use Rattle.kinds.specs.Kinds.{numberOf}
-use Rattle.kinds.specs.Entries.{kindOf}
+use Rattle.kinds.specs.Kinds.{numberOf, kindOf}
 use Rattle.kinds.specs.declared.kind.Kind.{Kind}
 use Rattle.kinds.specs.declared.kind.Kind.the-variants.{Uint, Float}
 use Rattle.kinds.proofs.Numbers.{kind-back}

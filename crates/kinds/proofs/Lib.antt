@@ -1,7 +1,7 @@
--- The laws that the proofs of `kinds` use, and its theorems.
+-- The laws of the list that the kind decision and the crates above use, and the theorems.
 pub mod Order
 pub mod Numbers
-pub mod Listed
+pub mod Runs
 pub mod Parents
 pub mod Unique
 pub mod Sets

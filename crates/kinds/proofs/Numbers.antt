@@ -1,8 +1,9 @@
 -- A kind's number tells the kind. Assumes nothing.
 use mathlib.Core.Path.{_≡_, refl, ap, sym, _∙_}
 use mathlib.Core.Bool.{Bool, true, false, cond}
-use Rattle.kinds.specs.Kinds.{numberOf, demoted}
-use Rattle.kinds.specs.Entries.{kindOf}
+use Prim.Native.Nat.{ℕ}
+use Rattle.kinds.specs.Kinds.{numberOf, kindOf, kindUnder, demoted}
+use Rattle.kinds.specs.Promise.{KindPromise}
 use Rattle.kinds.specs.declared.kind.Kind.{Kind}
 use Rattle.kinds.specs.declared.kind.Kind.the-variants.{Master, Int, Uint, String, Utf8, Binary, Float, Date}
 
@@ -18,6 +19,10 @@ kind-back Date = refl
 
 pub number-tells : (k k′ : Kind) → numberOf k ≡ numberOf k′ → k ≡ k′
 number-tells k k′ e = sym (kind-back k) ∙ ap kindOf e ∙ kind-back k′
+
+-- The promise gives the kind itself.
+pub promised-kind : (id parent : ℕ) (k : Kind) → KindPromise id parent k → k ≡ kindUnder id parent
+promised-kind id parent k p = number-tells k (kindUnder id parent) (p .reply)
 
 -- Only a master loses its kind.
 pub others-stay : (k : Kind) → (numberOf k ≡ 1 → ⊥) → demoted k ≡ k

@@ -1,4 +1,4 @@
--- What one comparison says of rising numbers, and the order of a list by one computed test. Assumes nothing.
+-- The order of a list of numbers by one computed test. Assumes nothing.
 use mathlib.Core.Path.{_≡_, refl, ap}
 use mathlib.Core.List.{List, [], _∷_}
 use mathlib.Core.Logic.{_⊎_, inl, inr, ⊎-elim}
@@ -10,7 +10,6 @@ use lib.ListN.{length, getD}
 use lib.Dec.{T, ltb, ltb→lt}
 use borrow.Author.Tests.{ltb-true, ltb-false}
 use Rattle.booleans.proofs.Computed.{both-left, both-right}
-use Rattle.kinds.specs.Entries.{Rising}
 
 pub lt-or-le : (a b : ℕ) → (a < b) ⊎ (b ≤ a)
 lt-or-le a b = by (ltb a b) refl
@@ -18,23 +17,6 @@ lt-or-le a b = by (ltb a b) refl
     by : (t : Bool) → ltb a b ≡ t → (a < b) ⊎ (b ≤ a)
     by true e = inl (ltb-true a b e)
     by false e = inr (ltb-false a b e)
-
-module _ (xs : List ℕ) (r : Rising xs) (x m : ℕ) where
-  -- A number below x: so is every one before it.
-  pub lower : m < length xs → getD xs m 0 < x → (k : ℕ) → k < m + 1 → getD xs k 0 < x
-  lower h t k l =
-      ⊎-elim
-      (λ e. omega (arith, ap (λ (j : ℕ). getD xs j 0) e))
-      (λ s. omega (arith, r .rises k m s h))
-      (eq-or-lt-of-le {n = k} {m = m} (omega arith))
-
-  -- A number that is x or more: so is every one after it.
-  pub upper : x ≤ getD xs m 0 → (k : ℕ) → m ≤ k → k < length xs → x ≤ getD xs k 0
-  upper t k l h =
-      ⊎-elim
-      (λ e. omega (arith, ap (λ (j : ℕ). getD xs j 0) e))
-      (λ s. omega (arith, r .rises m k s h))
-      (eq-or-lt-of-le l)
 
 -- The test: the first number is above a, and each other above the one before it.
 abbrev pub rises : ℕ → List ℕ → Bool

@@ -1,31 +1,29 @@
--- What a parent makes of a kind. Assumes nothing.
-use mathlib.Core.Path.{_≡_, ap, sym, _∙_}
+-- What a parent makes of a kind by the list. Assumes nothing.
+use mathlib.Core.Path.{_≡_, sym, _∙_}
 use mathlib.Core.Bool.{true, false}
 use Prim.Native.Nat.{ℕ}
 use Rattle.kinds.specs.Elements.{elements}
 use Rattle.kinds.specs.Kinds.{numberOf, kindIn, kindUnder, staysMaster, demoted}
-use Rattle.kinds.specs.Entries.{kindOf}
+use Rattle.kinds.specs.Promise.{KindPromise}
+use Rattle.kinds.specs.declared.kind.Kind.{Kind}
 use Rattle.kinds.specs.declared.kind.Kind.the-variants.{Master, Binary}
-use Rattle.kinds.proofs.Numbers.{kind-back, number-tells, others-stay, either}
+use Rattle.kinds.proofs.Numbers.{number-tells, others-stay, either}
 
-module _ (parent id : ℕ) where
+module _ (id parent : ℕ) (k : Kind) (listed : k ≡ kindIn elements id) where
   -- Under any parent a kind other than master stays.
-  pub under-other :
-      (n : ℕ) → n ≡ numberOf (kindIn elements id) → (n ≡ 1 → ⊥) → kindOf n ≡ kindUnder id parent
+  pub under-other : (numberOf k ≡ 1 → ⊥) → KindPromise id parent k
   unfolding kindUnder
-  under-other n e other =
-      let k = kindIn elements id in
-      let stays : demoted k ≡ k = others-stay k (λ q. other (e ∙ q)) in
-      ap kindOf e ∙ kind-back k ∙ rw stays (sym (either (staysMaster id parent) k))
+  under-other other =
+      record { reply = rw (sym listed, others-stay k other, either (staysMaster id parent) k) }
 
-  master : 1 ≡ numberOf (kindIn elements id) → kindIn elements id ≡ Master
-  master e = number-tells (kindIn elements id) Master (sym e)
+  master : numberOf k ≡ 1 → kindIn elements id ≡ Master
+  master e = sym listed ∙ number-tells k Master e
 
   -- A master stays one where the parent's set has it, and is binary where not.
-  pub under-kept : 1 ≡ numberOf (kindIn elements id) → staysMaster id parent ≡ true → Master ≡ kindUnder id parent
+  pub under-kept : numberOf k ≡ 1 → staysMaster id parent ≡ true → KindPromise id parent Master
   unfolding kindUnder
-  under-kept e kept = rw (kept, master e)
+  under-kept e kept = record { reply = rw (kept, master e) }
 
-  pub under-lost : 1 ≡ numberOf (kindIn elements id) → staysMaster id parent ≡ false → Binary ≡ kindUnder id parent
+  pub under-lost : numberOf k ≡ 1 → staysMaster id parent ≡ false → KindPromise id parent Binary
   unfolding kindUnder demoted
-  under-lost e lost = rw (lost, master e)
+  under-lost e lost = record { reply = rw (lost, master e) }

@@ -3,10 +3,15 @@ use mathlib.Core.Path.{refl, sym}
 use mathlib.Core.Logic.{⊎-elim}
 use native.Mathlib.Nat.{eq-or-lt-of-le}
 use native.Mathlib.Omega.{arith}
+use lib.Dec.{T}
 use Rattle.kinds.specs.Elements.{elements}
 use Rattle.kinds.specs.Theorems.{ids, count, Sorted, NoneTwice, Sizes}
-use Rattle.kinds.proofs.Order.{ordered, lt-or-le}
-use Rattle.kinds.proofs.Listed.{sorted}
+use Rattle.kinds.proofs.Order.{rises, ordered, lt-or-le}
+
+-- The order of the list, by one computed test.
+sorted : T (rises 0 (ids elements))
+unfolding elements
+sorted = tt
 
 pub list-sorted : Sorted
 list-sorted = ordered 0 (ids elements) sorted

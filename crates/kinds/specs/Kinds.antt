@@ -18,6 +18,17 @@ numberOf Binary = 6
 numberOf Float = 7
 numberOf Date = 8
 
+abbrev pub kinds : List Kind
+kinds = Master ∷ Int ∷ Uint ∷ String ∷ Utf8 ∷ Binary ∷ Float ∷ Date ∷ []
+
+-- The kind with a number; what is no number of a kind is taken as binary.
+abbrev pub numbered : List Kind → ℕ → Kind
+numbered [] n = Binary
+numbered (k ∷ ks) n = cond (eqb n (numberOf k)) k (numbered ks n)
+
+abbrev pub kindOf : ℕ → Kind
+kindOf n = numbered kinds n
+
 -- The kind of the first row with the id; an id in no row is binary.
 unfoldable pub kindIn : List Row → ℕ → Kind
 kindIn [] id = Binary

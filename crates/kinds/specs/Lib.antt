@@ -1,6 +1,5 @@
--- The definitions that the contracts of `kinds` cite, and the statements of its theorems.
+-- The definitions that the contracts of the kind decision cite, and the statements of the theorems.
 pub mod Elements
 pub mod Kinds
-pub mod Entries
 pub mod Promise
 pub mod Theorems

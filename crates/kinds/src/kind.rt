@@ -1,6 +1,5 @@
 // The eight kinds of an element, and their numbers (document 01, Kinds).
 ghost use mathlib.Core.Path.{_≡_};
-ghost use Rattle.kinds.specs.Entries.{kindOf};
 ghost use Rattle.kinds.specs.Kinds.{numberOf};
 
 // The number of the kind whose body holds elements.
@@ -32,22 +31,6 @@ impl Kind {
             Kind::Binary => 6,
             Kind::Float => 7,
             Kind::Date => 8,
-        }
-    }
-
-    // The kind with a number; what is no number of a kind is taken as binary.
-    pub fn of_number(number: u64) -> Kind
-        ensures { λ r. ⌜ r ≡ kindOf number ⌝ }
-    {
-        match number {
-            1 => Kind::Master,
-            2 => Kind::Int,
-            3 => Kind::Uint,
-            4 => Kind::String,
-            5 => Kind::Utf8,
-            7 => Kind::Float,
-            8 => Kind::Date,
-            _ => Kind::Binary,
         }
     }
 }

@@ -1,14 +1,8 @@
 // The public call: a part of a recording, found and read into rows of a lent table.
 ghost use mathlib.Core.Path.{_≡_};
-ghost use Prim.Native.Nat.{_≤_};
-ghost use lib.ListN.{length};
-ghost use Rattle.header.specs.Promise.{mostBytes};
-ghost use Rattle.seekchain_rules.specs.Contract.{placeTold};
-ghost use Rattle.segments_rules.specs.Segment.{lookupOf};
 ghost use Rattle.search_rules.specs.Part.{parentOf, PartPromise};
 use elements::fill;
 use elements_rules::ReadReply;
-use kinds::TABLE;
 use kinds::ids;
 use refusals::Cause;
 use refusals::Refusal;
@@ -32,15 +26,6 @@ fn parent_of(part: u32) -> Parent
     }
 }
 
-// Where a part is. The list of kinds is named here, and lent down.
-fn place_of(recording: &[u8], part: u32) -> PartPlace
-    requires { ⌜ length (now recording) ≤ mostBytes ⌝ }
-    ensures { λ r. ⌜ r ≡ placeTold (lookupOf (now (recording .entry)) part) ⌝ }
-{
-    let kinds = TABLE;
-    look_up(recording, &kinds, part)
-}
-
 // Where the part is, and its elements as rows of the table, as `read` would fill it. The table of an absent part is all
 // zeros, and that of a refused one too. 14: a length is broken, or the part is none of the four.
 pub fn find_part(recording: &[u8], part: u32, table: &mut [u64]) -> PartReply
@@ -56,7 +41,7 @@ pub fn find_part(recording: &[u8], part: u32, table: &mut [u64]) -> PartReply
         Parent::NoPart => PartReply::Refused(Refusal {
             cause: Cause::BadArgument,
         }),
-        Parent::Id(parent) => match place_of(recording, part) {
+        Parent::Id(parent) => match look_up(recording, part) {
             PartPlace::Refused(refusal) => PartReply::Refused(refusal),
             PartPlace::Absent { heads } => PartReply::Absent { heads },
             PartPlace::Found { part: found, heads } => {

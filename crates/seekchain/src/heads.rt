@@ -108,14 +108,8 @@ fn next_head(recording: &[u8], start: u64, seen: &[u64], read: usize, link: Late
 
 // The positions of the wanted ids by the heads from the first one on. An entry for a further head is dropped once it
 // was followed.
-pub fn linked_heads(
-    recording: &[u8],
-    kinds: &[u64],
-    wanted: Wanted,
-    start: u64,
-    first: Headed,
-) -> HeadsRead
-    requires { ⌜ Readable (now recording) (now kinds) first ⌝ }
+pub fn linked_heads(recording: &[u8], wanted: Wanted, start: u64, first: Headed) -> HeadsRead
+    requires { ⌜ Readable (now recording) first ⌝ }
     ensures { λ r. ⌜ r ≡ headsTold wanted (linkedHeads (now (recording .entry)) start first) ⌝ }
 {
     let mut seen = [0u64; MOST_HEADS];
@@ -129,7 +123,7 @@ pub fn linked_heads(
         fifth: Latest::Nowhere,
     };
     loop {
-        match head_body(recording, kinds, wanted, parts, head) {
+        match head_body(recording, wanted, parts, head) {
             HeadRead::Refused(refusal) => {
                 return HeadsRead::Refused(refusal);
             }

@@ -37,14 +37,8 @@ fn part_at(recording: &[u8], wanted: u32, start: u64, heads: u64, link: Latest) 
 }
 
 // The wanted part by the heads from the first one on, with positions counted from the segment's start.
-pub fn by_heads(
-    recording: &[u8],
-    kinds: &[u64],
-    wanted: u32,
-    start: u64,
-    first: Headed,
-) -> PartPlace
-    requires { ⌜ Readable (now recording) (now kinds) first ⌝ }
+pub fn by_heads(recording: &[u8], wanted: u32, start: u64, first: Headed) -> PartPlace
+    requires { ⌜ Readable (now recording) first ⌝ }
     ensures { λ r. ⌜ r ≡ placeTold (byHeads (now (recording .entry)) wanted start first) ⌝ }
 {
     let only = Wanted {
@@ -54,7 +48,7 @@ pub fn by_heads(
         fourth: 0,
         fifth: 0,
     };
-    match linked_heads(recording, kinds, only, start, first) {
+    match linked_heads(recording, only, start, first) {
         HeadsRead::Refused(refusal) => PartPlace::Refused(refusal),
         HeadsRead::Read { parts, heads } => {
             let link = parts.first;

@@ -62,37 +62,25 @@ fn insert(table: Seektable, wanted: Wanted, seek: Seek) -> Seektable
 }
 
 // The table with the child of a head whose header was read: an entry if it is a Seek, else nothing more.
-fn head_child(
-    recording: &[u8],
-    kinds: &[u64],
-    wanted: Wanted,
-    table: Seektable,
-    child: Headed,
-) -> HeadRead
-    requires { ⌜ Readable (now recording) (now kinds) child ⌝ }
+fn head_child(recording: &[u8], wanted: Wanted, table: Seektable, child: Headed) -> HeadRead
+    requires { ⌜ Readable (now recording) child ⌝ }
     ensures { λ r. ⌜ r ≡ childTold (now (recording .entry)) wanted table child ⌝ }
 {
     if child.header.id == ids::SEEK {
-        return match seek_body(recording, kinds, child) {
+        return match seek_body(recording, child) {
             SeekRead::Refused(refusal) => HeadRead::Refused(refusal),
             SeekRead::Read(seek) => HeadRead::Read(insert(table, wanted, seek)),
         };
     }
-    match skim_body(recording, kinds, child, ids::SEGMENT, 0) {
+    match skim_body(recording, child, ids::SEGMENT, 0) {
         SkimRead::Refused(refusal) => HeadRead::Refused(refusal),
         SkimRead::Read(_) => HeadRead::Read(table),
     }
 }
 
 // The positions of the wanted ids with those of a head whose header was read, and its entry for a further head.
-pub fn head_body(
-    recording: &[u8],
-    kinds: &[u64],
-    wanted: Wanted,
-    parts: Positions,
-    head: Headed,
-) -> HeadRead
-    requires { ⌜ Readable (now recording) (now kinds) head ⌝ }
+pub fn head_body(recording: &[u8], wanted: Wanted, parts: Positions, head: Headed) -> HeadRead
+    requires { ⌜ Readable (now recording) head ⌝ }
     ensures { λ r. ⌜ r ≡ headTold (now (recording .entry)) wanted parts head ⌝ }
 {
     let mut at = head.payload.at;
@@ -107,7 +95,7 @@ pub fn head_body(
             HeaderRead::Refused(refusal) => {
                 return HeadRead::Refused(refusal);
             }
-            HeaderRead::Read(child) => match head_child(recording, kinds, wanted, table, child) {
+            HeaderRead::Read(child) => match head_child(recording, wanted, table, child) {
                 HeadRead::Refused(refusal) => {
                     return HeadRead::Refused(refusal);
                 }

@@ -76,19 +76,19 @@ fn noted(recording: &[u8], seek: Seek, member: Headed, body: Body) -> Seek
 }
 
 // A Seek with the member whose header was read.
-fn seek_member(recording: &[u8], kinds: &[u64], seek: Seek, member: Headed) -> SeekRead
-    requires { ⌜ Readable (now recording) (now kinds) member ⌝ }
+fn seek_member(recording: &[u8], seek: Seek, member: Headed) -> SeekRead
+    requires { ⌜ Readable (now recording) member ⌝ }
     ensures { λ r. ⌜ r ≡ memberTold (now (recording .entry)) seek member ⌝ }
 {
-    match skim_body(recording, kinds, member, ids::SEEK, 1) {
+    match skim_body(recording, member, ids::SEEK, 1) {
         SkimRead::Refused(refusal) => SeekRead::Refused(refusal),
         SkimRead::Read(body) => SeekRead::Read(noted(recording, seek, member, body)),
     }
 }
 
 // A Seek whose header was read, with its members.
-pub fn seek_body(recording: &[u8], kinds: &[u64], element: Headed) -> SeekRead
-    requires { ⌜ Readable (now recording) (now kinds) element ⌝ }
+pub fn seek_body(recording: &[u8], element: Headed) -> SeekRead
+    requires { ⌜ Readable (now recording) element ⌝ }
     ensures { λ r. ⌜ r ≡ seekTold (now (recording .entry)) element ⌝ }
 {
     let mut at = element.payload.at;
@@ -100,7 +100,7 @@ pub fn seek_body(recording: &[u8], kinds: &[u64], element: Headed) -> SeekRead
             HeaderRead::Refused(refusal) => {
                 return SeekRead::Refused(refusal);
             }
-            HeaderRead::Read(member) => match seek_member(recording, kinds, seek, member) {
+            HeaderRead::Read(member) => match seek_member(recording, seek, member) {
                 SeekRead::Refused(refusal) => {
                     return SeekRead::Refused(refusal);
                 }

@@ -8,25 +8,19 @@ use elements_rules::Above;
 use elements_rules::ElementRead;
 use elements_rules::Mode;
 use header::Headed;
+use kind_decision::kind_of;
 use kinds::MASTER;
-use kinds::kind_in;
 use refusals::Refusal;
 use seekhead_rules::SkimRead;
 
 // The body of an element whose header was read, under a parent id and at a depth. A master's elements are read too.
-pub fn skim_body(
-    recording: &[u8],
-    kinds: &[u64],
-    element: Headed,
-    parent: u32,
-    depth: u64,
-) -> SkimRead
-    requires { ⌜ Readable (now recording) (now kinds) element ⌝ }
+pub fn skim_body(recording: &[u8], element: Headed, parent: u32, depth: u64) -> SkimRead
+    requires { ⌜ Readable (now recording) element ⌝ }
     requires { ⌜ Shallow depth ⌝ }
     ensures { λ r. ⌜ Skimmed (now (recording .entry)) depth parent element r ⌝ }
 {
     let header = element.header;
-    let kind = kind_in(kinds, header.id, parent);
+    let kind = kind_of(header.id, parent);
     if kind.number() == MASTER {
         let payload = element.payload;
         let below = depth + 1;
@@ -38,16 +32,7 @@ pub fn skim_body(
         let mode = Mode { keep: false };
         // The readers ask for a table; no row is kept in this one.
         let mut none = [0u64; 1];
-        return match master_body(
-            recording,
-            kinds,
-            &mut none,
-            mode,
-            payload,
-            header.size,
-            0,
-            above,
-        ) {
+        return match master_body(recording, &mut none, mode, payload, header.size, 0, above) {
             ElementRead::Refused(refusal) => SkimRead::Refused(refusal),
             ElementRead::Read { rows: _, next: _ } => SkimRead::Read(Body::Master),
         };

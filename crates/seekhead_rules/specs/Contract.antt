@@ -5,8 +5,6 @@ use mathlib.Core.List.{List}
 use lib.ListN.{length}
 use Rattle.header.specs.Promise.{mostBytes}
 use Rattle.refusals.specs.declared.refusal.Refusal.{Refusal}
-use Rattle.kinds.specs.Elements.{elements}
-use Rattle.kinds.specs.Entries.{entries as entriesOfKinds}
 use Rattle.kinds.specs.Kinds.{kindUnder}
 use Rattle.bodies_rules.specs.Bodies.{body, bodyOf}
 use Rattle.bodies_rules.specs.declared.body.Body.{Body}
@@ -30,10 +28,8 @@ use Rattle.seekhead_rules.specs.declared.head.Seektable.{Seektable}
 use Rattle.seekhead_rules.specs.declared.head.HeadRead.{HeadRead}
 use Rattle.seekhead_rules.specs.declared.head.HeadRead.the-variants.{Read as HeadIs, Refused as HeadRefused}
 
--- What a reader of an element asks: the list of kinds, a recording within its limit, and an element whose header was
--- read in it.
-pub record Readable (s kinds : List ℕ) (e : Headed) : Type 0 where
-  pub listed : kinds ≡ entriesOfKinds elements
+-- What a reader of an element asks: a recording within its limit, and an element whose header was read in it.
+pub record Readable (s : List ℕ) (e : Headed) : Type 0 where
   pub small : length s ≤ mostBytes
   pub there : headerAt s (e .place .at) ≡ Read e
 

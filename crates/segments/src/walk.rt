@@ -1,9 +1,12 @@
 // The walk over the segment's children.
 ghost use mathlib.Core.Path.{_≡_};
+ghost use Prim.Native.Nat.{_≤_};
+ghost use lib.ListN.{length};
+ghost use Rattle.header.specs.Promise.{mostBytes};
 ghost use Rattle.seekhead_rules.specs.Contract.{Readable};
 ghost use Rattle.seekchain_rules.specs.Contract.{placeTold};
 ghost use Rattle.segments_rules.specs.Segment.{visit as visitOf, segmentChildren, lookupOf};
-ghost use Rattle.segments_rules.specs.Contract.{visitTold, KindsLent};
+ghost use Rattle.segments_rules.specs.Contract.{visitTold};
 use crate::segment::segment_of;
 use header::Cursor;
 use header::Headed;
@@ -18,19 +21,13 @@ use seekchain_rules::PartPlace;
 use segments_rules::Visit;
 
 // What a child does to the search: a seek head leads on by its entries, the wanted part is found.
-fn visit_child(
-    recording: &[u8],
-    kinds: &[u64],
-    wanted: u32,
-    segment: Headed,
-    child: Headed,
-) -> Visit
-    requires { ⌜ Readable (now recording) (now kinds) child ⌝ }
+fn visit_child(recording: &[u8], wanted: u32, segment: Headed, child: Headed) -> Visit
+    requires { ⌜ Readable (now recording) child ⌝ }
     ensures { λ r. ⌜ r ≡ visitTold (visitOf (now (recording .entry)) wanted segment child) ⌝ }
 {
     let id = child.header.id;
     if id == ids::SEEKHEAD {
-        return Visit::Ends(by_heads(recording, kinds, wanted, segment.payload.at, child));
+        return Visit::Ends(by_heads(recording, wanted, segment.payload.at, child));
     }
     if id == wanted {
         return Visit::Ends(PartPlace::Found {
@@ -43,8 +40,8 @@ fn visit_child(
 
 // The children of a segment whose header was read, in turn. The bytes of a child that is passed over need not exist; 3
 // if it was larger than what was left.
-fn walk(recording: &[u8], kinds: &[u64], wanted: u32, segment: Headed) -> PartPlace
-    requires { ⌜ Readable (now recording) (now kinds) segment ⌝ }
+fn walk(recording: &[u8], wanted: u32, segment: Headed) -> PartPlace
+    requires { ⌜ Readable (now recording) segment ⌝ }
     ensures { λ r. ⌜ r ≡ placeTold (segmentChildren (now (recording .entry)) wanted segment) ⌝ }
 {
     let mut at = segment.payload.at;
@@ -58,7 +55,7 @@ fn walk(recording: &[u8], kinds: &[u64], wanted: u32, segment: Headed) -> PartPl
             ChildRead::End => {
                 return PartPlace::Absent { heads: 0 };
             }
-            ChildRead::Child(child) => match visit_child(recording, kinds, wanted, segment, child) {
+            ChildRead::Child(child) => match visit_child(recording, wanted, segment, child) {
                 Visit::Ends(found) => {
                     return found;
                 }
@@ -77,12 +74,12 @@ fn walk(recording: &[u8], kinds: &[u64], wanted: u32, segment: Headed) -> PartPl
 }
 
 // Where the wanted part is.
-pub fn look_up(recording: &[u8], kinds: &[u64], wanted: u32) -> PartPlace
-    requires { ⌜ KindsLent (now recording) (now kinds) ⌝ }
+pub fn look_up(recording: &[u8], wanted: u32) -> PartPlace
+    requires { ⌜ length (now recording) ≤ mostBytes ⌝ }
     ensures { λ r. ⌜ r ≡ placeTold (lookupOf (now (recording .entry)) wanted) ⌝ }
 {
     match segment_of(recording) {
         HeaderRead::Refused(refusal) => PartPlace::Refused(refusal),
-        HeaderRead::Read(segment) => walk(recording, kinds, wanted, segment),
+        HeaderRead::Read(segment) => walk(recording, wanted, segment),
     }
 }

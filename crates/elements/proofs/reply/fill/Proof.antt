@@ -1,7 +1,6 @@
 -- `fill` meets its contract: the reader's answer on the cleared table. Assumes nothing.
 use mathlib.Core.Path.{refl, _∙_}
 use native.Mathlib.Omega.{arith}
-use Rattle.kinds.specs.Elements.{elements}
 use Rattle.elements_rules.proofs.Limits.{within}
 use Rattle.elements_rules.proofs.Whole.{zeros-as, fill-refused, fill-done}
 use borrow.Author.Needs.{needs}
@@ -9,12 +8,10 @@ use Rattle.elements.proofs.reply.fill.Statement.{statement}
 use Rattle.elements.proofs.reply.fill.Tie as tie
 
 master-body-requires : tie.Need-master-body-requires
-unfolding elements
 master-body-requires c κs =
-    let b = c .before .before .before .before in
+    let b = c .before .before .before in
     let w = within _ _ _ (b .pre .0) in
     record {
-      listed = refl;
       small = w .bytes;
       inside = w .inside;
       few = omega arith;
@@ -24,20 +21,20 @@ master-body-requires c κs =
 returns : tie.Need-returns
 returns c =
     let a = c .before .before .before .before .before .before .before in
-    let b = a .before .before .before .before .before .before .before in
+    let b = a .before .before .before .before .before .before in
     let m = c .before .before .before .before .before .before .before .before .before .master-body in
     let k = c .before .before .clear in
     fill-refused _ _ _ _ _ (b .pre .1) (b .pre .0) _ _ _
     (rw (c .before .before .before .before .before .refusal .given .1) at (m .ensures))
-    (k .ensures ∙ zeros-as (m .kept .1 .1 .0))
+    (k .ensures ∙ zeros-as (m .kept .1 .0))
 
 returns-2 : tie.Need-returns-2
 returns-2 c =
-    let b = c .before .before .before .before .before .before .before .before .before .before in
+    let b = c .before .before .before .before .before .before .before .before .before in
     let m = c .before .before .before .before .before .master-body in
     fill-done _ _ _ _ _ (b .pre .1) (b .pre .0) _ _ _ (rw (c .before .rows .given .1) at (m .ensures))
 
 pub fill-spec : {M : Type 1} → statement M
 fill-spec =
-    tie.close (tie.spec (λ c. search needs) master-body-requires (λ c. search needs) (λ c κs. search needs)
+    tie.close (tie.spec master-body-requires (λ c. search needs) (λ c κs. search needs)
     (λ c. search needs) (λ c. search needs) returns (λ c. search needs) returns-2)

@@ -15,8 +15,8 @@ returns c =
     let a = failed _ _ (c .before .is-allowed .ensures ∙ allowed-as _ _ (k .kept .0)) (c .if1 .taken) in
     find-broken _ _ _ _ _ a refl (k .ensures)
 
-place-of-requires : tie.Need-place-of-requires
-place-of-requires c κs =
+look-up-requires : tie.Need-look-up-requires
+look-up-requires c κs =
     let b = c .before .before .before in
     within _ _ _ (passed _ _ (b .before .before .is-allowed .ensures) (b .before .if1 .left)) .bytes
 
@@ -26,7 +26,7 @@ fill-requires c κs =
     let b = p .before .before .before .before in
     let k = b .before .before .before .before .before .before .clear in
     let a = passed _ _ (b .before .before .is-allowed .ensures) (b .before .if1 .left) in
-    let w = sym (c .before .before .found .given .1) ∙ p .place-of .ensures in
+    let w = sym (c .before .before .found .given .1) ∙ p .look-up .ensures in
     (found-allowed _ _ _ _ _ a w, k .ensures ∙ zeros-as (sym (k .kept .0)))
 
 returns-2 : tie.Need-returns-2
@@ -43,7 +43,7 @@ returns-3 c =
     let k = b .before .before .before .before .before .before .clear in
     let a = passed _ _ (b .before .before .is-allowed .ensures ∙ allowed-as _ _ (k .kept .0)) (b .before .if1 .left) in
     let i = sym (b .parent-of .ensures) ∙ p .before .before .parent .given .1 in
-    find-stopped _ _ _ a _ i _ _ (sym (c .before .refusal .given .1) ∙ p .place-of .ensures) (k .ensures)
+    find-stopped _ _ _ a _ i _ _ (sym (c .before .refusal .given .1) ∙ p .look-up .ensures) (k .ensures)
 
 returns-4 : tie.Need-returns-4
 returns-4 c =
@@ -52,7 +52,7 @@ returns-4 c =
     let k = b .before .before .before .before .before .before .clear in
     let a = passed _ _ (b .before .before .is-allowed .ensures ∙ allowed-as _ _ (k .kept .0)) (b .before .if1 .left) in
     let i = sym (b .parent-of .ensures) ∙ p .before .before .parent .given .1 in
-    find-absent _ _ _ a _ i _ _ (sym (c .before .heads .given .1) ∙ p .place-of .ensures) (k .ensures)
+    find-absent _ _ _ a _ i _ _ (sym (c .before .heads .given .1) ∙ p .look-up .ensures) (k .ensures)
 
 returns-5 : tie.Need-returns-5
 returns-5 c =
@@ -62,7 +62,7 @@ returns-5 c =
     let k = b .before .before .before .before .before .before .clear in
     let a = passed _ _ (b .before .before .is-allowed .ensures ∙ allowed-as _ _ (k .kept .0)) (b .before .if1 .left) in
     let i = sym (b .parent-of .ensures) ∙ p .before .before .parent .given .1 in
-    let w = sym (f .before .before .before .found .given .1) ∙ p .place-of .ensures in
+    let w = sym (f .before .before .before .found .given .1) ∙ p .look-up .ensures in
     let r = rw (c .before .refusal2 .given .1) at (f .fill .ensures) in
     find-refused _ _ _ a _ i _ _ w _ _ (as-lent _ _ _ _ _ _ _ _ (k .kept .0) r)
 
@@ -74,14 +74,14 @@ returns-6 c =
     let k = b .before .before .before .before .before .before .clear in
     let a = passed _ _ (b .before .before .is-allowed .ensures ∙ allowed-as _ _ (k .kept .0)) (b .before .if1 .left) in
     let i = sym (b .parent-of .ensures) ∙ p .before .before .parent .given .1 in
-    let w = sym (f .before .before .before .found .given .1) ∙ p .place-of .ensures in
+    let w = sym (f .before .before .before .found .given .1) ∙ p .look-up .ensures in
     let r = rw (c .before .rows .given .1) at (f .fill .ensures) in
     find-rows _ _ _ a _ i _ _ w _ _ (as-lent _ _ _ _ _ _ _ _ (k .kept .0) r)
 
 pub find-part-spec : {M : Type 1} → statement M
 find-part-spec =
     tie.close (tie.spec (λ c κs. search needs) (λ c κs. search needs) (λ c. search needs) returns
-    (λ c κs. search needs) (λ c. search needs) (λ c. search needs) place-of-requires (λ c. search needs)
+    (λ c κs. search needs) (λ c. search needs) (λ c. search needs) look-up-requires (λ c. search needs)
     (λ c. search needs) (λ c. search needs) fill-requires (λ c. search needs) (λ c. search needs) (λ c. search needs)
     returns-2 (λ c. search needs) returns-3 (λ c. search needs) returns-4 (λ c. search needs) returns-5
     (λ c. search needs) returns-6)

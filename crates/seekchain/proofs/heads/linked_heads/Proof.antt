@@ -10,19 +10,19 @@ use Rattle.seekchain_rules.proofs.Chains.{Chaining, chaining-holds, chaining-lo
 use Rattle.seekchain_rules.proofs.Chains.{chaining-on}
 
 abbrev Inv-loop : tie.InvT-loop
-Inv-loop recording kinds wanted start seen₀ n₀ head₀ parts₀ seen n head parts =
+Inv-loop recording wanted start seen₀ n₀ head₀ parts₀ seen n head parts =
     Chaining recording wanted start head₀ seen n head parts
 
 abbrev μ-loop : tie.MeasureT-loop
-μ-loop recording kinds wanted start seen₀ n₀ head₀ parts₀ seen n head parts = 64 - n
+μ-loop recording wanted start seen₀ n₀ head₀ parts₀ seen n head parts = 64 - n
 
 loop-holds : tie.Need-loop-holds Inv-loop μ-loop
-loop-holds c = chaining-holds _ _ _ _ _ refl (c .before .before .pre .there)
+loop-holds c = chaining-holds _ _ _ _ _ refl (c .before .pre .there)
 
 head-body-requires : tie.Need-head-body-requires Inv-loop μ-loop
 head-body-requires c κs =
-    let p = c .before .before .before .pre in
-    record { listed = p .listed; small = p .small; there = c .loop .inv .there }
+    let p = c .before .before .pre in
+    record { small = p .small; there = c .loop .inv .there }
 
 returns : tie.Need-returns Inv-loop μ-loop
 returns c =

@@ -12,15 +12,15 @@ use Rattle.seekhead_rules.proofs.Levels.{pass-again, header-is}
 use Rattle.seekhead_rules.proofs.Members.{children, children-law}
 
 abbrev Inv-loop : tie.InvT-loop
-Inv-loop recording kinds wanted at₀ end table₀ at table =
+Inv-loop recording wanted at₀ end table₀ at table =
     Passing recording (children recording wanted) (children-law recording wanted) at₀ end table₀ at table
 
 abbrev μ-loop : tie.MeasureT-loop
-μ-loop recording kinds wanted at₀ end table₀ at table = end - at
+μ-loop recording wanted at₀ end table₀ at table = end - at
 
 add-end : tie.Need-add-end Inv-loop μ-loop
 add-end c =
-    let p = c .before .before .before .pre in
+    let p = c .before .before .pre in
     let t = header-there _ _ _ (p .there) in
     omega (arith, t .inside, t .sized, p .small)
 
@@ -36,10 +36,10 @@ returns c =
 head-child-requires : tie.Need-head-child-requires Inv-loop μ-loop
 head-child-requires c κs =
     let h = c .before .before .before in
-    let p = h .before .before .before .before .before .before .pre in
+    let p = h .before .before .before .before .before .pre in
     let q = header-is _ _ _ (sym (h .element-header .ensures) ∙ c .before .child .given .1) in
     let t = header-there _ _ _ q in
-    record { listed = p .listed; small = p .small; there = ap (headerAt _) (t .begins) ∙ q }
+    record { small = p .small; there = ap (headerAt _) (t .begins) ∙ q }
 
 returns-2 : tie.Need-returns-2 Inv-loop μ-loop
 returns-2 c =
@@ -53,7 +53,7 @@ add-next : tie.Need-add-next Inv-loop μ-loop
 add-next c =
     let m = c .before .before .before .before in
     let h = m .before .before .before .before in
-    let p = h .before .before .before .before .before .before .pre in
+    let p = h .before .before .before .before .before .pre in
     let t = header-there _ _ _
     (header-is _ _ _ (sym (h .element-header .ensures) ∙ m .before .before .child .given .1)) in
     omega (arith, t .inside, t .sized, p .small)

@@ -8,13 +8,13 @@ use Rattle.seekhead_rules.proofs.Members.{seek-refusal, seek-more, other-more}
 returns : tie.Need-returns
 returns c =
     let b = c .before .before .before in
-    seek-refusal _ _ _ _ (b .before .before .before .before .before .pre .there) (b .before .if1 .taken) _
+    seek-refusal _ _ _ _ (b .before .before .before .before .pre .there) (b .before .if1 .taken) _
     (sym (c .before .refusal .given .1) ∙ b .seek-body .ensures)
 
 returns-2 : tie.Need-returns-2
 returns-2 c =
     let b = c .before .before .before .before in
-    seek-more _ _ _ _ (b .before .before .before .before .before .pre .there) (b .before .if1 .taken) _
+    seek-more _ _ _ _ (b .before .before .before .before .pre .there) (b .before .if1 .taken) _
     (sym (c .before .before .seek .given .1) ∙ b .seek-body .ensures) _ (c .insert .ensures)
 
 returns-3 : tie.Need-returns-3

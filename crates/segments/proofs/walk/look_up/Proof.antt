@@ -9,10 +9,8 @@ use Rattle.segments_rules.proofs.Walks.{segment-there}
 walk-requires : tie.Need-walk-requires
 walk-requires c κs =
     let b = c .before .before .before in
-    let p = b .before .before .before .pre in
     record {
-      listed = p .listed;
-      small = p .small;
+      small = b .before .before .pre;
       there = segment-there _ _ (sym (b .segment-of .ensures) ∙ c .before .segment .given .1);
     }
 

@@ -12,15 +12,15 @@ use Rattle.segments_rules.specs.Segment.{segmentChildrenFrom, segmentChildren}
 use Rattle.segments_rules.proofs.Walks.{stepped, children-unfold, child-ends, child-over}
 
 abbrev Inv-loop : tie.InvT-loop
-Inv-loop recording kinds wanted segment at₀ end at =
+Inv-loop recording wanted segment at₀ end at =
     segmentChildren recording wanted segment ≡ segmentChildrenFrom recording wanted segment at
 
 abbrev μ-loop : tie.MeasureT-loop
-μ-loop recording kinds wanted segment at₀ end at = end - at
+μ-loop recording wanted segment at₀ end at = end - at
 
 add-end : tie.Need-add-end Inv-loop μ-loop
 add-end c =
-    let p = c .before .before .before .pre in
+    let p = c .before .before .pre in
     let t = header-there _ _ _ (p .there) in
     omega (arith, t .inside, t .sized, p .small)
 
@@ -41,9 +41,9 @@ returns-2 c =
 visit-child-requires : tie.Need-visit-child-requires Inv-loop μ-loop
 visit-child-requires c κs =
     let b = c .before .before .before in
-    let p = b .before .before .before .before .before .pre in
+    let p = b .before .before .before .before .pre in
     let t = stepped _ _ _ _ (sym (b .child-at .ensures) ∙ c .before .child .given .1) in
-    record { listed = p .listed; small = p .small; there = t .there }
+    record { small = p .small; there = t .there }
 
 returns-3 : tie.Need-returns-3 Inv-loop μ-loop
 returns-3 c =
@@ -57,7 +57,7 @@ add-next c =
     let v = c .before .before .before in
     let b = v .before .before .before .before in
     let t = stepped _ _ _ _ (sym (b .child-at .ensures) ∙ v .before .before .child .given .1) in
-    omega (arith, t .inside, t .sized, b .before .before .before .before .before .pre .small)
+    omega (arith, t .inside, t .sized, b .before .before .before .before .pre .small)
 
 returns-4 : tie.Need-returns-4 Inv-loop μ-loop
 returns-4 c =

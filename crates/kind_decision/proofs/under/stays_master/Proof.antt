@@ -5,9 +5,9 @@ use mathlib.Core.Bool.{or-false}
 use Prim.Native.Nat.{ℕ}
 use lib.Dec.{eqb}
 use borrow.Author.Tests.{ne-eqb}
 use Rattle.kinds.specs.Kinds.{staysMaster, keeps, member}
-use Rattle.kinds.proofs.lookup.stays_master.Statement.{statement}
-use Rattle.kinds.proofs.lookup.stays_master.Tie as tie
+use Rattle.kind_decision.proofs.under.stays_master.Statement.{statement}
+use Rattle.kind_decision.proofs.under.stays_master.Tie as tie
 
 -- A set of one id, which is the set of a parent.
 single : (parent id p i : ℕ) → staysMaster id p ≡ member id (i ∷ []) → parent ≡ p → eqb id i ≡ staysMaster id parent
