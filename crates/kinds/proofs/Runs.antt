@@ -5,10 +5,10 @@ use mathlib.Core.List.{List, [], _∷_}
 use mathlib.Core.Bool.{Bool, true, false, cond, _&&_, _||_}
 use mathlib.Core.Logic.{_⊎_, inl, inr, ⊎-elim}
 use Prim.Native.Nat.{ℕ, zero, suc, _+_, _-_, _≤_, _<_}
-use native.Mathlib.Nat.{eq-or-lt-of-le, not-suc-le-zero}
+use native.Mathlib.Nat.{eq-or-lt-of-le}
 use native.Mathlib.Omega.{arith}
 use lib.Dec.{T, eqb, ltb, eqb→eq, ltb→lt}
-use borrow.Author.Tests.{eq-eqb, ne-eqb}
+use borrow.Author.Tests.{eq-eqb}
 use mir.Facts.{or-yes}
 use Rattle.booleans.proofs.Computed.{both-left, both-right}
 use Rattle.kinds.specs.Elements.{Row, row, elements}
@@ -155,7 +155,9 @@ module _ (k : Kind) (a b : ℕ) {x : ℕ} (low : a ≤ x) (high : x ≤ b) where
             ]
       ]
 
-  first : NoKey x → (rows : List Row) → T (allPass k a b rows) → (k ≡ Binary) ⊎ T (member x (ids rows)) → k ≡ kindIn rows x
+  first :
+      NoKey x → (rows : List Row) → T (allPass k a b rows) → (k ≡ Binary) ⊎ T (member x (ids rows))
+      → k ≡ kindIn rows x
   unfolding kindIn member
   first none [] t (inl e) = e
   first none [] t (inr m) = absurd m
@@ -166,9 +168,9 @@ module _ (k : Kind) (a b : ℕ) {x : ℕ} (low : a ≤ x) (high : x ≤ b) where
           (d : Bool) → eqb i x ≡ d → ((k ≡ Binary) ⊎ T (member x (ids rows)) → k ≡ kindIn rows x)
           → k ≡ cond d k′ (kindIn rows x)
       by true e further =
-          let is = eqb→eq i x (subst T (sym e) tt) in
-          passed none k′
-          (subst (λ (j : ℕ). T (passes k a b (row j k′))) is (both-left (passes k a b (row i k′)) (allPass k a b rows) t))
+          let here = both-left (passes k a b (row i k′)) (allPass k a b rows) t in
+          let same-id = eqb→eq i x (subst T (sym e) tt) in
+          passed none k′ (subst (λ (j : ℕ). T (passes k a b (row j k′))) same-id here)
       by false e further =
           further
           (⊎-elim inl

@@ -1,5 +1,5 @@
 -- `fill` meets its contract: the reader's answer on the cleared table. Assumes nothing.
-use mathlib.Core.Path.{refl, _∙_}
+use mathlib.Core.Path.{_∙_}
 use native.Mathlib.Omega.{arith}
 use Rattle.elements_rules.proofs.Limits.{within}
 use Rattle.elements_rules.proofs.Whole.{zeros-as, fill-refused, fill-done}

@@ -11,16 +11,17 @@ returns c =
 
 returns-2 : tie.Need-returns-2
 returns-2 c =
-    let number = c .before .before .before .number .ensures in
-    under-kept _ _ _ (c .before .before .before .before .listed-kind .ensures) (sym number ∙ c .before .before .if1 .left)
+    let b = c .before .before in
+    under-kept _ _ _ (b .before .before .listed-kind .ensures) (sym (b .before .number .ensures) ∙ b .if1 .left)
     (sym (c .before .stays-master .ensures) ∙ c .if2 .taken)
 
 returns-3 : tie.Need-returns-3
 returns-3 c =
-    let number = c .before .before .before .number .ensures in
-    under-lost _ _ _ (c .before .before .before .before .listed-kind .ensures) (sym number ∙ c .before .before .if1 .left)
+    let b = c .before .before in
+    under-lost _ _ _ (b .before .before .listed-kind .ensures) (sym (b .before .number .ensures) ∙ b .if1 .left)
     (sym (c .before .stays-master .ensures) ∙ c .if2 .left)
 
 pub kind-of-spec : {M : Type 1} → statement M
 kind-of-spec =
-    tie.close (tie.spec (λ c κs. search needs) (λ c κs. search needs) returns (λ c κs. search needs) returns-2 returns-3)
+    tie.close (tie.spec (λ c κs. search needs) (λ c κs. search needs) returns (λ c κs. search needs) returns-2
+    returns-3)

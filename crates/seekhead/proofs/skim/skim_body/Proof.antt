@@ -23,7 +23,8 @@ returns c =
     let m = c .before .before .before .before in
     let k = m .before .before .before .before in
     let p = k .before .before .before .before .pre in
-    skim-refused _ _ _ _ (p .0 .there) (p .1) (sym (k .number .ensures ∙ rw (promised-kind _ _ _ (k .before .kind-of .ensures)) refl)
+    let kind = promised-kind _ _ _ (k .before .kind-of .ensures) in
+    skim-refused _ _ _ _ (p .0 .there) (p .1) (sym (k .number .ensures ∙ rw kind refl)
     ∙ m .before .before .before .if1 .taken) _ (sym (c .before .refusal .given .1) ∙ m .master-body .ensures .reply)
 
 returns-2 : tie.Need-returns-2
@@ -31,7 +32,8 @@ returns-2 c =
     let m = c .before .before .before in
     let k = m .before .before .before .before in
     let p = k .before .before .before .before .pre in
-    skim-master _ _ _ _ (p .0 .there) (p .1) (sym (k .number .ensures ∙ rw (promised-kind _ _ _ (k .before .kind-of .ensures)) refl)
+    let kind = promised-kind _ _ _ (k .before .kind-of .ensures) in
+    skim-master _ _ _ _ (p .0 .there) (p .1) (sym (k .number .ensures ∙ rw kind refl)
     ∙ m .before .before .before .if1 .taken) _ _ (sym (c .enum-told .given .1) ∙ m .master-body .ensures .reply)
 
 returns-3 : tie.Need-returns-3
@@ -39,17 +41,19 @@ returns-3 c =
     let b = c .before .before .before in
     let k = b .before .before .before in
     let p = k .before .before .before .pre in
+    let kind = promised-kind _ _ _ (k .kind-of .ensures) in
     skim-leaf-refused _ _ _ _ (p .0 .there) (p .1) _
-    (sym (c .before .cause .given .1) ∙ b .read-body .ensures ∙ rw (promised-kind _ _ _ (k .kind-of .ensures)) refl)
+    (sym (c .before .cause .given .1) ∙ b .read-body .ensures ∙ rw kind refl)
 
 returns-4 : tie.Need-returns-4
 returns-4 c =
     let b = c .before .before .before in
     let k = b .before .before .before in
     let p = k .before .before .before .pre in
+    let kind = promised-kind _ _ _ (k .kind-of .ensures) in
     skim-leaf _ _ _ _ (p .0 .there) (p .1) _ _
-    (λ q. b .before .if1 .left (b .before .before .number .ensures ∙ rw (promised-kind _ _ _ (k .kind-of .ensures)) q))
-    (sym (c .before .body .given .1) ∙ b .read-body .ensures ∙ rw (promised-kind _ _ _ (k .kind-of .ensures)) refl)
+    (λ q. b .before .if1 .left (b .before .before .number .ensures ∙ rw kind q))
+    (sym (c .before .body .given .1) ∙ b .read-body .ensures ∙ rw kind refl)
 
 pub skim-body-spec : {M : Type 1} → statement M
 skim-body-spec =
