@@ -234,7 +234,7 @@ pub fn time(bodies: &Bodies, report: &mut Report) {
         COUNT,
         bodies.crates(),
         &[
-            ("ours, lent list", Box::new(|| bodies.in_one_call())),
+            ("ours, all in one call", Box::new(|| bodies.in_one_call())),
             ("ours, one call each", Box::new(|| bodies.one_by_one())),
             ("the crate's body", Box::new(|| bodies.crates())),
         ],

@@ -84,14 +84,14 @@ fn by_sets(id: u32, parent: u32) -> u64 {
 
 fn check_kinds(pairs: &Pairs, sorted: &Sorted) {
     for (&id, &parent) in pairs.ids.iter().zip(&pairs.parents) {
-        let lent = ours::kinds(&[id], &[parent]);
+        let summed = ours::kinds(&[id], &[parent]);
         let called = ours::kind(id, parent);
         let sets = by_sets(id, parent);
         let search = sorted.number_of(id, parent);
-        if [lent, called, search] != [sets; 3] {
+        if [summed, called, search] != [sets; 3] {
             eprintln!(
                 "bench: {id:X} under {parent:X}: {sets} by the crate's sets, {search} by a binary \
-                 search, ours {lent} by a lent list and {called} by one call"
+                 search, ours {summed} as a sum of one and {called} by one call"
             );
             exit(1);
         }
@@ -114,7 +114,7 @@ fn time_kinds(pairs: &Pairs, sorted: &Sorted, report: &mut Report) {
         sum(pairs, by_sets),
         &[
             (
-                "ours, lent list",
+                "ours, all in one call",
                 Box::new(|| {
                     let pairs = black_box(pairs);
                     ours::kinds(&pairs.ids, &pairs.parents)
