@@ -7,9 +7,9 @@ use borrow.Author.Tests.{le-leb, lt-leb}
 use Rattle.header.specs.Promise.{mostBytes}
 use Rattle.refusals.specs.Refusals.{because, badArgument}
 use Rattle.refusals.specs.Reply.{Reply, accepted, refusal}
-use Rattle.kinds.specs.Kinds.{numberOf, kindUnder}
+use Rattle.kinds.specs.Promise.{KindPromise}
 use Rattle.kinds.specs.declared.kind.Kind.{Kind}
-use Rattle.kinds.proofs.Numbers.{number-tells}
+use Rattle.kinds.proofs.Numbers.{promised-kind}
 use Rattle.bodies_rules.specs.Bodies.{Told, body, refused, bodyOf}
 use Rattle.bodies_rules.specs.Reads.{readOf, bodyRead}
 use Rattle.bodies_rules.specs.Promise.{replyOf, bodyReply}
@@ -38,10 +38,10 @@ module _ (s : List ℕ) (id parent at n : ℕ) where
 
   -- What was read by the kind that the id has under the parent.
   pub reply-read :
-      (k : Kind) (r : BodyRead) → numberOf k ≡ numberOf (kindUnder id parent) → r ≡ bodyRead k s at n
+      (k : Kind) (r : BodyRead) → KindPromise id parent k → r ≡ bodyRead k s at n
       → length s ≤ mostBytes → at ≤ length s → readReply r ≡ bodyReply s id parent at n
   unfolding bodyRead bodyReply
-  reply-read k r same read h l =
-      let kind = number-tells k (kindUnder id parent) same in
+  reply-read k r promise read h l =
+      let kind = promised-kind id parent k promise in
       ap readReply read ∙ told-back at n (bodyOf s at n k)
       ∙ rw (le-leb (length s) mostBytes h, le-leb at (length s) l) (ap (λ (k : Kind). replyOf (bodyOf s at n k)) kind)

@@ -12,7 +12,7 @@ use Rattle.refusals.specs.declared.refusal.Refusal.{Refusal}
 use Rattle.header.specs.Reads.{headedAt, headerAt}
 use Rattle.header.specs.Theorems.{Octets}
 use Rattle.header.specs.declared.cursor.HeaderRead.the-variants.{Read}
-use Rattle.kinds.specs.Kinds.{numberOf, kindOf, kindUnder}
+use Rattle.kinds.specs.Kinds.{numberOf, kindNumbered, kindUnder}
 use Rattle.bodies_rules.specs.Bodies.{bodyOf}
 use Rattle.elements_rules.specs.Forest.{Forest, none, span, count}
 use Rattle.elements_rules.specs.Reading.{done, andThen, prepend, refuseIf, depths, element, masterBody}
@@ -108,7 +108,7 @@ pub record Sound (s : List ℕ) (r : Row) : Type 0 where
       headerAt s (r .address)
       ≡ Read (headedAt (r .address) (record { id = r .id; size = r .payload; length = r .header }))
   pub inside : r .address + r .header + r .payload ≤ length s
-  pub value : isLeaf r ≡ true → IsValue (bodyOf s (r .address + r .header) (r .payload) (kindOf (r .kind)))
+  pub value : isLeaf r ≡ true → IsValue (bodyOf s (r .address + r .header) (r .payload) (kindNumbered (r .kind)))
 
 abbrev pub RowsSound : Type 0
 RowsSound =

@@ -7,7 +7,7 @@ use mathlib.Core.Logic.{_⊎_, inl, inr}
 use lib.Dec.{leb, eqb}
 use borrow.Author.Tests.{leb-true, eqb-true}
 use Rattle.refusals.specs.declared.refusal.Cause.{Cause}
-use Rattle.kinds.specs.Kinds.{numberOf, kindOf}
+use Rattle.kinds.specs.Kinds.{numberOf, kindNumbered}
 use Rattle.kinds.specs.declared.kind.Kind.{Kind}
 use Rattle.kinds.specs.declared.kind.Kind.the-variants.{Uint, Float}
 use Rattle.kinds.proofs.Numbers.{kind-back}
@@ -21,7 +21,7 @@ module _ (s : List ℕ) (r : Row) where
       → IsValue (bodyOf s (r .address + r .header) (r .payload) kind)
   value-of kind q h =
       subst (λ (k : Kind). IsValue (bodyOf s (r .address + r .header) (r .payload) k))
-      (ap kindOf (h .is) ∙ kind-back kind)
+      (ap kindNumbered (h .is) ∙ kind-back kind)
       (h .sound .value (ap (λ (n : ℕ). not (eqb n 1)) (h .is) ∙ q))
 
   -- A value passes the test of its size.

@@ -2,12 +2,12 @@
 use mathlib.Core.Path.{_≡_, refl, ap, sym, _∙_}
 use mathlib.Core.Bool.{Bool, true, false, cond}
 use Prim.Native.Nat.{ℕ}
-use Rattle.kinds.specs.Kinds.{numberOf, kindOf, kindUnder, demoted}
+use Rattle.kinds.specs.Kinds.{numberOf, kindNumbered, kindUnder, demoted}
 use Rattle.kinds.specs.Promise.{KindPromise}
 use Rattle.kinds.specs.declared.kind.Kind.{Kind}
 use Rattle.kinds.specs.declared.kind.Kind.the-variants.{Master, Int, Uint, String, Utf8, Binary, Float, Date}
 
-pub kind-back : (k : Kind) → kindOf (numberOf k) ≡ k
+pub kind-back : (k : Kind) → kindNumbered (numberOf k) ≡ k
 kind-back Master = refl
 kind-back Int = refl
 kind-back Uint = refl
@@ -18,7 +18,7 @@ kind-back Float = refl
 kind-back Date = refl
 
 pub number-tells : (k k′ : Kind) → numberOf k ≡ numberOf k′ → k ≡ k′
-number-tells k k′ e = sym (kind-back k) ∙ ap kindOf e ∙ kind-back k′
+number-tells k k′ e = sym (kind-back k) ∙ ap kindNumbered e ∙ kind-back k′
 
 -- The promise gives the kind itself.
 pub promised-kind : (id parent : ℕ) (k : Kind) → KindPromise id parent k → k ≡ kindUnder id parent

@@ -23,7 +23,7 @@ abbrev pub rises : ℕ → List ℕ → Bool
 rises a [] = true
 rises a (x ∷ xs) = ltb a x && rises x xs
 
-pub above : (a : ℕ) (xs : List ℕ) → T (rises a xs) → (j : ℕ) → j < length xs → a < getD xs j 0
+above : (a : ℕ) (xs : List ℕ) → T (rises a xs) → (j : ℕ) → j < length xs → a < getD xs j 0
 above a [] t j h = absurd (not-suc-le-zero h)
 above a (x ∷ xs) t zero h = ltb→lt a x (both-left (ltb a x) (rises x xs) t)
 above a (x ∷ xs) t (suc j) h =

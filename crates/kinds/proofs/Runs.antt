@@ -1,16 +1,15 @@
--- What a case of a match over ids says of the kind by the list. A case is a run: ids one after another, all of one
--- kind. A run of one id is a key of the match, a longer one is a range. Assumes nothing.
+-- What the cases of a match over ids say of the kind by the list: a case of one id, a key, by `key`; the ids from one
+-- to another, a range or what lies between two ranges, by `ranged`. Assumes nothing.
 use mathlib.Core.Path.{_≡_, refl, ap, sym, _∙_, subst}
 use mathlib.Core.List.{List, [], _∷_}
 use mathlib.Core.Bool.{Bool, true, false, cond, _&&_, _||_}
 use mathlib.Core.Logic.{_⊎_, inl, inr, ⊎-elim}
-use Prim.Native.Nat.{ℕ, zero, suc, _+_, _-_, _≤_, _<_}
-use native.Mathlib.Nat.{eq-or-lt-of-le}
+use Prim.Native.Nat.{ℕ, suc, _+_, _-_, _≤_, _<_}
 use native.Mathlib.Omega.{arith}
 use lib.Dec.{T, eqb, ltb, eqb→eq, ltb→lt}
 use borrow.Author.Tests.{eq-eqb}
 use mir.Facts.{or-yes}
-use Rattle.booleans.proofs.Computed.{both-left, both-right}
+use Rattle.booleans.proofs.Computed.{both-left, both-right, below, at}
 use Rattle.kinds.specs.Elements.{Row, row, elements}
 use Rattle.kinds.specs.Kinds.{numberOf, kindIn, member}
 use Rattle.kinds.specs.Theorems.{ids}
@@ -24,13 +23,14 @@ same k k′ = eqb (numberOf k) (numberOf k′)
 same-is : (k k′ : Kind) → T (same k k′) → k ≡ k′
 same-is k k′ t = number-tells k k′ (eqb→eq (numberOf k) (numberOf k′) t)
 
--- ---- runs
+-- ---- keys: the runs of one id
 
+-- Ids one after another, all of one kind.
 pub data Run : Type 0 where
-  run : (first last : ℕ) → Kind → Run
+  run : (from to : ℕ) → Kind → Run
 
--- The runs of rows, of which the first began before them.
-abbrev longer : (first last : ℕ) → Kind → List Row → List Run
+-- The runs of rows that come behind a run, which they may prolong.
+abbrev longer : (from to : ℕ) → Kind → List Row → List Run
 longer a b k [] = run a b k ∷ []
 longer a b k (row i k′ ∷ rows) =
     cond (eqb i (suc b) && same k k′) (longer a i k rows) (run a b k ∷ longer i i k′ rows)
@@ -40,22 +40,20 @@ runs [] = []
 runs (row i k ∷ rows) = longer i i k rows
 
 -- The ids of a kind that are runs by themselves.
-abbrev single : Kind → List Run → List ℕ
-single k [] = []
-single k (run a b k′ ∷ rs) = cond (eqb a b && same k k′) (a ∷ single k rs) (single k rs)
+abbrev alone : Kind → List Run → List ℕ
+alone k [] = []
+alone k (run a b k′ ∷ rs) = cond (eqb a b && same k k′) (a ∷ alone k rs) (alone k rs)
 
-abbrev pub keys : Kind → List ℕ
-keys k = single k (runs elements)
-
--- ---- keys
+abbrev keys : Kind → List ℕ
+keys k = alone k (runs elements)
 
 -- An id is one of a list, as an arm of a match tells it.
-abbrev pub Among : List ℕ → ℕ → Type 0
+abbrev Among : List ℕ → ℕ → Type 0
 Among [] x = ⊥
 Among (y ∷ []) x = x ≡ y
 Among (y ∷ z ∷ ys) x = (x ≡ y) ⊎ Among (z ∷ ys) x
 
--- Each id of a list has the kind.
+-- Whether each id of a list has the kind.
 abbrev each : Kind → List ℕ → Bool
 each k [] = true
 each k (x ∷ xs) = same k (kindIn elements x) && each k xs
@@ -87,21 +85,14 @@ module _ (k : Kind) (x : ℕ) where
 
 -- ---- ranges, and what is between them
 
--- An id is no key, as a match tells every id that it compares with ranges: kind after kind.
+-- An id is no key, as a match tells every id that it compares with ranges: arm by arm. Binary has no arm.
 unfoldable pub NoKey : ℕ → Type 0
 NoKey x =
     ((((((Unit × (Among (keys Master) x → ⊥)) × (Among (keys Int) x → ⊥)) × (Among (keys Uint) x → ⊥))
     × (Among (keys String) x → ⊥)) × (Among (keys Utf8) x → ⊥)) × (Among (keys Float) x → ⊥))
     × (Among (keys Date) x → ⊥)
 
-member-among : (x : ℕ) (ys : List ℕ) → T (member x ys) → Among ys x
-unfolding member
-member-among x [] t = t
-member-among x (y ∷ []) t = elim (or-yes (eqb x y) false t) [ inl e ↦ eqb→eq x y e | inr n ↦ absurd n ]
-member-among x (y ∷ z ∷ ys) t =
-    elim (or-yes (eqb x y) (member x (z ∷ ys)) t)
-    [ inl e ↦ inl (eqb→eq x y e) | inr m ↦ inr (member-among x (z ∷ ys) m) ]
-
+-- Whether an id of a kind is a key. A binary id has no case, so none is.
 abbrev isKey : (id : ℕ) → Kind → Bool
 isKey id Master = member id (keys Master)
 isKey id Int = member id (keys Int)
@@ -112,38 +103,44 @@ isKey id Binary = false
 isKey id Float = member id (keys Float)
 isKey id Date = member id (keys Date)
 
--- Whether a row from the first id to the last has the kind k, or its id is a key, which no range decides.
-abbrev passes : Kind → (first last : ℕ) → Row → Bool
-passes k a b (row i k′) = ltb i a || (ltb b i || (same k k′ || isKey i k′))
+member-among : (x : ℕ) (ys : List ℕ) → T (member x ys) → Among ys x
+unfolding member
+member-among x [] t = t
+member-among x (y ∷ []) t = elim (or-yes (eqb x y) false t) [ inl e ↦ eqb→eq x y e | inr n ↦ absurd n ]
+member-among x (y ∷ z ∷ ys) t =
+    elim (or-yes (eqb x y) (member x (z ∷ ys)) t)
+    [ inl e ↦ inl (eqb→eq x y e) | inr m ↦ inr (member-among x (z ∷ ys) m) ]
 
-abbrev allPass : Kind → (first last : ℕ) → List Row → Bool
-allPass k a b [] = true
-allPass k a b (r ∷ rows) = passes k a b r && allPass k a b rows
-
--- Whether n ids from a on are all listed.
-abbrev listed : (a n : ℕ) → Bool
-listed a zero = true
-listed a (suc n) = member a (ids elements) && listed (suc a) n
-
--- From the first id to the last, keys aside, all have the kind k: rows by what they say, and ids in no row if it is
--- binary.
-abbrev pub ranges : Kind → (first last : ℕ) → Bool
-ranges k a b = allPass k a b elements && (same k Binary || listed a (suc b - a))
-
-no-key : (x : ℕ) → NoKey x → (k : Kind) → T (isKey x k) → ⊥
+is-no-key : (x : ℕ) → NoKey x → (k : Kind) → T (isKey x k) → ⊥
 unfolding NoKey
-no-key x none Master t = none .0 .0 .0 .0 .0 .0 .1 (member-among x (keys Master) t)
-no-key x none Int t = none .0 .0 .0 .0 .0 .1 (member-among x (keys Int) t)
-no-key x none Uint t = none .0 .0 .0 .0 .1 (member-among x (keys Uint) t)
-no-key x none String t = none .0 .0 .0 .1 (member-among x (keys String) t)
-no-key x none Utf8 t = none .0 .0 .1 (member-among x (keys Utf8) t)
-no-key x none Binary t = t
-no-key x none Float t = none .0 .1 (member-among x (keys Float) t)
-no-key x none Date t = none .1 (member-among x (keys Date) t)
+is-no-key x none Master t = none .0 .0 .0 .0 .0 .0 .1 (member-among x (keys Master) t)
+is-no-key x none Int t = none .0 .0 .0 .0 .0 .1 (member-among x (keys Int) t)
+is-no-key x none Uint t = none .0 .0 .0 .0 .1 (member-among x (keys Uint) t)
+is-no-key x none String t = none .0 .0 .0 .1 (member-among x (keys String) t)
+is-no-key x none Utf8 t = none .0 .0 .1 (member-among x (keys Utf8) t)
+is-no-key x none Binary t = t
+is-no-key x none Float t = none .0 .1 (member-among x (keys Float) t)
+is-no-key x none Date t = none .1 (member-among x (keys Date) t)
+
+-- Whether a row, if its id is from a to b, has the kind k or is a key, which no range decides.
+abbrev fits : Kind → (a b : ℕ) → Row → Bool
+fits k a b (row i k′) = ltb i a || (ltb b i || (same k k′ || isKey i k′))
+
+abbrev allFit : Kind → (a b : ℕ) → List Row → Bool
+allFit k a b [] = true
+allFit k a b (r ∷ rows) = fits k a b r && allFit k a b rows
+
+-- Whether the ids from a to b are all listed.
+abbrev allListed : (a b : ℕ) → Bool
+allListed a b = below (λ n. member (a + n) (ids elements)) (suc b - a)
+
+-- Whether all ids from a to b, keys aside, have the kind k: each row fits, and no id is in no row, unless k is binary.
+abbrev decides : Kind → (a b : ℕ) → Bool
+decides k a b = allFit k a b elements && (same k Binary || allListed a b)
 
 module _ (k : Kind) (a b : ℕ) {x : ℕ} (low : a ≤ x) (high : x ≤ b) where
-  passed : NoKey x → (k′ : Kind) → T (passes k a b (row x k′)) → k ≡ k′
-  passed none k′ t =
+  fitting : NoKey x → (k′ : Kind) → T (fits k a b (row x k′)) → k ≡ k′
+  fitting none k′ t =
       elim (or-yes (ltb x a) (ltb b x || (same k k′ || isKey x k′)) t) [
         | inl l ↦ absurd (omega (arith, ltb→lt x a l))
         | inr u ↦
@@ -151,26 +148,27 @@ module _ (k : Kind) (a b : ℕ) {x : ℕ} (low : a ≤ x) (high : x ≤ b) where
               | inl g ↦ absurd (omega (arith, ltb→lt b x g))
               | inr v ↦
                   elim (or-yes (same k k′) (isKey x k′) v)
-                  [ inl s ↦ same-is k k′ s | inr m ↦ absurd (no-key x none k′ m) ]
+                  [ inl s ↦ same-is k k′ s | inr m ↦ absurd (is-no-key x none k′ m) ]
             ]
       ]
 
-  first :
-      NoKey x → (rows : List Row) → T (allPass k a b rows) → (k ≡ Binary) ⊎ T (member x (ids rows))
+  first-fitting :
+      NoKey x → (rows : List Row) → T (allFit k a b rows) → (k ≡ Binary) ⊎ T (member x (ids rows))
       → k ≡ kindIn rows x
   unfolding kindIn member
-  first none [] t (inl e) = e
-  first none [] t (inr m) = absurd m
-  first none (row i k′ ∷ rows) t there =
-      by (eqb i x) refl (λ later. first none rows (both-right (passes k a b (row i k′)) (allPass k a b rows) t) later)
+  first-fitting none [] t (inl e) = e
+  first-fitting none [] t (inr m) = absurd m
+  first-fitting none (row i k′ ∷ rows) t there =
+      by (eqb i x) refl
+      (λ later. first-fitting none rows (both-right (fits k a b (row i k′)) (allFit k a b rows) t) later)
     where
       by :
           (d : Bool) → eqb i x ≡ d → ((k ≡ Binary) ⊎ T (member x (ids rows)) → k ≡ kindIn rows x)
           → k ≡ cond d k′ (kindIn rows x)
       by true e further =
-          let here = both-left (passes k a b (row i k′)) (allPass k a b rows) t in
+          let here = both-left (fits k a b (row i k′)) (allFit k a b rows) t in
           let same-id = eqb→eq i x (subst T (sym e) tt) in
-          passed none k′ (subst (λ (j : ℕ). T (passes k a b (row j k′))) same-id here)
+          fitting none k′ (subst (λ (j : ℕ). T (fits k a b (row j k′))) same-id here)
       by false e further =
           further
           (⊎-elim inl
@@ -179,21 +177,18 @@ module _ (k : Kind) (a b : ℕ) {x : ℕ} (low : a ≤ x) (high : x ≤ b) where
           [ inl q ↦ absurd (subst T (sym (eq-eqb i x (sym (eqb→eq x i q))) ∙ e) tt) | inr n ↦ inr n ])
           there)
 
-  all-listed : (c n : ℕ) → c ≤ x → x < c + n → T (listed c n) → T (member x (ids elements))
-  all-listed c zero l h t = absurd (omega arith)
-  all-listed c (suc n) l h t =
-      ⊎-elim
-      (λ e.
-      subst (λ (y : ℕ). T (member y (ids elements))) e (both-left (member c (ids elements)) (listed (suc c) n) t))
-      (λ s. all-listed (suc c) n s (omega arith) (both-right (member c (ids elements)) (listed (suc c) n) t))
-      (eq-or-lt-of-le l)
+  is-listed : T (allListed a b) → T (member x (ids elements))
+  is-listed t =
+      let place : a + (x - a) ≡ x = omega arith in
+      subst (λ (y : ℕ). T (member y (ids elements))) place
+      (at (λ n. member (a + n) (ids elements)) (suc b - a) t (x - a) (omega arith))
 
-  -- A range has its kind; what lies between ranges is binary.
-  pub ranged : T (ranges k a b) → NoKey x → k ≡ kindIn elements x
+  -- An id from a to b that is no key has the kind k.
+  pub ranged : T (decides k a b) → NoKey x → k ≡ kindIn elements x
   ranged t none =
-      first none elements (both-left (allPass k a b elements) (same k Binary || listed a (suc b - a)) t)
+      first-fitting none elements (both-left (allFit k a b elements) (same k Binary || allListed a b) t)
       (⊎-elim
       (λ s. inl (same-is k Binary s))
-      (λ m. inr (all-listed a (suc b - a) low (omega arith) m))
-      (or-yes (same k Binary) (listed a (suc b - a))
-      (both-right (allPass k a b elements) (same k Binary || listed a (suc b - a)) t)))
+      (λ m. inr (is-listed m))
+      (or-yes (same k Binary) (allListed a b)
+      (both-right (allFit k a b elements) (same k Binary || allListed a b) t)))

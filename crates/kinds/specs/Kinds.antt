@@ -26,8 +26,8 @@ abbrev pub numbered : List Kind → ℕ → Kind
 numbered [] n = Binary
 numbered (k ∷ ks) n = cond (eqb n (numberOf k)) k (numbered ks n)
 
-abbrev pub kindOf : ℕ → Kind
-kindOf n = numbered kinds n
+abbrev pub kindNumbered : ℕ → Kind
+kindNumbered n = numbered kinds n
 
 -- The kind of the first row with the id; an id in no row is binary.
 unfoldable pub kindIn : List Row → ℕ → Kind

@@ -14,7 +14,7 @@ as-replied : (c : tie.After-read-body) →
 as-replied c =
     let a = c .before .before .before .before .before .args in
     reply-read (a .recording .now) (a .id) (a .parent) (a .at) (a .size) (c .before .kind-of .result)
-    (c .read-body .result) (c .before .kind-of .ensures .reply) (c .read-body .ensures) (omega arith) (omega arith)
+    (c .read-body .result) (c .before .kind-of .ensures) (c .read-body .ensures) (omega arith) (omega arith)
 
 returns : tie.Need-returns
 returns c =

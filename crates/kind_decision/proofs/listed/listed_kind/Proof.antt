@@ -1,5 +1,6 @@
 -- `listed_kind` meets its contract: a key has the kind of its arm, a range too, and what is between them is binary.
--- Each need is one end of the match's tests, with the ids that come to it. Assumes nothing.
+-- Each need is one end of the match's tests, and the two numbers are the first and the last id that come to it by the
+-- comparisons (`rt goals kind_decision` shows them); keys among these were taken out before. Assumes nothing.
 use native.Mathlib.Omega.{arith}
 use Rattle.kinds.specs.Elements.{elements}
 use Rattle.kinds.specs.Kinds.{member}
