@@ -25,13 +25,13 @@ pub fn put_told(
     let mut k: usize = 0;
     while k < 32 {
         if (k as u64) < count {
-            let at = 4 + 5 * k;
+            let at = 5 + 5 * k;
             now = put_words(k, entry, told[at], told[at + 1], out, now);
             now = put_value(told[at + 2], told[at + 3], told[at + 4], bytes, out, now);
         }
         k += 1;
     }
-    put_ending(count, told[1], told[2], told[3], table, out, now)
+    put_ending(count, told[1], told[2], told[3], told[4], table, out, now)
 }
 
 // The word of a cell behind `before` others, and its sign.
@@ -94,6 +94,7 @@ fn put_ending(
     ending: u64,
     a: u64,
     b: u64,
+    c: u64,
     table: &[u64],
     out: &mut [u8; 65536],
     held: usize,
@@ -103,20 +104,26 @@ fn put_ending(
             let n = put_word(before, b"rows", out, held);
             rows::put_rows(a, ending == told::ROWS, table, out, n)
         }
-        told::REFUSED => put_refused(a, b, out, held),
+        told::REFUSED => put_refused(a, b, c, out, held),
         told::UNREAD => {
-            let n = put_refused(a, b, out, held);
+            let n = put_refused(a, b, c, out, held);
             rows::put_zeros(b" table ", table, 0, out, n)
         }
         _ => held,
     }
 }
 
-// `refused N`, and for 8 the id.
-fn put_refused(number: u64, id: u64, out: &mut [u8; 65536], held: usize) -> usize {
+// `refused N at A`, and for 8 the id behind the number.
+fn put_refused(number: u64, id: u64, address: u64, out: &mut [u8; 65536], held: usize) -> usize {
     let n = numbers::put_decimal(out, held, b"refused ", number);
+    let named = put_named(number, id, out, n);
+    numbers::put_decimal(out, named, b" at ", address)
+}
+
+// The id that 8 carries.
+fn put_named(number: u64, id: u64, out: &mut [u8; 65536], held: usize) -> usize {
     if number == 8 {
-        return numbers::put_hex(out, n, b" ", id, 1);
+        return numbers::put_hex(out, held, b" ", id, 1);
     }
-    n
+    held
 }

@@ -1,7 +1,7 @@
 // What an answer tells, by value: cells, each a word of its question and what stands behind it, and an ending.
 //
 // It is plain numbers, since a check pays for every part of a type wherever a value of it stands: how many cells there
-// are; the ending's kind and its two numbers; and five numbers for each cell, its word, its sign, its value's kind, and
+// are; the ending's kind and its three numbers; and five numbers for each cell, its word, its sign, its value's kind, and
 // the value's two numbers.
 use bodies_rules::Range;
 use fields_rules::Content;
@@ -14,7 +14,7 @@ use lines::numbers;
 use refusals::Refusal;
 
 // Room for 32 cells. The longest answer, a video track, has 28; a cell more than fits would be left out.
-pub const ROOM: usize = 164;
+pub const ROOM: usize = 165;
 
 pub type Told = [u64; ROOM];
 
@@ -79,6 +79,7 @@ pub fn refused(ending: u64, refusal: Refusal) -> Told {
     told[1] = ending;
     told[2] = cause.number();
     told[3] = cause.id() as u64;
+    told[4] = refusal.address;
     told
 }
 
@@ -87,7 +88,7 @@ pub fn with(told: Told, word: u64, sign: u64, kind: u64, a: u64, b: u64) -> Told
     let mut next = told;
     let count = next[0];
     if count < 32 {
-        let at = 4 + 5 * count as usize;
+        let at = 5 + 5 * count as usize;
         next[at] = word;
         next[at + 1] = sign;
         next[at + 2] = kind;

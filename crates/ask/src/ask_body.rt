@@ -1,4 +1,4 @@
-// `body ID PARENT AT SIZE BYTES`: the body of an id under a parent id, at a place of a recording.
+// `body ID PARENT AT SIZE ADDRESS BYTES`: the body of an id under a parent id, at a place of a recording.
 use answers::told;
 use answers::told::Told;
 use bodies_rules::Body;
@@ -7,7 +7,14 @@ use bodies_rules::Value;
 use questions::asked::Asked;
 
 pub fn body(asked: Asked, recording: &[u8]) -> Told {
-    let reply = bodies::body_at(recording, asked.id, asked.parent, asked.at, asked.size);
+    let reply = bodies::body_at(
+        recording,
+        asked.id,
+        asked.parent,
+        asked.at,
+        asked.size,
+        asked.address,
+    );
     match reply {
         BodyReply::Refused(refusal) => told::refused(told::REFUSED, refusal),
         BodyReply::Body(body) => body_told(body),

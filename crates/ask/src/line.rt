@@ -43,7 +43,7 @@ pub fn answer(
         header ab id size length\n\
         kind np kind master int uint string utf8 binary float date\n\
         utf8 b utf8 no yes\n\
-        body npasb int uint float date text bytes master\n\
+        body npasdb int uint float date text bytes master\n\
         read asptb\n\
         whose aspdtb row header payload\n\
         part ntb absent at size heads\n\

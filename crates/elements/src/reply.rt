@@ -46,6 +46,7 @@ pub fn read(recording: &[u8], start: u64, size: u64, parent: u32, table: &mut [u
     clear(table);
     if !is_allowed(recording, start, table) {
         return ReadReply::Refused(Refusal {
+            address: 0,
             cause: Cause::BadArgument,
         });
     }

@@ -165,9 +165,11 @@ impl Cursor {
     {
         match self.vint(recording, 4) {
             VintRead::Ends => HeaderRead::Refused(Refusal {
+                address: self.at,
                 cause: Cause::PastEnd,
             }),
             VintRead::Long => HeaderRead::Refused(Refusal {
+                address: self.at,
                 cause: Cause::InvalidId,
             }),
             VintRead::Vint {
@@ -176,9 +178,11 @@ impl Cursor {
                 next: after_id,
             } => match after_id.vint(recording, 8) {
                 VintRead::Ends => HeaderRead::Refused(Refusal {
+                    address: self.at,
                     cause: Cause::PastEnd,
                 }),
                 VintRead::Long => HeaderRead::Refused(Refusal {
+                    address: self.at,
                     cause: Cause::InvalidSize,
                 }),
                 VintRead::Vint {

@@ -22,11 +22,13 @@ pub fn header_at(recording: &[u8], at: u64) -> HeaderReply
     let length = recording.len() as u64;
     if MOST_BYTES < length {
         return HeaderReply::Refused(Refusal {
+            address: 0,
             cause: Cause::BadArgument,
         });
     }
     if length < at {
         return HeaderReply::Refused(Refusal {
+            address: 0,
             cause: Cause::BadArgument,
         });
     }

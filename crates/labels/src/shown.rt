@@ -36,6 +36,7 @@ pub fn text_range(recording: &[u8], table: &[u64], row: u64) -> RangeReply
                 return RangeReply::Range(range);
             }
             RangeReply::Refused(Refusal {
+                address: 0,
                 cause: Cause::BadArgument,
             })
         }

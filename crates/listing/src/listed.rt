@@ -50,7 +50,8 @@ fn part_lines(page: &mut [u8], held: usize, recording: &[u8], part: u32, table: 
         PartReply::Refused(refusal) => {
             let cause = refusal.cause;
             let number = put_decimal(page, named, b" refused ", cause.number());
-            put(page, number, b"\n")
+            let address = put_decimal(page, number, b" ", refusal.address);
+            put(page, address, b"\n")
         }
         PartReply::Found {
             at,

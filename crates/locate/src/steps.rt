@@ -96,6 +96,7 @@ pub fn locate(
                 Found::Absent => {
                     clear(table);
                     Located::Refused(Refusal {
+                        address: 0,
                         cause: Cause::Outside,
                     })
                 }

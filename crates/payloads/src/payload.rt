@@ -15,12 +15,14 @@ pub fn payload_range(recording: &[u8], table: &[u64], row: u64) -> RangeReply
 {
     if !is_allowed(recording, 0, table) {
         return RangeReply::Refused(Refusal {
+            address: 0,
             cause: Cause::BadArgument,
         });
     }
     let rows = table.len() / WIDTH;
     if rows as u64 <= row {
         return RangeReply::Refused(Refusal {
+            address: 0,
             cause: Cause::BadArgument,
         });
     }
@@ -32,18 +34,21 @@ pub fn payload_range(recording: &[u8], table: &[u64], row: u64) -> RangeReply
     let end = recording.len() as u64;
     if end < address {
         return RangeReply::Refused(Refusal {
+            address: 0,
             cause: Cause::BadArgument,
         });
     }
     let behind_address = end - address;
     if behind_address < header {
         return RangeReply::Refused(Refusal {
+            address: 0,
             cause: Cause::BadArgument,
         });
     }
     let behind_header = behind_address - header;
     if behind_header < length {
         return RangeReply::Refused(Refusal {
+            address: 0,
             cause: Cause::BadArgument,
         });
     }

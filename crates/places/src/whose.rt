@@ -75,6 +75,7 @@ fn find(table: &[u64], rows: usize, address: u64) -> WhoseReply
         }
     }
     WhoseReply::Refused(Refusal {
+        address: 0,
         cause: Cause::Outside,
     })
 }
@@ -95,11 +96,13 @@ pub fn whose_byte(
     clear(table);
     if !is_allowed(recording, start, table) {
         return WhoseReply::Refused(Refusal {
+            address: 0,
             cause: Cause::BadArgument,
         });
     }
     if !is_within(start, size, address) {
         return WhoseReply::Refused(Refusal {
+            address: 0,
             cause: Cause::Outside,
         });
     }

@@ -38,8 +38,11 @@ pub enum Cause {
     Outside,
 }
 
-// What a call answers when it refuses.
+// What a call answers when it refuses: why, and the address of the header that was being read. Where that header itself
+// was bad it is where it began; for 8 it is the last head that was read, for 10 and 11 the head that was not. 14 and 15
+// tell of what the caller gave, and have 0.
 pub struct Refusal {
+    pub address: u64,
     pub cause: Cause,
 }
 

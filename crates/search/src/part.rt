@@ -34,11 +34,13 @@ pub fn find_part(recording: &[u8], part: u32, table: &mut [u64]) -> PartReply
     clear(table);
     if !is_allowed(recording, 0, table) {
         return PartReply::Refused(Refusal {
+            address: 0,
             cause: Cause::BadArgument,
         });
     }
     match parent_of(part) {
         Parent::NoPart => PartReply::Refused(Refusal {
+            address: 0,
             cause: Cause::BadArgument,
         }),
         Parent::Id(parent) => match look_up(recording, part) {

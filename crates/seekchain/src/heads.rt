@@ -5,7 +5,7 @@ ghost use lib.ListN.{length, take};
 ghost use lib.Dec.{ltb};
 ghost use Rattle.seekhead_rules.specs.Contract.{Readable};
 ghost use Rattle.kinds.specs.Kinds.{member};
-ghost use Rattle.seekchain_rules.specs.Heads.{lastAddress, sought as soughtAt, nextHead, linkedHeads};
+ghost use Rattle.seekchain_rules.specs.Heads.{lastAddress, lastOf, sought as soughtAt, nextHead, linkedHeads};
 ghost use Rattle.seekchain_rules.specs.Contract.{headsTold};
 use crate::step::child_at;
 use header::Cursor;
@@ -60,11 +60,13 @@ pub fn sought(recording: &[u8], address: u64, id: u32) -> HeaderRead
     match child_at(recording, place, end) {
         ChildRead::Refused(refusal) => HeaderRead::Refused(refusal),
         ChildRead::End => HeaderRead::Refused(Refusal {
+            address,
             cause: Cause::PastEnd,
         }),
         ChildRead::Child(element) => {
             if element.header.id != id {
                 return HeaderRead::Refused(Refusal {
+                    address,
                     cause: Cause::StaleEntry,
                 });
             }
@@ -73,10 +75,18 @@ pub fn sought(recording: &[u8], address: u64, id: u32) -> HeaderRead
     }
 }
 
-// The head that an entry for one leads to, where the first `read` addresses are those of the heads that were read. The
-// order: 8, 10, 11, header, 9.
-fn next_head(recording: &[u8], start: u64, seen: &[u64], read: usize, link: Latest) -> NextHead
+// The head that an entry for one leads to, where the first `read` addresses are those of the heads that were read, and
+// `last` is the last of them. The order: 8, 10, 11, header, 9.
+fn next_head(
+    recording: &[u8],
+    start: u64,
+    seen: &[u64],
+    read: usize,
+    last: u64,
+    link: Latest,
+) -> NextHead
     requires { ⌜ read ≤ length (now seen) ⌝ }
+    requires { ⌜ last ≡ lastOf (take read (now seen)) ⌝ }
     ensures { λ r. ⌜ r ≡ nextHead (now (recording .entry)) start (take read (now (seen .entry))) link ⌝ }
 {
     match link {
@@ -84,17 +94,20 @@ fn next_head(recording: &[u8], start: u64, seen: &[u64], read: usize, link: Late
         Latest::At(position) => {
             if is_too_far(start, position) {
                 return NextHead::Refused(Refusal {
+                    address: last,
                     cause: Cause::InvalidSeekHead(ids::SEEKHEAD),
                 });
             }
             let address = start + position;
             if contains(seen, read, address) {
                 return NextHead::Refused(Refusal {
+                    address,
                     cause: Cause::HeadAgain,
                 });
             }
             if read >= MOST_HEADS {
                 return NextHead::Refused(Refusal {
+                    address,
                     cause: Cause::TooManyHeads,
                 });
             }
@@ -128,11 +141,12 @@ pub fn linked_heads(recording: &[u8], wanted: Wanted, start: u64, first: Headed)
                 return HeadsRead::Refused(refusal);
             }
             HeadRead::Read(found) => {
-                seen[n] = head.place.at;
+                let last = head.place.at;
+                seen[n] = last;
                 let read = n + 1;
                 parts = found.parts;
                 let link = found.head;
-                match next_head(recording, start, &seen, read, link) {
+                match next_head(recording, start, &seen, read, last, link) {
                     NextHead::Refused(refusal) => {
                         return HeadsRead::Refused(refusal);
                     }
@@ -140,6 +154,7 @@ pub fn linked_heads(recording: &[u8], wanted: Wanted, start: u64, first: Headed)
                         return HeadsRead::Read {
                             parts,
                             heads: read as u64,
+                            last,
                         };
                     }
                     NextHead::Next(next) => {

@@ -15,15 +15,24 @@ use seekchain_rules::PartPlace;
 use seekhead_rules::Latest;
 use seekhead_rules::Wanted;
 
-// The part by the latest position of its id, where so many heads were read: absent, or 8, header, 9.
-fn part_at(recording: &[u8], wanted: u32, start: u64, heads: u64, link: Latest) -> PartPlace
-    ensures { λ r. ⌜ PartMet (now (recording .entry)) wanted start heads link r ⌝ }
+// The part by the latest position of its id, where so many heads were read, the last of them at `last`: absent, or 8,
+// header, 9.
+fn part_at(
+    recording: &[u8],
+    wanted: u32,
+    start: u64,
+    heads: u64,
+    last: u64,
+    link: Latest,
+) -> PartPlace
+    ensures { λ r. ⌜ PartMet (now (recording .entry)) wanted start heads last link r ⌝ }
 {
     match link {
         Latest::Nowhere => PartPlace::Absent { heads },
         Latest::At(position) => {
             if is_too_far(start, position) {
                 return PartPlace::Refused(Refusal {
+                    address: last,
                     cause: Cause::InvalidSeekHead(wanted),
                 });
             }
@@ -50,9 +59,9 @@ pub fn by_heads(recording: &[u8], wanted: u32, start: u64, first: Headed) -> Par
     };
     match linked_heads(recording, only, start, first) {
         HeadsRead::Refused(refusal) => PartPlace::Refused(refusal),
-        HeadsRead::Read { parts, heads } => {
+        HeadsRead::Read { parts, heads, last } => {
             let link = parts.first;
-            part_at(recording, wanted, start, heads, link)
+            part_at(recording, wanted, start, heads, last, link)
         }
     }
 }

@@ -10,8 +10,13 @@ pub enum NextHead {
     Refused(Refusal),
 }
 
-// The latest positions of the wanted ids over all heads, and how many heads were read; or a refusal.
+// The latest positions of the wanted ids over all heads, how many heads were read, and the address of the last one; or
+// a refusal.
 pub enum HeadsRead {
-    Read { parts: Positions, heads: u64 },
+    Read {
+        parts: Positions,
+        heads: u64,
+        last: u64,
+    },
     Refused(Refusal),
 }

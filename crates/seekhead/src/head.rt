@@ -103,6 +103,7 @@ pub fn head_body(recording: &[u8], wanted: Wanted, parts: Positions, head: Heade
                     let next = child.payload.at + child.header.size;
                     if end < next {
                         return HeadRead::Refused(Refusal {
+                            address: at,
                             cause: Cause::Overrun,
                         });
                     }

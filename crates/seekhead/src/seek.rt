@@ -108,6 +108,7 @@ pub fn seek_body(recording: &[u8], element: Headed) -> SeekRead
                     let next = member.payload.at + member.header.size;
                     if end < next {
                         return SeekRead::Refused(Refusal {
+                            address: at,
                             cause: Cause::Overrun,
                         });
                     }

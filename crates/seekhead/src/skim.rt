@@ -38,7 +38,10 @@ pub fn skim_body(recording: &[u8], element: Headed, parent: u32, depth: u64) -> 
         };
     }
     match read_body(recording, element, kind) {
-        BodyRead::Refused(cause) => SkimRead::Refused(Refusal { cause }),
+        BodyRead::Refused(cause) => SkimRead::Refused(Refusal {
+            address: element.place.at,
+            cause,
+        }),
         BodyRead::Read(body, _) => SkimRead::Read(body),
     }
 }

@@ -27,6 +27,7 @@ pub fn segment_of(recording: &[u8]) -> HeaderRead
             }
             ChildRead::End => {
                 return HeaderRead::Refused(Refusal {
+                    address: at,
                     cause: Cause::PastEnd,
                 });
             }

@@ -72,6 +72,7 @@ pub fn uid_at(
             Number::Unset => {
                 clear(table);
                 UidReply::Refused(Refusal {
+                    address: 0,
                     cause: Cause::Outside,
                 })
             }

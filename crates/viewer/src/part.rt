@@ -17,6 +17,7 @@ pub extern "C" fn uz_find_part(recording: &[u8], part: u32, table: &mut [u64]) -
         } => UzPart {
             refused: 0,
             id: 0,
+            refused_at: 0,
             found: 1,
             at,
             size,
@@ -26,6 +27,7 @@ pub extern "C" fn uz_find_part(recording: &[u8], part: u32, table: &mut [u64]) -
         PartReply::Absent { heads } => UzPart {
             refused: 0,
             id: 0,
+            refused_at: 0,
             found: 0,
             at: 0,
             size: 0,
@@ -39,6 +41,7 @@ pub extern "C" fn uz_find_part(recording: &[u8], part: u32, table: &mut [u64]) -
             UzPart {
                 refused: number,
                 id,
+                refused_at: refusal.address,
                 found: 0,
                 at: 0,
                 size: 0,

@@ -19,12 +19,14 @@ pub extern "C" fn uz_whose_byte(
     match whose_byte(recording, start, size, parent, address, table) {
         WhoseReply::Header { row, rows } => UzPlace {
             refused: 0,
+            refused_at: 0,
             row,
             in_payload: 0,
             rows,
         },
         WhoseReply::Payload { row, rows } => UzPlace {
             refused: 0,
+            refused_at: 0,
             row,
             in_payload: 1,
             rows,
@@ -34,6 +36,7 @@ pub extern "C" fn uz_whose_byte(
             let number = cause.number();
             UzPlace {
                 refused: number,
+                refused_at: refusal.address,
                 row: 0,
                 in_payload: 0,
                 rows: 0,
