@@ -139,7 +139,8 @@ module _ (s : List ℕ) (wanted : Wanted) (start : ℕ) (first : Headed) where
       chaining-ends k =
           let l = length-take-le (n + 1) seen-now (omega (arith, seen-long, g .few)) in
           ap (λ (x : Positions). HeadsAre x (n + 1) (head .place .at)) (followed .are)
-          ∙ rw (followed .is, ← k, l) (ap (λ (x : ℕ). HeadsAre (positions wanted (g .es ++ followed .own)) (n + 1) x) chaining-last)
+          ∙ rw (followed .is, ← k, l)
+          (ap (λ (x : ℕ). HeadsAre (positions wanted (g .es ++ followed .own)) (n + 1) x) chaining-last)
 
       pub chaining-on : (next : Headed) → Next next ≡ nextHead s start (take (n + 1) seen-now) (found .head)
           → Chaining seen-now (n + 1) next (found .parts)

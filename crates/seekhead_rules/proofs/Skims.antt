@@ -50,7 +50,8 @@ module _ (s : List ℕ) (depth parent : ℕ) (e : Headed) (there : headerAt s (e
   kind = kindUnder (e .header .id) parent
 
   by-body : elementAt s depth parent (e .place .at)
-      ≡ above (elementOf parent (e .header)) (held (e .place .at) (bodyOf s (e .payload .at) (e .header .size) kind) below)
+      ≡ above (elementOf parent (e .header))
+      (held (e .place .at) (bodyOf s (e .payload .at) (e .header .size) kind) below)
   unfolding full
   by-body =
       let t = header-there s (e .place .at) e there in
