@@ -24,6 +24,22 @@ row-lines-requires c κs =
     let n = b .long in
     (omega arith, omega arith)
 
+put-requires-2 : tie.Need-put-requires-2
+put-requires-2 c κs =
+    let p1 = c .before .before .before .before in
+    let p2 = p1 .before .before .before .before .before in
+    let p3 = p2 .before .before .before .before .before .before .before .before .before in
+    let p4 = p3 .before .before .before .before in
+    let p5 = p4 .before .before .before .before .before .before in
+    let (l, p) = p5 .pre in
+    let (a, x) = p4 .put-hexadecimal .ensures in
+    let (b, y) = p2 .put-decimal .ensures in
+    let (g, z) = p1 .put-decimal2 .ensures in
+    let m = a .long in
+    let n = b .long in
+    let o = g .long in
+    omega arith
+
 returns : tie.Need-returns
 returns c =
     let p2 = c .before .before .before .before .before .before in
@@ -79,6 +95,6 @@ pub part-lines-spec : {M : Type 1} → statement M
 part-lines-spec =
     tie.close (tie.spec (λ c. search needs) (λ c κs. search needs) (λ c κs. search needs) (λ c. search needs)
     (λ c. search needs) (λ c κs. search needs) (λ c. search needs) (λ c. search needs) (λ c κs. search needs)
-    (λ c κs. search needs) (λ c. search needs) (λ c κs. search needs) (λ c. search needs) (λ c κs. search needs)
+    (λ c κs. search needs) (λ c. search needs) (λ c κs. search needs) (λ c. search needs) put-requires-2
     (λ c. search needs) (λ c κs. search needs) row-lines-requires (λ c. search needs) (λ c. search needs) returns
     (λ c. search needs) (λ c. search needs) returns-2 (λ c. search needs) (λ c. search needs) returns-3)
