@@ -150,8 +150,8 @@ fn without_address(question: &Question, ours: &[u8]) -> Option<Vec<u8>> {
     (address == due).then(|| plain.into_bytes())
 }
 
-/// The answer of ours that is equal to one of the crate's: a refusal has its address. Where
-/// none is, it is the crate's own.
+/// An answer of the crate as ours has to be where both agree: a refusal has its address.
+/// Where they don't, it is the crate's own.
 pub fn as_ours(question: &Question, theirs: &[u8]) -> Vec<u8> {
     if let Some(due) = due(question) {
         let equal = plain(&due.ours).as_bytes() == theirs;
@@ -216,8 +216,8 @@ pub fn due(question: &Question) -> Option<Due> {
         .or_else(|| records::due(question))
 }
 
-/// There every answer is known beforehand, ours with the address of a refusal. A crate that answers otherwise shows that
-/// the judge's reading is wrong.
+/// There every answer is known beforehand, ours with the address of a refusal. A crate that
+/// answers otherwise shows that the judge's reading is wrong.
 fn known_verdict(due: &Due, case: &Case) -> Verdict {
     let pairs = [
         (&due.ours, case.ours),

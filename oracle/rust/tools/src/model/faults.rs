@@ -5,6 +5,7 @@
 /// Those of single headers and bodies: which address a refusal carries.
 pub const SINGLE: &str = "\
 header-at-zero: a bad header is told by 0
+header-at-size: a bad size is told by its own address
 header-at-end: a header that ends too early is told by the recording's end
 header-14-at: 14 of a header carries the place that was asked for
 header-14-end: 14 of a header carries the recording's end
@@ -12,6 +13,7 @@ body-at-place: a refused body is told by its place
 body-at-zero: a refused body is told by 0
 body-at-before: a refused body is told by a header of two bytes before it
 body-at-behind: a refused body is told by the place behind it
+body-at-32: the address of a header has 32 bits
 body-at-held: a refused body is told by the recording's end if its header is said to be behind it
 body-at-missing: a body that ends too early is told by its place
 body-at-size: a body of a wrong size is told by its place

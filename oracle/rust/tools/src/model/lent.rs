@@ -238,9 +238,10 @@ impl Lent {
             refusal(number, at).or(self.fault, &[("at-header-end", end)])
         };
         let (id, width) = self.marked(bytes, at, 4, 2).map_err(bad)?;
-        let size = self.marked(bytes, at + width, 8, 3);
-        let (size, size_width) =
-            size.map_err(|number| bad(number).or(self.fault, &[("at-header-size", at + width)]))?;
+        let place = at + width;
+        let wrong = [("at-header-size", place), ("header-at-size", place)];
+        let size = self.marked(bytes, place, 8, 3);
+        let (size, size_width) = size.map_err(|number| bad(number).or(self.fault, &wrong))?;
         let header = width + size_width;
         let size = self.payload_size(size, size_width, left.saturating_sub(header));
         Ok([id, header, size])

@@ -87,6 +87,7 @@ impl Body<'_> {
                 ("body-at-zero", 0),
                 ("body-at-before", self.at.saturating_sub(2)),
                 ("body-at-behind", self.at.wrapping_add(self.size)),
+                ("body-at-32", self.address & 0xFFFF_FFFF),
                 ("body-at-held", self.address.min(self.bytes.len() as u64)),
                 ("body-at-missing", of(&[1])),
                 ("body-at-size", of(&[4, 5, 6])),
