@@ -98,6 +98,8 @@ class Part:
         words = head.split()
         if words[0] == 'refused':
             self.refused = int(words[1])
+            # The address of the refusal, which `ask` tells: refused N at A, refused 8 ID at A.
+            self.refused_at = int(words[words.index('at') + 1]) if 'at' in words else None
             return
         self.heads = int(words[words.index('heads') + 1])
         if words[0] == 'at':
@@ -168,13 +170,15 @@ class Comparison(Against):
         for label, (ident, _) in PARTS.items():
             part = parts[label]
             if part.found() and len(part.rows) > 1024:
-                lines.append('part %X refused 13' % ident)
+                # The first element without a row.
+                lines.append('part %X refused 13 %d' % (ident, part.rows[1024].at))
             elif part.found():
                 lines.append('part %X at %d size %d rows %d' % (ident, part.at, part.size, len(part.rows)))
                 lines += ['%d %d %d %d %s %X' % (r.at, r.header, r.payload, r.depth, KIND[r.kind], r.id)
                           for r in part.rows]
             else:
-                lines.append('part %X %s' % (ident, 'absent' if part.refused is None else 'refused %d' % part.refused))
+                lines.append('part %X %s' % (ident, 'absent' if part.refused is None else
+                                             'refused %d %s' % (part.refused, part.refused_at)))
         got = self.change('listing', self.run_rows(self.path))
         self.same('the listing', got, '\n'.join(lines) + '\n', 'listings')
 
@@ -247,7 +251,8 @@ class Comparison(Against):
         asked = []
         for row, shown in pairs:
             if row.kind in (2, 3, 4, 5, 7) and shown.value is not None and row.payload <= SMALL:
-                question = 'body %X 0 0 %d %s' % (row.id, row.payload, self.bytes[row.start():row.end()].hex() or '-')
+                question = 'body %X 0 0 %d %d %s' % (row.id, row.payload, row.at,
+                                                     self.bytes[row.start():row.end()].hex() or '-')
                 asked.append((row, shown, question))
         for row, shown, question in asked:
             word, value = self.ask(question).split(' ')[:2]
@@ -353,7 +358,7 @@ class Comparison(Against):
         """Behind the last record there is none: 15."""
         got = self.fields(part, word, *index)
         if got is not None:
-            self.same('%s: one more' % what, got, 'refused 15')
+            self.same('%s: one more' % what, got, 'refused 15 at 0')
 
     def same_number(self, what, ours, xml, name, parent, label):
         """A number or flag. The tool may show a default where mkvinfo shows no element."""
@@ -776,7 +781,7 @@ class Comparison(Against):
         if row is None:
             return None
         piece = self.text((row.start(), row.payload)).hex() or '-'
-        return int(self.ask('body %X 0 0 %d %s' % (row.id, row.payload, piece)).split(' ')[1])
+        return int(self.ask('body %X 0 0 %d %d %s' % (row.id, row.payload, row.at, piece)).split(' ')[1])
 
     def audio(self, what, part, element, row, properties, stream):
         piece = self.text((row.start(), row.payload)).hex() or '-'
