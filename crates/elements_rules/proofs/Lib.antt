@@ -23,4 +23,5 @@ pub mod Useless
 pub mod Jumps
 pub mod Depths
 pub mod Accepting
+pub mod Faults
 pub mod Moves

@@ -66,7 +66,7 @@ module _ (s : List ℕ) where
   not-master : (at n : ℕ) (k : Kind) → IsValue (bodyOf s at n k) → numberOf k ≡ 1 → ⊥
   not-master at n k v m = subst IsValue (master-body s at n k m) v
 
-  is-master : (at n : ℕ) (k : Kind) → bodyOf s at n k ≡ master → numberOf k ≡ 1
+  pub is-master : (at n : ℕ) (k : Kind) → bodyOf s at n k ≡ master → numberOf k ≡ 1
   is-master at n k e = by-kind k (λ m. m) (λ m. by (leaf-body s at n k m))
     where
       by : Leaf s at n (bodyOf s at n k) → numberOf k ≡ 1

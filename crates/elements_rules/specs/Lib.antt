@@ -11,3 +11,4 @@ pub mod Cases
 pub mod Useless
 pub mod Jumps
 pub mod Acceptance
+pub mod Faults

@@ -1,0 +1,195 @@
+-- What a refusal names (document 02, C-12): the fault at its address, said once over the causes, and how a reader came
+-- there. The statements of theorems, each with a wrong reader that it shuts out.
+use Prim.Native.Nat.{ℕ, _+_, _-_, _/_, _^_, _≤_, _<_}
+use mathlib.Core.Path.{_≡_}
+use mathlib.Core.List.{List, [], _∷_, _++_}
+use mathlib.Core.Logic.{_⊎_}
+use mathlib.Core.Bool.{true, false}
+use lib.ListN.{length}
+use Rattle.refusals.specs.declared.refusal.Cause.{Cause}
+use Rattle.refusals.specs.declared.refusal.Cause.the-variants.{PastEnd, InvalidId, InvalidSize, Overrun}
+use Rattle.refusals.specs.declared.refusal.Cause.the-variants.{InvalidUint, InvalidFloat, InvalidDate, NotUtf8}
+use Rattle.refusals.specs.declared.refusal.Cause.the-variants.{InvalidSeekHead, StaleEntry, HeadAgain}
+use Rattle.refusals.specs.declared.refusal.Cause.the-variants.{TooManyHeads, TooDeep, NoFreeRow}
+use Rattle.refusals.specs.declared.refusal.Cause.the-variants.{BadArgument, Outside}
+use Rattle.refusals.specs.declared.refusal.Refusal.{Refusal}
+use Rattle.header.specs.Header.{heading}
+use Rattle.header.specs.Header.{refused as refusedHeader}
+use Rattle.header.specs.Promise.{HeaderPromise}
+use Rattle.header.specs.declared.cursor.Header.{Header}
+use Rattle.header.specs.declared.reply.HeaderReply.the-variants.{Refused as NoHeaderReply}
+use Rattle.kinds.specs.Kinds.{numberOf, kindUnder, member}
+use Rattle.bodies_rules.specs.Bodies.{bodyOf}
+use Rattle.bodies_rules.specs.Bodies.{refused as refusedBody}
+use Rattle.bodies_rules.specs.Promise.{BodyPromise}
+use Rattle.bodies_rules.specs.declared.reply.BodyReply.the-variants.{Refused as NoBodyReply}
+use Rattle.elements_rules.specs.Forest.{Forest, span, count}
+use Rattle.elements_rules.specs.Reading.{done, elementHeader, full, depths, element}
+use Rattle.elements_rules.specs.Rows.{width}
+use Rattle.elements_rules.specs.Promise.{keeping, ReadPromise}
+use Rattle.elements_rules.specs.declared.row.Mode.{Mode}
+use Rattle.elements_rules.specs.declared.reply.ReadReply.the-variants.{Refused}
+
+-- ---- what a reader is about
+
+-- What a reader is about at an address.
+pub data Errand : Type 0 where
+  -- To read a header alone.
+  toHeader : Errand
+  -- To read a body that the caller names by an id, a parent id, a place and a size, with an address for its header.
+  toBody : (id parent from size address : ℕ) → Errand
+  -- To read an element: with so many rows in the table, under a parent id, at a depth, with so many rows taken, and so
+  -- many bytes left in its master.
+  toElement : Mode → (cap parent depth rows left : ℕ) → Errand
+  -- To pass over an element of the file or of the segment, with so many bytes left there.
+  toPass : (left : ℕ) → Errand
+  -- To find an element of that id, which an entry names.
+  toFind : (id : ℕ) → Errand
+  -- To follow an entry for that id, with a position counted from the segment's start, behind the heads that were read
+  -- at these addresses.
+  toFollow : (id start position : ℕ) (heads : List ℕ) → Errand
+
+-- ---- the faults
+
+-- A header stands there, and something holds of it.
+abbrev pub Standing : List ℕ → ℕ → (Header → Type 0) → Type 0
+Standing s at P = (h : Header) × (elementHeader s at ≡ heading h) × P h
+
+-- The header there is refused.
+pub data NoHeader (s : List ℕ) (at : ℕ) (c : Cause) : Errand → Type 0 where
+  headerAlone : elementHeader s at ≡ refusedHeader c → NoHeader s at c toHeader
+  headerRead :
+      (mode : Mode) (cap parent depth rows left : ℕ) → elementHeader s at ≡ refusedHeader c
+      → NoHeader s at c (toElement mode cap parent depth rows left)
+  headerPassed : (left : ℕ) → elementHeader s at ≡ refusedHeader c → NoHeader s at c (toPass left)
+  headerFound : (id : ℕ) → elementHeader s at ≡ refusedHeader c → NoHeader s at c (toFind id)
+
+-- A header stands there, and its body is refused. Of a body that the caller names the address is what he gave.
+pub data NoBody (s : List ℕ) (at : ℕ) (c : Cause) : Errand → Type 0 where
+  bodyRead :
+      (mode : Mode) (cap parent depth rows left : ℕ)
+      → Standing s at (λ h. bodyOf s (at + h .length) (h .size) (kindUnder (h .id) parent) ≡ refusedBody c)
+      → NoBody s at c (toElement mode cap parent depth rows left)
+  bodyNamed :
+      (id parent from size : ℕ) → bodyOf s from size (kindUnder id parent) ≡ refusedBody c
+      → NoBody s at c (toBody id parent from size at)
+
+-- It is larger than what was left.
+pub data Larger (s : List ℕ) (at : ℕ) : Errand → Type 0 where
+  largerRead :
+      (mode : Mode) (cap parent depth rows left : ℕ) → Standing s at (λ h. left < h .length + h .size)
+      → Larger s at (toElement mode cap parent depth rows left)
+  largerPassed : (left : ℕ) → Standing s at (λ h. left < h .length + h .size) → Larger s at (toPass left)
+
+-- It stands one depth too deep: the deepest row has depth 15.
+pub data Deeper (s : List ℕ) (at : ℕ) : Errand → Type 0 where
+  deeperRead :
+      (mode : Mode) (cap parent rows left : ℕ) → Standing s at (λ h. Unit)
+      → Deeper s at (toElement mode cap parent depths rows left)
+
+-- It finds the table full.
+pub data NoRow (s : List ℕ) (at : ℕ) : Errand → Type 0 where
+  rowlessRead :
+      (mode : Mode) (cap parent depth rows left : ℕ) → Standing s at (λ h. full mode cap rows ≡ true)
+      → NoRow s at (toElement mode cap parent depth rows left)
+
+-- It has another id than the one that is sought.
+pub data Other (s : List ℕ) (at : ℕ) : Errand → Type 0 where
+  otherFound : (id : ℕ) → Standing s at (λ h. h .id ≡ id → ⊥) → Other s at (toFind id)
+
+-- The entry's address exceeds 2^64-1; the last head that was read is there.
+pub data Far (at id : ℕ) : Errand → Type 0 where
+  farFollowed :
+      (start position : ℕ) (before : List ℕ) → 2 ^ 64 ≤ start + position
+      → Far at id (toFollow id start position (before ++ (at ∷ [])))
+
+-- The entry leads there, where one of the heads that were read is.
+pub data Again (at : ℕ) : Errand → Type 0 where
+  againFollowed :
+      (id start position : ℕ) (heads : List ℕ) → start + position ≡ at → member at heads ≡ true
+      → Again at (toFollow id start position heads)
+
+-- The entry leads there, where none of the heads that were read is; and 64 were read.
+pub data Many (at : ℕ) : Errand → Type 0 where
+  manyFollowed :
+      (id start position : ℕ) (heads : List ℕ) → start + position ≡ at → member at heads ≡ false → length heads ≡ 64
+      → Many at (toFollow id start position heads)
+
+-- The fault that a refusal names, by its cause.
+abbrev pub Fault : List ℕ → ℕ → Errand → Cause → Type 0
+Fault s at x PastEnd = NoHeader s at PastEnd x ⊎ NoBody s at PastEnd x
+Fault s at x InvalidId = NoHeader s at InvalidId x
+Fault s at x InvalidSize = NoHeader s at InvalidSize x
+Fault s at x Overrun = Larger s at x
+Fault s at x InvalidUint = NoBody s at InvalidUint x
+Fault s at x InvalidFloat = NoBody s at InvalidFloat x
+Fault s at x InvalidDate = NoBody s at InvalidDate x
+Fault s at x NotUtf8 = NoBody s at NotUtf8 x
+Fault s at x (InvalidSeekHead id) = Far at id x
+Fault s at x StaleEntry = Other s at x
+Fault s at x HeadAgain = Again at x
+Fault s at x TooManyHeads = Many at x
+Fault s at x TooDeep = Deeper s at x
+Fault s at x NoFreeRow = NoRow s at x
+Fault s at x BadArgument = ⊥
+Fault s at x Outside = ⊥
+
+-- ---- an honest refusal
+
+-- A reader that goes where `Reached` says came to the address, and the fault is there.
+pub record FaultThere (s : List ℕ) (Reached : ℕ → Errand → Type 0) (e : Refusal) : Type 0 where
+  pub errand : Errand
+  pub reached : Reached (e .address) errand
+  pub fault : Fault s (e .address) errand (e .cause)
+
+-- That, or it is 14 or 15: of what the caller gave, and at 0.
+pub data Honest (s : List ℕ) (Reached : ℕ → Errand → Type 0) (e : Refusal) : Type 0 where
+  there : FaultThere s Reached e → Honest s Reached e
+  callers : (e .cause ≡ BadArgument) ⊎ (e .cause ≡ Outside) → e .address ≡ 0 → Honest s Reached e
+
+-- A header alone is refused where it was asked for. It shuts out a reader that tells of a bad size where the size
+-- begins.
+abbrev pub HeaderHonest : Type 0
+HeaderHonest =
+    (s : List ℕ) (at : ℕ) (e : Refusal) → HeaderPromise s at (NoHeaderReply e)
+    → Honest s (λ (a : ℕ) (x : Errand). (a ≡ at) × (x ≡ toHeader)) e
+
+-- A body is refused at the address that the caller gave for its header. It shuts out a reader that tells the place of
+-- the payload.
+abbrev pub BodyHonest : Type 0
+BodyHonest =
+    (s : List ℕ) (id parent at size address : ℕ) (e : Refusal)
+    → BodyPromise s id parent at size address (NoBodyReply e)
+    → Honest s (λ (a : ℕ) (x : Errand). x ≡ toBody id parent at size address) e
+
+-- ---- the way to an element
+
+-- How the reader of a payload's elements comes to one of them. They have that depth and stand under that parent id, and
+-- n rows stand before them. What it went past was read whole, and what it went into is a master that has its row.
+pub data Comes (s : List ℕ) (mode : Mode) (cap : ℕ) : (depth parent at size n : ℕ) → ℕ → Errand → Type 0 where
+  here :
+      (depth parent at size n : ℕ) → 0 < size
+      → Comes s mode cap depth parent at size n at (toElement mode cap parent depth n size)
+  past :
+      (depth parent at size n a : ℕ) (x : Errand) (f : Forest)
+      → element s mode cap (depths - depth) parent at n ≡ done f → span f ≤ size
+      → Comes s mode cap depth parent (at + span f) (size - span f) (n + count f) a x
+      → Comes s mode cap depth parent at size n a x
+  into :
+      (depth parent at size n a : ℕ) (x : Errand) (h : Header)
+      → 0 < size → depth < depths → elementHeader s at ≡ heading h → full mode cap n ≡ false
+      → numberOf (kindUnder (h .id) parent) ≡ 1
+      → Comes s mode cap (depth + 1) (h .id) (at + h .length) (h .size) (n + 1) a x
+      → Comes s mode cap depth parent at size n a x
+
+-- A refusal of the reading of a payload into a table of so many numbers.
+abbrev pub HonestReading : List ℕ → (start size parent numbers : ℕ) → Refusal → Type 0
+HonestReading s start size parent numbers e = Honest s (Comes s keeping (numbers / width) 0 parent start size 0) e
+
+-- A read is refused at the first element, in the order of reading, that has a fault, and for that fault. It shuts out a
+-- reader that names the master of a child that is too large, or the payload of a text that is not UTF-8, and one that
+-- goes on to a later fault.
+abbrev pub ReadHonest : Type 0
+ReadHonest =
+    (s : List ℕ) (start size parent : ℕ) (t : List ℕ) (e : Refusal) (t′ : List ℕ)
+    → ReadPromise s start size parent t (Refused e) t′ → HonestReading s start size parent (length t) e
