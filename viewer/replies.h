@@ -22,6 +22,7 @@
 #define SEEK_ID UINT32_C(0x53AB)
 #define SEEK_POSITION UINT32_C(0x53AC)
 #define VOID UINT32_C(0xEC)
+#define DATE UINT32_C(0x4461) // the one id of its kind
 
 static const uint32_t parts[] = {UZ_TRACKS, UZ_ATTACHMENTS, UZ_CHAPTERS, UZ_TAGS};
 static const uint32_t parents[] = {UZ_UNDER_TRACKS, UZ_UNDER_ATTACHMENTS, UZ_UNDER_CHAPTERS,
@@ -279,19 +280,22 @@ static bool is_broken(recording from, uint64_t refused, uint64_t at) {
     uint64_t id = 0, size = 0;
     uint64_t payload = at + header(from, at, &id, &size);
     bool whole = size <= from.length - payload;
+    // These are masters or, below a part itself, plain bytes: no body of a kind.
+    bool body = id != SEGMENT && id != SEEK_HEAD && id != SEEK && id != UZ_TRACKS &&
+                id != UZ_ATTACHMENTS && id != UZ_CHAPTERS && id != UZ_TAGS;
     switch (refused) {
     case UZ_PAST_END:
         return !whole;
     case UZ_INVALID_ID:
         return false;
     case UZ_INVALID_INTEGER:
-        return size > 8;
+        return body && size > 8;
     case UZ_INVALID_FLOAT:
-        return size != 4 && size != 8;
+        return body && size != 4 && size != 8;
     case UZ_INVALID_DATE:
-        return size != 8;
+        return id == DATE && size != 8;
     case UZ_NOT_UTF8:
-        return whole && !is_utf8(from.bytes + payload, size);
+        return body && whole && !is_utf8(from.bytes + payload, size);
     case UZ_INVALID_SEEK_HEAD:
     case UZ_HEAD_AGAIN:
         return id == SEEK_HEAD;
