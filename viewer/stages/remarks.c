@@ -50,8 +50,8 @@ static bool begins(const recording *from, uint32_t id) {
 static void on_no_segment(const recording *from, uint64_t end, remarks *to) {
     if (begins(from, EBML) || begins(from, SEGMENT))
         add(to, "copy the file again, or record again",
-            "it begins as a Matroska file, but has no segment up to %" PRIu64 "/0x%" PRIX64
-            ": it was cut off, or never written",
+            "it begins as a Matroska file, but has no segment, and no header can be read at "
+            "%" PRIu64 "/0x%" PRIX64 ": it was cut off, or never written",
             end, end);
     else
         add(to, "check that this is the right file",
