@@ -94,10 +94,12 @@ class Part:
 
     def __init__(self, answer):
         self.answer, self.rows, self.refused, self.at, self.size, self.heads = answer, [], None, None, None, None
+        self.broken = None
         head, *rows = answer.split(' / ')
         words = head.split()
         if words[0] == 'refused':
-            self.refused = int(words[1])
+            # For 8 an id stands before the address where it broke.
+            self.refused, self.broken = int(words[1]), int(words[words.index('at') + 1])
             return
         self.heads = int(words[words.index('heads') + 1])
         if words[0] == 'at':
@@ -168,13 +170,14 @@ class Comparison(Against):
         for label, (ident, _) in PARTS.items():
             part = parts[label]
             if part.found() and len(part.rows) > 1024:
-                lines.append('part %X refused 13' % ident)
+                lines.append('part %X refused 13 %d' % (ident, part.rows[1024].at))
             elif part.found():
                 lines.append('part %X at %d size %d rows %d' % (ident, part.at, part.size, len(part.rows)))
                 lines += ['%d %d %d %d %s %X' % (r.at, r.header, r.payload, r.depth, KIND[r.kind], r.id)
                           for r in part.rows]
             else:
-                lines.append('part %X %s' % (ident, 'absent' if part.refused is None else 'refused %d' % part.refused))
+                lines.append('part %X %s' % (ident, 'absent' if part.refused is None else
+                                             'refused %d %d' % (part.refused, part.broken)))
         got = self.change('listing', self.run_rows(self.path))
         self.same('the listing', got, '\n'.join(lines) + '\n', 'listings')
 
@@ -353,7 +356,7 @@ class Comparison(Against):
         """Behind the last record there is none: 15."""
         got = self.fields(part, word, *index)
         if got is not None:
-            self.same('%s: one more' % what, got, 'refused 15')
+            self.same('%s: one more' % what, got, 'refused 15 at 0')
 
     def same_number(self, what, ours, xml, name, parent, label):
         """A number or flag. The tool may show a default where mkvinfo shows no element."""

@@ -53,8 +53,8 @@ def word_changes(answer):
 def part_changes(answer):
     """Changes of a part's answer: its place, its count of heads, rows left out, each number of some rows."""
     head, *rows = answer.split(' / ')
-    yield 'refused 3 table 0'
-    yield 'refused 9 table 0'
+    yield 'refused 3 at 0 table 0'
+    yield 'refused 9 at 0 table 0'
     if not rows:
         yield 'at 100 size 0 heads 1 rows 0 rest 0'
         return
@@ -81,7 +81,7 @@ def answer_changes(word, answer):
         lines = answer.split('\n')
         return ['\n'.join(lines[:-2] + ['']), answer.replace(' master ', ' binary ', 1), answer.replace('1', '2', 1)]
     if answer.startswith('refused'):
-        return ['refused 14 table 0']
+        return ['refused 14 at 0 table 0']
     if word in ('payload', 'label'):
         return [answer[:-2], answer[:-1] + ('0' if answer[-1] != '0' else '1')]
     if word == 'whose' and ' rows ' in answer:
