@@ -51,10 +51,13 @@ def word_changes(answer):
 
 
 def part_changes(answer):
-    """Changes of a part's answer: its place, its count of heads, rows left out, each number of some rows."""
+    """Changes of a part's answer: its place, its count of heads, where it broke, rows left out, each number of some
+    rows."""
     head, *rows = answer.split(' / ')
     yield 'refused 3 at 0 table 0'
     yield 'refused 9 at 0 table 0'
+    if head.startswith('refused'):
+        yield re.sub(r' at (\d+)', lambda m: ' at %d' % (int(m.group(1)) + 1), head)
     if not rows:
         yield 'at 100 size 0 heads 1 rows 0 rest 0'
         return
