@@ -352,6 +352,9 @@ static const part_case part_cases[] = {
     {"1853806781EC80", UZ_TAGS, 0, {3, 0, 5, 0, 0, 0, 0, 0}},
     {"18538067871254C36782EC8141", UZ_TAGS, 1, {3, 0, 10, 0, 0, 0, 0, 0}},
     {"1853806782EC8100", UZ_TAGS, 1, {3, 0, 5, 0, 0, 0, 0, 0}},
+    // A child of a seek head, and of a Seek, that overruns: not the first child, and not the head.
+    {"185380678A114D9B7484EC80EC8141", UZ_TAGS, 0, {3, 0, 12, 0, 0, 0, 0, 0}},
+    {"185380678D114D9B74884DBB84EC80EC8141", UZ_TAGS, 0, {3, 0, 15, 0, 0, 0, 0, 0}},
     // A sought header that is none: the sought address, not that of the entry.
     {"1853806795114D9B748E4DBB8B53AB841254C36753AC81130F80", UZ_TAGS, 1, {2, 0, 24, 0, 0, 0, 0, 0}},
     {"1853806796114D9B748E4DBB8B53AB84114D9B7453AC8113AE0001", UZ_TAGS, 1, {3, 0, 24, 0, 0, 0, 0, 0}},
@@ -376,6 +379,9 @@ static const part_case part_cases[] = {
     {"1853806793114D9B748E4DBB8B53AB841254C36753AC8100", UZ_TRACKS, 1, {0, 0, 0, 0, 0, 0, 0, 1}},
     {"1853806793114D9B748E4DBB8B53AB84114D9B7453AC8100", UZ_TAGS, 1, {10, 0, 5, 0, 0, 0, 0, 0}},
     {"1853806795114D9B748E4DBB8B53AB84114D9B7453AC8113EC80", UZ_TAGS, 1, {9, 0, 24, 0, 0, 0, 0, 0}},
+    // Two heads that name each other: the first would be read once more, after the second.
+    {"18538067A2114D9B748E4DBB8B53AB84114D9B7453AC8113114D9B748A4DBB8753AB84114D9B74",
+     UZ_TAGS, 0, {10, 0, 5, 0, 0, 0, 0, 0}},
     // The last entry of an id wins.
     {"18538067A6114D9B749C4DBB8B53AB841254C36753AC81004DBB8B53AB841254C36753AC81211254C36780",
      UZ_TAGS, 0, {0, 0, 0, 1, 43, 0, 0, 1}},
@@ -645,6 +651,7 @@ static const place_case place_cases[] = {
     {"EC80EC80", 0, 4, 0, 0, 1, {13, 2, 0, 0, 0}},
     {"45B9A0B69EB69CB69AB698B696B694B692B690B68EB68CB68AB688B686B684B682B680",
      0, 35, UZ_CHAPTERS, 0, 17, {12, 33, 0, 0, 0}},
+    {"67C886EC8045A3824142", 0, 9, 0, 0, 3, {3, 5, 0, 0, 0}},
     // One behind the payload: AE passes its master's end, and what it holds is read first.
     {"67C881AE830F8000", 0, 4, 0, 0, 3, {2, 5, 0, 0, 0}},
 };
