@@ -77,7 +77,7 @@ int main(int count, char **words) {
   and 15, whose fault lies in what was asked and not in the recording, it is 0. But 0 is also the address of the first
   byte, so it is the number of the refusal that tells whether there is an address. The address may lie past the
   recording's end, up to 2^64-1: compare it with `length` before a byte is read there. What it is for each number
-  stands in the lists of the calls below.
+  stands in the lists of the calls below. uz_row_payload refuses with 14 alone, and its reply has no address.
 
   Rows below a row. The last number of row R, A = T[R * UZ_WIDTH + UZ_AFTER], is the first row after it that does not
   lie in its element, or the count of rows where there is none. It is a row's number as it is, without the plus 1 of
