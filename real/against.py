@@ -177,7 +177,7 @@ class Against:
             self.counts['parts with a reason'] += 1
             self.find(reason, what)
             if due is not None:
-                self.same('%s: where it broke' % label, part.broken, due, 'addresses of refusals')
+                self.same('%s: where it broke' % label, part.refused_at, due, 'addresses of refusals')
         else:
             self.fail('%s: ours %s; mkvinfo shows it at %r, seek entries lead to %r, and there is no cause' %
                       (label, part.answer[:20], [e.at for e in shown], entries))

@@ -94,12 +94,12 @@ class Part:
 
     def __init__(self, answer):
         self.answer, self.rows, self.refused, self.at, self.size, self.heads = answer, [], None, None, None, None
-        self.broken = None
+        self.refused_at = None
         head, *rows = answer.split(' / ')
         words = head.split()
         if words[0] == 'refused':
-            # For 8 an id stands before the address where it broke.
-            self.refused, self.broken = int(words[1]), int(words[words.index('at') + 1])
+            # For 8 an id stands before the address where it broke: refused 8 ID at A.
+            self.refused, self.refused_at = int(words[1]), int(words[words.index('at') + 1])
             return
         self.heads = int(words[words.index('heads') + 1])
         if words[0] == 'at':
@@ -170,6 +170,7 @@ class Comparison(Against):
         for label, (ident, _) in PARTS.items():
             part = parts[label]
             if part.found() and len(part.rows) > 1024:
+                # The first element without a row.
                 lines.append('part %X refused 13 %d' % (ident, part.rows[1024].at))
             elif part.found():
                 lines.append('part %X at %d size %d rows %d' % (ident, part.at, part.size, len(part.rows)))
@@ -177,7 +178,7 @@ class Comparison(Against):
                           for r in part.rows]
             else:
                 lines.append('part %X %s' % (ident, 'absent' if part.refused is None else
-                                             'refused %d %d' % (part.refused, part.broken)))
+                                             'refused %d %d' % (part.refused, part.refused_at)))
         got = self.change('listing', self.run_rows(self.path))
         self.same('the listing', got, '\n'.join(lines) + '\n', 'listings')
 
@@ -250,7 +251,8 @@ class Comparison(Against):
         asked = []
         for row, shown in pairs:
             if row.kind in (2, 3, 4, 5, 7) and shown.value is not None and row.payload <= SMALL:
-                question = 'body %X 0 0 %d %s' % (row.id, row.payload, self.bytes[row.start():row.end()].hex() or '-')
+                question = 'body %X 0 0 %d %d %s' % (row.id, row.payload, row.at,
+                                                     self.bytes[row.start():row.end()].hex() or '-')
                 asked.append((row, shown, question))
         for row, shown, question in asked:
             word, value = self.ask(question).split(' ')[:2]
@@ -779,7 +781,7 @@ class Comparison(Against):
         if row is None:
             return None
         piece = self.text((row.start(), row.payload)).hex() or '-'
-        return int(self.ask('body %X 0 0 %d %s' % (row.id, row.payload, piece)).split(' ')[1])
+        return int(self.ask('body %X 0 0 %d %d %s' % (row.id, row.payload, row.at, piece)).split(' ')[1])
 
     def audio(self, what, part, element, row, properties, stream):
         piece = self.text((row.start(), row.payload)).hex() or '-'

@@ -56,8 +56,9 @@ def part_changes(answer):
     head, *rows = answer.split(' / ')
     yield 'refused 3 at 0 table 0'
     yield 'refused 9 at 0 table 0'
-    if head.startswith('refused'):
-        yield re.sub(r' at (\d+)', lambda m: ' at %d' % (int(m.group(1)) + 1), head)
+    if answer.startswith('refused'):
+        # The listing has its address too.
+        yield re.sub(r' at (\d+)', lambda m: ' at %d' % (int(m.group(1)) + 1), answer)
     if not rows:
         yield 'at 100 size 0 heads 1 rows 0 rest 0'
         return
@@ -84,7 +85,7 @@ def answer_changes(word, answer):
         lines = answer.split('\n')
         return ['\n'.join(lines[:-2] + ['']), answer.replace(' master ', ' binary ', 1), answer.replace('1', '2', 1)]
     if answer.startswith('refused'):
-        return ['refused 14 at 0 table 0']
+        return ['refused 14 at 0 table 0', answer.replace(' at 0', ' at 1')]
     if word in ('payload', 'label'):
         return [answer[:-2], answer[:-1] + ('0' if answer[-1] != '0' else '1')]
     if word == 'whose' and ' rows ' in answer:

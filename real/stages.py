@@ -72,7 +72,7 @@ class Part:
         self.refused, self.heads = told.get('refused'), told.get('heads')
         self.at, self.size, self.rows = told.get('at'), told.get('size'), told.get('rows')
         self.stands, self.meaning, self.next = told.get('stands'), told.get('meaning'), told.get('next')
-        self.entry, self.broken, self.there = told.get('entry'), told.get('refused_at'), told.get('there')
+        self.entry, self.refused_at, self.there = told.get('entry'), told.get('refused_at'), told.get('there')
         self.where = told.get('where')
         self.answer = self.state if self.refused is None else 'refused %d' % self.refused
 
@@ -286,7 +286,7 @@ class Viewed(Against):
                 self.same(label + ' stands', part.stands, self.stands(label))
             if part.refused is not None:
                 self.same(label + ' words', (part.meaning, part.where, part.next), REFUSALS.get(part.refused))
-                self.same(label + ' there', part.there, self.there(part.broken))
+                self.same(label + ' there', part.there, self.there(part.refused_at))
             if part.refused == 8:
                 # The entry whose position is too large: in these recordings the part's own.
                 self.same(label + ' entry', part.entry, one['id'])
@@ -381,14 +381,14 @@ class Viewed(Against):
         return self.bytes[at:at + 9 - self.bytes[at].bit_length()].hex().upper()
 
     def refusal(self, part):
-        if part.broken >= len(self.bytes):
+        if part.refused_at >= len(self.bytes):
             there = 'past the end of the file'
         elif part.there is None:
             there = 'where no header can be read'
         else:
             there = 'where %s %s stands' % (part.there, ELEMENTS.get(int(part.there, 16), '-'))
         return '%s: refused %d%s at %d/0x%X, %s: %s' % (
-            part.name, part.refused, ' ' + part.entry if part.entry else '', part.broken, part.broken, there,
+            part.name, part.refused, ' ' + part.entry if part.entry else '', part.refused_at, part.refused_at, there,
             part.meaning)
 
     def errors(self, told, parts, explained, plain):

@@ -1,8 +1,8 @@
 // What an answer tells, by value: cells, each a word of its question and what stands behind it, and an ending.
 //
 // It is plain numbers, since a check pays for every part of a type wherever a value of it stands: how many cells there
-// are; the ending's kind and its three numbers; and five numbers for each cell, its word, its sign, its value's kind, and
-// the value's two numbers.
+// are; the ending's kind and its three numbers; and five numbers for each cell, its word, its sign, its value's kind,
+// and the value's two numbers.
 use bodies_rules::Range;
 use fields_rules::Content;
 use fields_rules::Flag;

@@ -18,30 +18,31 @@ use Rattle.bodies_rules.specs.declared.body.Body.the-variants.{Value, Ma
 use Rattle.bodies_rules.specs.declared.body.BodyRead.{BodyRead}
 use Rattle.bodies_rules.specs.declared.body.BodyRead.the-variants.{Read, Refused}
 
-abbrev pub readReply : BodyRead → Reply Body
-readReply (Read b next) = accepted b
-readReply (Refused cause) = refusal (because cause)
+abbrev pub readReply : ℕ → BodyRead → Reply Body
+readReply address (Read b next) = accepted b
+readReply address (Refused cause) = refusal (because cause address)
 
-told-back : (at n : ℕ) (t : Told) → readReply (readOf at n t) ≡ replyOf t
-told-back at n (body (Value v)) = refl
-told-back at n (body Master) = refl
-told-back at n (refused cause) = refl
+told-back : (address at n : ℕ) (t : Told) → readReply address (readOf at n t) ≡ replyOf address t
+told-back address at n (body (Value v)) = refl
+told-back address at n (body Master) = refl
+told-back address at n (refused cause) = refl
 
-module _ (s : List ℕ) (id parent at n : ℕ) where
-  pub reply-too-long : mostBytes < length s → refusal badArgument ≡ bodyReply s id parent at n
+module _ (s : List ℕ) (id parent at n address : ℕ) where
+  pub reply-too-long : mostBytes < length s → refusal badArgument ≡ bodyReply s id parent at n address
   unfolding bodyReply
   reply-too-long h = rw (lt-leb (length s) mostBytes h)
 
-  pub reply-past-end : length s ≤ mostBytes → length s < at → refusal badArgument ≡ bodyReply s id parent at n
+  pub reply-past-end : length s ≤ mostBytes → length s < at → refusal badArgument ≡ bodyReply s id parent at n address
   unfolding bodyReply
   reply-past-end h l = rw (le-leb (length s) mostBytes h, lt-leb at (length s) l)
 
   -- What was read by the kind that the id has under the parent.
   pub reply-read :
       (k : Kind) (r : BodyRead) → KindPromise id parent k → r ≡ bodyRead k s at n
-      → length s ≤ mostBytes → at ≤ length s → readReply r ≡ bodyReply s id parent at n
+      → length s ≤ mostBytes → at ≤ length s → readReply address r ≡ bodyReply s id parent at n address
   unfolding bodyRead bodyReply
   reply-read k r promise read h l =
       let kind = promised-kind id parent k promise in
-      ap readReply read ∙ told-back at n (bodyOf s at n k)
-      ∙ rw (le-leb (length s) mostBytes h, le-leb at (length s) l) (ap (λ (k : Kind). replyOf (bodyOf s at n k)) kind)
+      ap (readReply address) read ∙ told-back address at n (bodyOf s at n k)
+      ∙ rw (le-leb (length s) mostBytes h, le-leb at (length s) l)
+      (ap (λ (k : Kind). replyOf address (bodyOf s at n k)) kind)

@@ -19,8 +19,8 @@ replied-back (BodyIs b) = refl
 replied-back (Refused e) = refl
 
 pub body-unique : OneReply
-body-unique s id parent at size r r′ p p′ =
+body-unique s id parent at size address r r′ p p′ =
     sym (replied-back r) ∙ ap replied (p .reply ∙ sym (p′ .reply)) ∙ replied-back r′
 
 pub body-refuses-listed : RefusesListed
-body-refuses-listed s id parent at size e p = listed e
+body-refuses-listed s id parent at size address e p = listed e

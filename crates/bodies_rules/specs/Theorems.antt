@@ -12,10 +12,11 @@ use Rattle.bodies_rules.specs.declared.reply.BodyReply.the-variants.{Ref
 -- are one value here, so a NaN's bits are not promised.
 abbrev pub OneReply : Type 0
 OneReply =
-    (s : List ℕ) (id parent at size : ℕ) (r r′ : BodyReply)
-    → BodyPromise s id parent at size r → BodyPromise s id parent at size r′ → r ≡ r′
+    (s : List ℕ) (id parent at size address : ℕ) (r r′ : BodyReply)
+    → BodyPromise s id parent at size address r → BodyPromise s id parent at size address r′ → r ≡ r′
 
 -- A refusal that the promise permits is one of document 01's list.
 abbrev pub RefusesListed : Type 0
 RefusesListed =
-    (s : List ℕ) (id parent at size : ℕ) (e : Refusal) → BodyPromise s id parent at size (Refused e) → Listed e
+    (s : List ℕ) (id parent at size address : ℕ) (e : Refusal)
+    → BodyPromise s id parent at size address (Refused e) → Listed e

@@ -47,16 +47,16 @@ cases =
     -- Any number but 0 is yes; a flag that is not there is unset.
     edition flagOfTwo 0 (told (unset ∷ flag true ∷ unset ∷ unset ∷ count 0 ∷ []) 2)
     -- There is no second edition.
-    ∷ edition flagOfTwo 1 (refused 15 0)
+    ∷ edition flagOfTwo 1 (refused 15 0 0)
     -- The last child sets a field; an atom inside is passed over.
     ∷ chapter nestedAtom 0 0
     (told (unset ∷ number 2 ∷ unset ∷ unset ∷ unset ∷ unset ∷ unset ∷ count 0 ∷ []) 7)
-    ∷ chapter nestedAtom 0 1 (refused 15 0)
+    ∷ chapter nestedAtom 0 1 (refused 15 0 0)
     -- A set empty string is set; an ISO 639 language never replaces an IETF one.
     ∷ display emptyString 0 0 0 (told (content 9 0 ∷ ietf 12 1 ∷ []) 6)
     -- The first display has no string; the second has one.
     ∷ display twoDisplays 0 0 0 (told (unset ∷ unset ∷ []) 6)
     ∷ display twoDisplays 0 0 1 (told (content 11 1 ∷ iso 15 1 ∷ []) 6)
     -- The read's refusals come before 15: here a number of 9 bytes, and no second edition.
-    ∷ edition (0x45 ∷ 0xB9 ∷ 0x83 ∷ 0x45 ∷ 0xBC ∷ 0x89 ∷ []) 1 (refused 4 0)
+    ∷ edition (0x45 ∷ 0xB9 ∷ 0x83 ∷ 0x45 ∷ 0xBC ∷ 0x89 ∷ []) 1 (refused 4 0 3)
     ∷ []

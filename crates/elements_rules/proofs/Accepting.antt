@@ -28,10 +28,10 @@ use Rattle.elements_rules.proofs.Fits.{body-fits}
 use Rattle.elements_rules.proofs.Readback.{table-is, accepted-read}
 use Rattle.elements_rules.proofs.Depths.{body-low, read-low}
 
-held-value : (t : Told) (o : Outcome) → IsValue t → held t o ≡ done none
-held-value (body (Value v)) o i = refl
-held-value (body Master) o i = absurd i
-held-value (refused c) o i = absurd i
+held-value : (at : ℕ) (t : Told) (o : Outcome) → IsValue t → held at t o ≡ done none
+held-value at (body (Value v)) o i = refl
+held-value at (body Master) o i = absurd i
+held-value at (refused c) o i = absurd i
 
 module _ (s : List ℕ) (mode : Mode) (cap : ℕ) where
   row-free : (n : ℕ) → (mode .keep ≡ true → n < cap) → full mode cap n ≡ false
@@ -53,7 +53,7 @@ module _ (s : List ℕ) (mode : Mode) (cap : ℕ) where
       rw (i .head) (passes _ _ _ (row-free n l) ∙ rw (← i .kind)
       (by-kind (e .kind)
       (λ m. rw (master-body s from (e .header .size) (e .kind) m, ← i .taken m, q))
-      (λ m. rw (held-value (bodyOf s from (e .header .size) (e .kind)) _ (i .value m), i .childless m))))
+      (λ m. rw (held-value at (bodyOf s from (e .header .size) (e .kind)) _ (i .value m), i .childless m))))
 
   -- Elements that stand are read one after another.
   stands-read : (levels parent most at n : ℕ) (f : Forest) → Stands s parent at f → deep f ≤ levels → span f ≤ most

@@ -84,28 +84,28 @@ module _ (s : List ℕ) (at n : ℕ) where
 
   -- ---- what is held by what was read
 
-  pub held-refused : (k : Kind) (c : Cause) (o : Outcome) → bodyRead k s at n ≡ Refused c
-      → held (bodyOf s at n k) o ≡ refused (because c)
+  pub held-refused : (from : ℕ) (k : Kind) (c : Cause) (o : Outcome) → bodyRead k s at n ≡ Refused c
+      → held from (bodyOf s at n k) o ≡ refused (because c from)
   unfolding bodyRead
-  held-refused k c o q = go (bodyOf s at n k) q
+  held-refused from k c o q = go (bodyOf s at n k) q
     where
-      go : (t : Told) → readOf at n t ≡ Refused c → held t o ≡ refused (because c)
+      go : (t : Told) → readOf at n t ≡ Refused c → held from t o ≡ refused (because c from)
       go (body (Value v)) w = let x : _≡_ {A = ℕ} 0 1 = cc in absurd (omega arith)
       go (body Master) w = let x : _≡_ {A = ℕ} 0 1 = cc in absurd (omega arith)
-      go (refusedBody d) w = let x : d ≡ c = cc in ap (λ (y : Cause). refused (because y)) x
+      go (refusedBody d) w = let x : d ≡ c = cc in ap (λ (y : Cause). refused (because y from)) x
 
   -- A leaf that was read: it holds no elements, its octets are there, and the next place is behind them.
-  pub record LeafRead (t : Told) (o : Outcome) (next : Cursor) : Type 0 where
-    pub holds : held t o ≡ done none
+  pub record LeafRead (from : ℕ) (t : Told) (o : Outcome) (next : Cursor) : Type 0 where
+    pub holds : held from t o ≡ done none
     pub inside : at + n ≤ length s
     pub behind : next ≡ record { at = at + n }
 
-  pub leaf-read : (k : Kind) (o : Outcome) (b : Body) (next : Cursor) → (numberOf k ≡ 1 → ⊥)
-      → bodyRead k s at n ≡ Read b next → LeafRead (bodyOf s at n k) o next
+  pub leaf-read : (from : ℕ) (k : Kind) (o : Outcome) (b : Body) (next : Cursor) → (numberOf k ≡ 1 → ⊥)
+      → bodyRead k s at n ≡ Read b next → LeafRead from (bodyOf s at n k) o next
   unfolding bodyRead
-  leaf-read k o b next m q = go (bodyOf s at n k) (leaf-body k m) q
+  leaf-read from k o b next m q = go (bodyOf s at n k) (leaf-body k m) q
     where
-      go : (t : Told) → Leaf s at n t → readOf at n t ≡ Read b next → LeafRead t o next
+      go : (t : Told) → Leaf s at n t → readOf at n t ≡ Read b next → LeafRead from t o next
       go (body (Value v)) (a-value i y) w = record { holds = refl; inside = i; behind = cc }
       go (body Master) (a-value i y) w = absurd y
       go (refusedBody c) l w = let x : _≡_ {A = ℕ} 0 1 = cc in absurd (let y : ⊥ = omega arith in y)
@@ -113,8 +113,8 @@ module _ (s : List ℕ) (at n : ℕ) where
 
 -- ---- what an accepted outcome says of the body
 
-pub of-held : {A : Type 0} (t : Told) (o : Outcome) (f : Forest) → held t o ≡ done f
+pub of-held : {A : Type 0} (from : ℕ) (t : Told) (o : Outcome) (f : Forest) → held from t o ≡ done f
     → (t ≡ master → o ≡ done f → A) → (IsValue t → f ≡ none → A) → A
-of-held (body Master) o f q deeper plain = deeper refl q
-of-held (refusedBody c) o f q deeper plain = let x : _≡_ {A = ℕ} 0 1 = cc in absurd (let y : ⊥ = omega arith in y)
-of-held (body (Value v)) o f q deeper plain = plain tt cc
+of-held from (body Master) o f q deeper plain = deeper refl q
+of-held from (refusedBody c) o f q deeper plain = let x : _≡_ {A = ℕ} 0 1 = cc in absurd (let y : ⊥ = omega arith in y)
+of-held from (body (Value v)) o f q deeper plain = plain tt cc

@@ -45,7 +45,7 @@ module _ (s : List ℕ) (mode : Mode) (cap : ℕ) where
       let o = of-element s mode cap l parent at n f q in
       let h = o .header in
       let i : deep (o .kids) ≤ l =
-      of-held (bodyOf s (at + h .length) (h .size) (kindUnder (h .id) parent)) _ (o .kids) (o .inner)
+      of-held at (bodyOf s (at + h .length) (h .size) (kindUnder (h .id) parent)) _ (o .kids) (o .inner)
       (λ b u.
       siblings-low l (element s mode cap l (h .id)) (element-low l (h .id)) (h .size) (at + h .length) (h .size) (n + 1)
       (o .kids) u)

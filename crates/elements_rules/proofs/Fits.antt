@@ -47,7 +47,7 @@ module _ (s : List ℕ) (mode : Mode) (keep : mode .keep ≡ true) (cap : ℕ) w
       let h = o .header in
       let more = free n (o .free) in
       let i : n + 1 + count (o .kids) ≤ cap =
-      of-held (bodyOf s (at + h .length) (h .size) (kindUnder (h .id) parent)) _ (o .kids) (o .inner)
+      of-held at (bodyOf s (at + h .length) (h .size) (kindUnder (h .id) parent)) _ (o .kids) (o .inner)
       (λ b u.
       siblings-fit (element s mode cap levels (h .id)) (element-fit levels (h .id)) (h .size) (at + h .length) (h .size)
       (n + 1) (o .kids) more u)

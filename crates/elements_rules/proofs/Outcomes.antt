@@ -47,11 +47,11 @@ of-then {o} {k} {f} q = go o q
     go (done g) w = (g, refl, w)
     go (refused e) w = never w
 
-pub of-headed : {x : Heading} {k : Header → Outcome} {f : Forest} → headed x k ≡ done f
+pub of-headed : (at : ℕ) {x : Heading} {k : Header → Outcome} {f : Forest} → headed at x k ≡ done f
     → (h : Header) × (x ≡ heading h) × (k h ≡ done f)
-of-headed {x} {k} {f} q = go x q
+of-headed at {x} {k} {f} q = go x q
   where
-    go : (y : Heading) → headed y k ≡ done f → (h : Header) × (y ≡ heading h) × (k h ≡ done f)
+    go : (y : Heading) → headed at y k ≡ done f → (h : Header) × (y ≡ heading h) × (k h ≡ done f)
     go (heading h) w = (h, refl, w)
     go (refusedHeader c) w = never w
 

@@ -41,7 +41,7 @@ module _ (s : List ℕ) (mode : Mode) (cap : ℕ) where
   -- Where no depth is left, nothing is accepted.
   pub no-depth : {A : Type 0} (parent at n : ℕ) (f : Forest) → element s mode cap zero parent at n ≡ done f → A
   unfolding element
-  no-depth parent at n f q = never (of-headed {x = headerOf (drop at s)} {k = λ h. refused tooDeep} q .2)
+  no-depth parent at n f q = never (of-headed at {x = headerOf (drop at s)} {k = λ h. refused (tooDeep at)} q .2)
 
   -- An element that was read: its header was, a row was free, and its body holds its children.
   pub record ElementOf (levels parent at n : ℕ) (f : Forest) : Type 0 where
@@ -51,7 +51,7 @@ module _ (s : List ℕ) (mode : Mode) (cap : ℕ) where
     pub kids : Forest
     pub is : f ≡ node (elementOf parent header) kids none
     pub inner :
-        held (bodyOf s (at + header .length) (header .size) (kindUnder (header .id) parent))
+        held at (bodyOf s (at + header .length) (header .size) (kindUnder (header .id) parent))
         (siblings (element s mode cap levels (header .id)) (header .size) (at + header .length) (header .size) (n + 1))
         ≡ done kids
 
@@ -59,7 +59,7 @@ module _ (s : List ℕ) (mode : Mode) (cap : ℕ) where
       → ElementOf levels parent at n f
   unfolding element
   of-element levels parent at n f q =
-      let (h, e, w) = of-headed {x = headerOf (drop at s)} q in
+      let (h, e, w) = of-headed at {x = headerOf (drop at s)} q in
       let o = of-refuse _ _ _ w in
       let (kids, v, a) = of-above (elementOf parent h) _ f (o .1) in
       record { header = h; head = e; free = o .0; kids = kids; is = a; inner = v }

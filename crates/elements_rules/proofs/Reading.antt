@@ -47,8 +47,8 @@ module _ (s : List ℕ) (mode : Mode) (cap depth parent at n : ℕ) where
   el-refused e q = go (depths - depth)
     where
       go : (l : ℕ) → element s mode cap l parent at n ≡ refused e
-      go zero = rw (header-refused s at e q)
-      go (suc l) = rw (header-refused s at e q)
+      go zero = let (h, i) = header-refused s at e q in rw h (ap refused i)
+      go (suc l) = let (h, i) = header-refused s at e q in rw h (ap refused i)
 
   module _ (x : Headed) (q : headerAt s at ≡ HeaderIs x) where
     abbrev h : Header
@@ -57,7 +57,7 @@ module _ (s : List ℕ) (mode : Mode) (cap depth parent at n : ℕ) where
     head : headerOf (drop at s) ≡ heading h
     head = header-read s at x q .0
 
-    pub el-deep : depths ≤ depth → element-here ≡ refused tooDeep
+    pub el-deep : depths ≤ depth → element-here ≡ refused (tooDeep at)
     unfolding element
     el-deep d = let z : depths - depth ≡ 0 = omega arith in rw (z, head)
 
@@ -65,7 +65,7 @@ module _ (s : List ℕ) (mode : Mode) (cap depth parent at n : ℕ) where
       levels : depths - depth ≡ suc (depths - (depth + 1))
       levels = omega arith
 
-      pub el-full : full mode cap n ≡ true → element-here ≡ refused noFreeRow
+      pub el-full : full mode cap n ≡ true → element-here ≡ refused (noFreeRow at)
       unfolding element
       el-full f = rw (levels, head) (refuses _ _ _ f)
 
@@ -73,7 +73,7 @@ module _ (s : List ℕ) (mode : Mode) (cap depth parent at n : ℕ) where
         -- What is left to do where a row is free.
         pub el-body : element-here
             ≡ above (elementOf parent h)
-            (held (bodyOf s (at + h .length) (h .size) (kindUnder (h .id) parent))
+            (held at (bodyOf s (at + h .length) (h .size) (kindUnder (h .id) parent))
             (masterBody s mode cap (depth + 1) (h .id) (at + h .length) (h .size) (n + 1)))
         unfolding element masterBody
         el-body = rw (levels, head) (passes _ _ _ f)
@@ -85,12 +85,12 @@ module _ (s : List ℕ) (mode : Mode) (cap depth parent at n : ℕ) where
         el-master m = el-body ∙ rw (master-body s (at + h .length) (h .size) (kindUnder (h .id) parent) m)
 
         pub el-bad : (c : Cause) → bodyRead (kindUnder (h .id) parent) s (at + h .length) (h .size) ≡ BodyRefused c
-            → element-here ≡ refused (because c)
-        el-bad c b = el-body ∙ rw (held-refused s (at + h .length) (h .size) (kindUnder (h .id) parent) c
+            → element-here ≡ refused (because c at)
+        el-bad c b = el-body ∙ rw (held-refused s (at + h .length) (h .size) at (kindUnder (h .id) parent) c
             (masterBody s mode cap (depth + 1) (h .id) (at + h .length) (h .size) (n + 1)) b)
 
         pub el-leaf : (after : Cursor)
-            → LeafRead s (at + h .length) (h .size) (bodyOf s (at + h .length) (h .size) (kindUnder (h .id) parent))
+            → LeafRead s (at + h .length) (h .size) at (bodyOf s (at + h .length) (h .size) (kindUnder (h .id) parent))
             (masterBody s mode cap (depth + 1) (h .id) (at + h .length) (h .size) (n + 1)) after
             → element-here ≡ done (node (elementOf parent h) none none)
         el-leaf after r = el-body ∙ rw (r .holds)
@@ -208,7 +208,7 @@ module _ (read : ℕ → ℕ → Outcome) where
       simp (ne-eqb _ _ other, q)
 
   pub child-over : (most at left n : ℕ) (f : Forest) → 0 < left → left ≤ most → read at n ≡ done f → left < span f
-      → siblings read most at left n ≡ refused overrun
+      → siblings read most at left n ≡ refused (overrun at)
   unfolding siblings
   child-over zero at left n f a b q o = let z : ⊥ = omega arith in absurd z
   child-over (suc most) at left n f a b q o =
@@ -312,11 +312,11 @@ module _ (s t₀ : List ℕ) (mode : Mode) (read : ℕ → ℕ → Outcome) (par
             let b = ap (λ (x : Cursor). x .at) a in
             omega arith
 
-        pub child-too-long : left < next .at - place .at → Whole t′ (Refused overrun)
+        pub child-too-long : left < next .at - place .at → Whole t′ (Refused (overrun (place .at)))
         child-too-long o =
             let (f, q, k, a) = told-read (place .at) n (read (place .at) n) c next (m .reply) in
             let b = ap (λ (x : Cursor). x .at) a in
-            met-refused s mode (from .at) parent depth (from .at) first whole-body t₀ t′ overrun
+            met-refused s mode (from .at) parent depth (from .at) first whole-body t₀ t′ (overrun (place .at))
             (g .rest ∙ rw (child-over read (g .most) (place .at) left n f more (g .enough) q (omega arith)))
 
         step : (f : Forest) → read (place .at) n ≡ done f → c ≡ n + count f → next .at ≡ place .at + span f

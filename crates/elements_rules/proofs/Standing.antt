@@ -91,7 +91,7 @@ module _ (s : List ℕ) where
       let a = o .is in
       let i = header-inside s at h e in
       let k = kindUnder (h .id) parent in
-      of-held (bodyOf s (at + h .length) (h .size) k) _ kids (o .inner)
+      of-held at (bodyOf s (at + h .length) (h .size) k) _ kids (o .inner)
       (λ b u.
       let m = is-master (at + h .length) (h .size) k b in
       let g = siblings-stand (h .id) (element s mode cap levels (h .id)) (element-stands mode cap levels (h .id))

@@ -53,9 +53,9 @@ module _ (s : List ℕ) (mode : Mode) (t : List ℕ) (place : Cursor) (n : ℕ) 
     abbrev next : Cursor
     next = x .payload
 
-    pub too-deep : (t′ : List ℕ) → depths ≤ above .depth → Promised t′ (Refused tooDeep)
+    pub too-deep : (t′ : List ℕ) → depths ≤ above .depth → Promised t′ (Refused (tooDeep (place .at)))
     too-deep t′ d =
-        met-refused s mode _ _ _ _ n here t t′ tooDeep
+        met-refused s mode _ _ _ _ n here t t′ (tooDeep (place .at))
         (el-deep s mode (length t / width) (above .depth) (above .id) (place .at) n x q d)
 
     -- Where the payload begins.
@@ -81,10 +81,10 @@ module _ (s : List ℕ) (mode : Mode) (t : List ℕ) (place : Cursor) (n : ℕ) 
           }) kept
 
       pub no-free : (number : ℕ) (kept : Bool) (t′ : List ℕ) → row-here (h .id) number kept → not kept ≡ true
-          → Promised t′ (Refused noFreeRow)
+          → Promised t′ (Refused (noFreeRow (place .at)))
       no-free number kept t′ w z =
           let f = no-room (full mode (length t / width) n) kept (w .0) z in
-          met-refused s mode _ _ _ _ n here t t′ noFreeRow
+          met-refused s mode _ _ _ _ n here t t′ (noFreeRow (place .at))
           (el-full s mode (length t / width) (above .depth) (above .id) (place .at) n x q d f)
 
       -- The row is written.
@@ -110,11 +110,11 @@ module _ (s : List ℕ) (mode : Mode) (t : List ℕ) (place : Cursor) (n : ℕ) 
             subst (λ (x : ℕ). n + 1 ≤ x / width) (sym (w .same)) (room-free mode t n (w .free) kept)
 
         pub body-fails : (e : Cause) → bodyRead k s (next .at) (h .size) ≡ BodyRefused e
-            → Promised t₁ (Refused (because e))
+            → Promised t₁ (Refused (because e (place .at)))
         body-fails e b =
             let c = payload-at in
             let b′ = rw (listed, c .1) at b in
-            met-refused s mode _ _ _ _ n here t t₁ (because e)
+            met-refused s mode _ _ _ _ n here t t₁ (because e (place .at))
             (el-bad s mode (length t / width) (above .depth) (above .id) (place .at) n x q d (w .free) e b′)
 
         pub leaf-met : (body : Body) (after : Cursor) → (numberOf k ≡ 1 → ⊥) → n ≤ place .at
@@ -125,7 +125,7 @@ module _ (s : List ℕ) (mode : Mode) (t : List ℕ) (place : Cursor) (n : ℕ) 
             let m′ = rw listed at m in
             let a = place .at + h .length in
             let inner = masterBody s mode (length t / width) (above .depth + 1) (h .id) a (h .size) (n + 1) in
-            let r = leaf-read s a (h .size) (kindUnder (h .id) (above .id)) inner body after m′ b′ in
+            let r = leaf-read s a (h .size) (place .at) (kindUnder (h .id) (above .id)) inner body after m′ b′ in
             let i = r .inside in
             let z : place .at + h .length + h .size ≡ place .at + (h .length + h .size) = omega arith in
             met-leaf s mode (above .row) (above .depth) (place .at) n (elementOf (above .id) h) t t₁ (w .row) here after

@@ -15,25 +15,25 @@ use Rattle.elements_rules.proofs.Standing.{element-takes}
 
 module _ (read : ℕ → ℕ → Outcome) (takes : (at n : ℕ) (f : Forest) → read at n ≡ done f → 1 ≤ span f) where
   -- One element, and what follows it.
-  abbrev turn : ℕ → Outcome → (Forest → Outcome) → Outcome
-  turn left o rest =
-      cond (eqb left 0) (done none) (andThen o (λ f. refuseIf (ltb left (span f)) overrun (prepend f (rest f))))
+  abbrev turn : (at left : ℕ) → Outcome → (Forest → Outcome) → Outcome
+  turn at left o rest =
+      cond (eqb left 0) (done none) (andThen o (λ f. refuseIf (ltb left (span f)) (overrun at) (prepend f (rest f))))
 
   alike : (at left n : ℕ) (g h : Forest → Outcome)
       → ((f : Forest) → 1 ≤ span f → span f ≤ left → g f ≡ h f)
-      → turn left (read at n) g ≡ turn left (read at n) h
+      → turn at left (read at n) g ≡ turn at left (read at n) h
   unfolding refuseIf
   alike at left n g h same = by (read at n) refl
     where
       by-span : (f : Forest) → 1 ≤ span f → (b : Bool) → ltb left (span f) ≡ b
-          → refuseIf b overrun (prepend f (g f)) ≡ refuseIf b overrun (prepend f (h f))
+          → refuseIf b (overrun at) (prepend f (g f)) ≡ refuseIf b (overrun at) (prepend f (h f))
       by-span f l true q = refl
       by-span f l false q = ap (prepend f) (same f l (ltb-false left (span f) q))
 
       by-left : (b : Bool) (x y : Outcome) → x ≡ y → cond b (done none) x ≡ cond b (done none) y
       by-left b x y q = ap (cond b (done none)) q
 
-      by : (o : Outcome) → read at n ≡ o → turn left o g ≡ turn left o h
+      by : (o : Outcome) → read at n ≡ o → turn at left o g ≡ turn at left o h
       by (refused e) q = refl
       by (done f) q = by-left (eqb left 0) _ _ (by-span f (takes at n f q) (ltb left (span f)) refl)
 
@@ -51,7 +51,7 @@ module _ (read : ℕ → ℕ → Outcome) (takes : (at n : ℕ) (f : Forest) →
 
   unfolds : (m at left n : ℕ) → left ≤ m
       → siblings read m at left n
-      ≡ turn left (read at n) (λ f. siblings read (left - span f) (at + span f) (left - span f) (n + count f))
+      ≡ turn at left (read at n) (λ f. siblings read (left - span f) (at + span f) (left - span f) (n + count f))
   unfolding siblings
   unfolds zero at left n a = let z : left ≡ 0 = omega arith in rw z refl
   unfolds (suc m) at left n a =

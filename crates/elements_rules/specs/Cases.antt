@@ -41,28 +41,28 @@ cases =
     ∷ header 3 (0x1A ∷ 0x45 ∷ 0xDF ∷ 0xA3 ∷ 0x40 ∷ 0x02 ∷ []) (is 0x1A45DFA3 2 6)
     ∷ header 4 (0x18 ∷ 0x53 ∷ 0x80 ∷ 0x67 ∷ 0x01 ∷ 0xFF ∷ 0xFF ∷ 0xFF ∷ 0xFF ∷ 0xFF ∷ 0xFF ∷ 0xFF ∷ [])
     (is 0x18538067 (2 ^ 56 - 1) 12)
-    ∷ header 5 (0x0F ∷ 0x80 ∷ []) (refused 2 0)
-    ∷ header 5 (0x00 ∷ 0x01 ∷ []) (refused 2 0)
-    ∷ header 6 (0x00 ∷ 0x00 ∷ []) (refused 1 0)
-    ∷ header 6 (0xAE ∷ []) (refused 1 0)
-    ∷ header 6 (0xAE ∷ 0x00 ∷ []) (refused 1 0)
-    ∷ header 7 (0xAE ∷ 0x00 ∷ 0x01 ∷ []) (refused 3 0)
+    ∷ header 5 (0x0F ∷ 0x80 ∷ []) (refused 2 0 0)
+    ∷ header 5 (0x00 ∷ 0x01 ∷ []) (refused 2 0 0)
+    ∷ header 6 (0x00 ∷ 0x00 ∷ []) (refused 1 0 0)
+    ∷ header 6 (0xAE ∷ []) (refused 1 0 0)
+    ∷ header 6 (0xAE ∷ 0x00 ∷ []) (refused 1 0 0)
+    ∷ header 7 (0xAE ∷ 0x00 ∷ 0x01 ∷ []) (refused 3 0 0)
     ∷ body 8 (0xFB ∷ 0x81 ∷ 0xFF ∷ []) (given (Value (Integer (negsuc 0))))
     ∷ body 8 (0xFB ∷ 0x82 ∷ 0x00 ∷ 0x80 ∷ []) (given (Value (Integer (pos 128))))
-    ∷ body 9 (0xB5 ∷ 0x80 ∷ []) (refused 5 0)
-    ∷ body 9 (0x44 ∷ 0x61 ∷ 0x87 ∷ []) (refused 6 0)
-    ∷ body 10 (0x45 ∷ 0xA3 ∷ 0x82 ∷ 0xC0 ∷ 0x80 ∷ []) (refused 7 0)
-    ∷ body 10 (0x45 ∷ 0xA3 ∷ 0x83 ∷ 0xED ∷ 0xA0 ∷ 0x80 ∷ []) (refused 7 0)
-    ∷ read 11 (0x67 ∷ 0xC8 ∷ 0x84 ∷ 0x45 ∷ 0xA3 ∷ 0x82 ∷ 0x41 ∷ 0x42 ∷ []) 7 0 (refused 3 0) (zeros numbers)
-    ∷ read 11 (0x67 ∷ 0xC8 ∷ 0x84 ∷ 0x45 ∷ 0xA3 ∷ 0x82 ∷ 0x41 ∷ []) 7 0 (refused 1 0) (zeros numbers)
+    ∷ body 9 (0xB5 ∷ 0x80 ∷ []) (refused 5 0 0)
+    ∷ body 9 (0x44 ∷ 0x61 ∷ 0x87 ∷ []) (refused 6 0 0)
+    ∷ body 10 (0x45 ∷ 0xA3 ∷ 0x82 ∷ 0xC0 ∷ 0x80 ∷ []) (refused 7 0 0)
+    ∷ body 10 (0x45 ∷ 0xA3 ∷ 0x83 ∷ 0xED ∷ 0xA0 ∷ 0x80 ∷ []) (refused 7 0 0)
+    ∷ read 11 (0x67 ∷ 0xC8 ∷ 0x84 ∷ 0x45 ∷ 0xA3 ∷ 0x82 ∷ 0x41 ∷ 0x42 ∷ []) 7 0 (refused 3 0 3) (zeros numbers)
+    ∷ read 11 (0x67 ∷ 0xC8 ∷ 0x84 ∷ 0x45 ∷ 0xA3 ∷ 0x82 ∷ 0x41 ∷ []) 7 0 (refused 1 0 3) (zeros numbers)
     ∷ read 12 (0x16 ∷ 0x54 ∷ 0xAE ∷ 0x6B ∷ 0x82 ∷ 0xE0 ∷ 0x80 ∷ []) 7 0x18538067 (given 2)
     (0x1654AE6B ∷ 0 ∷ 0 ∷ 5 ∷ 2 ∷ 1 ∷ 0 ∷ 2 ∷ 0xE0 ∷ 1 ∷ 5 ∷ 2 ∷ 0 ∷ 6 ∷ 1 ∷ 2 ∷ [])
     ∷ []
 
 -- The body behind a header that was read at 0.
 abbrev pub bodyBehind : List ℕ → Heading → Reply Body
-bodyBehind s (heading h) = bodyReply s (h .id) 0 (h .length) (h .size)
-bodyBehind s (refusedHeader cause) = refusal (because cause)
+bodyBehind s (heading h) = bodyReply s (h .id) 0 (h .length) (h .size) 0
+bodyBehind s (refusedHeader cause) = refusal (because cause 0)
 
 abbrev pub Holds : Case → Type 0
 Holds (header name s reply) = byNumber (headerReply s 0) ≡ reply

@@ -52,16 +52,16 @@ elementHeader s at = headerOf (drop at s)
 abbrev pub elementHeaderRead : List ℕ → ℕ → HeaderRead
 elementHeaderRead s at = headerRead at (elementHeader s at)
 
--- What follows a header that was read.
-abbrev pub headed : Heading → (Header → Outcome) → Outcome
-headed (heading h) next = next h
-headed (refusedHeader cause) next = refused (because cause)
+-- What follows a header that was read at an address; one that is refused is refused there.
+abbrev pub headed : ℕ → Heading → (Header → Outcome) → Outcome
+headed at (heading h) next = next h
+headed at (refusedHeader cause) next = refused (because cause at)
 
--- What a body holds: a master its elements, a value none.
-abbrev pub held : Told → Outcome → Outcome
-held (body Master) elements = elements
-held (body (Value v)) elements = done none
-held (refusedBody cause) elements = refused (because cause)
+-- What a body holds: a master its elements, a value none. One that is refused is refused at its header's address.
+abbrev pub held : ℕ → Told → Outcome → Outcome
+held at (body Master) elements = elements
+held at (body (Value v)) elements = done none
+held at (refusedBody cause) elements = refused (because cause at)
 
 -- Rows are kept, and the table has none free.
 unfoldable pub full : Mode → ℕ → ℕ → Bool
@@ -74,7 +74,7 @@ siblings read zero at left n = done none
 siblings read (suc most) at left n =
     cond (eqb left 0) (done none)
     (andThen (read at n) (λ f.
-    refuseIf (ltb left (span f)) overrun
+    refuseIf (ltb left (span f)) (overrun at)
     (prepend f (siblings read most (at + span f) (left - span f) (n + count f)))))
 
 abbrev pub elementOf : ℕ → Header → Element
@@ -89,12 +89,12 @@ module _ (s : List ℕ) (mode : Mode) (cap : ℕ) where
   -- One element at a place, under a parent id, with n rows taken; `levels` tells how many depths are left. The order:
   -- header; 12; 13; body.
   unfoldable pub element : (levels parent at n : ℕ) → Outcome
-  element zero parent at n = headed (elementHeader s at) (λ h. refused tooDeep)
+  element zero parent at n = headed at (elementHeader s at) (λ h. refused (tooDeep at))
   element (suc levels) parent at n =
-      headed (elementHeader s at) (λ h.
-      refuseIf (full mode cap n) noFreeRow
+      headed at (elementHeader s at) (λ h.
+      refuseIf (full mode cap n) (noFreeRow at)
       (above (elementOf parent h)
-      (held (bodyOf s (at + h .length) (h .size) (kindUnder (h .id) parent))
+      (held at (bodyOf s (at + h .length) (h .size) (kindUnder (h .id) parent))
       (siblings (element levels (h .id)) (h .size) (at + h .length) (h .size) (n + 1)))))
 
   -- The elements of a master's payload, which have that depth.

@@ -136,5 +136,5 @@ BodyUnfolds =
     → masterBody s mode cap depth parent at size n
     ≡ cond (eqb size 0) (done none)
     (andThen (element s mode cap (depths - depth) parent at n) (λ f.
-    refuseIf (ltb size (span f)) overrun
+    refuseIf (ltb size (span f)) (overrun at)
     (prepend f (masterBody s mode cap depth parent (at + span f) (size - span f) (n + count f)))))

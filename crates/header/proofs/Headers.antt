@@ -17,8 +17,8 @@ use Rattle.header.specs.declared.cursor.HeaderRead.the-variants.{Read, R
 
 -- what follows from the VINT of the size, of a header at a place with an id of n octets
 abbrev pub withSize : ℕ → ℕ → ℕ → VintRead → HeaderRead
-withSize at id n VintEnds = Refused (because PastEnd)
-withSize at id n VintLong = Refused (because InvalidSize)
+withSize at id n VintEnds = Refused (because PastEnd at)
+withSize at id n VintLong = Refused (because InvalidSize at)
 withSize at id n (VintIs m value next) =
     Read (record {
       place = record { at = at };
@@ -28,8 +28,8 @@ withSize at id n (VintIs m value next) =
 
 -- what follows from the VINT of the id
 abbrev pub withId : List ℕ → ℕ → VintRead → HeaderRead
-withId s at VintEnds = Refused (because PastEnd)
-withId s at VintLong = Refused (because InvalidId)
+withId s at VintEnds = Refused (because PastEnd at)
+withId s at VintLong = Refused (because InvalidId at)
 withId s at (VintIs n id next) = withSize at id n (vintAt s (next .at) 8)
 
 module _ (s : List ℕ) (at : ℕ) where

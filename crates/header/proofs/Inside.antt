@@ -17,6 +17,7 @@ use Rattle.header.specs.declared.cursor.Headed.{Headed}
 use Rattle.header.specs.declared.cursor.Header.{Header}
 use Rattle.header.specs.declared.cursor.HeaderRead.the-variants.{Read, Refused}
 use Rattle.refusals.specs.Refusals.{because}
+use Rattle.refusals.specs.declared.refusal.Cause.{Cause}
 use Rattle.refusals.specs.declared.refusal.Refusal.{Refusal}
 
 -- what a VINT of z zero bits is made of
@@ -138,10 +139,15 @@ module _ (s : List ℕ) (at : ℕ) where
         sized = heading-sized (drop at s) (e .header) h;
       }
 
-  pub header-refused : (e : Refusal) → headerAt s at ≡ Refused e → headerOf (drop at s) ≡ refused (e .cause)
+  -- A header that is refused is refused by its own octets, at its place.
+  pub header-refused : (e : Refusal) → headerAt s at ≡ Refused e
+      → (headerOf (drop at s) ≡ refused (e .cause)) × (because (e .cause) at ≡ e)
   unfolding headerAt headerRead
   header-refused e = go (headerOf (drop at s))
     where
-      go : (x : Heading) → headerRead at x ≡ Refused e → x ≡ refused (e .cause)
+      go : (x : Heading) → headerRead at x ≡ Refused e → (x ≡ refused (e .cause)) × (because (e .cause) at ≡ e)
       go (heading h) w = let x : _≡_ {A = ℕ} 0 1 = cc in absurd (omega arith)
-      go (refused c) w = let q : because c ≡ e = cc in ap refused (ap (λ (x : Refusal). x .cause) q)
+      go (refused c) w =
+          let q : because c at ≡ e = cc in
+          let k = ap (λ (x : Refusal). x .cause) q in
+          (ap refused k, ap (λ (x : Cause). because x at) (sym k) ∙ q)

@@ -18,7 +18,7 @@ abbrev pub readReply : HeaderRead → Reply Header
 readReply (Read e) = accepted (e .header)
 readReply (Refused e) = refusal e
 
-read-reply : (at : ℕ) (h : Heading) → readReply (headerRead at h) ≡ replyOf h
+read-reply : (at : ℕ) (h : Heading) → readReply (headerRead at h) ≡ replyOf at h
 unfolding headerRead
 read-reply at (heading h) = refl
 read-reply at (refused e) = refl

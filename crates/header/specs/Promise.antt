@@ -16,15 +16,16 @@ use Rattle.header.specs.declared.reply.HeaderReply.the-variants.{Header 
 abbrev pub mostBytes : ℕ
 mostBytes = 4294967295
 
-abbrev pub replyOf : Heading → Reply Header
-replyOf (heading h) = accepted h
-replyOf (refused cause) = refusal (because cause)
+-- The reply for a header at a place: a refusal is at that place.
+abbrev pub replyOf : ℕ → Heading → Reply Header
+replyOf at (heading h) = accepted h
+replyOf at (refused cause) = refusal (because cause at)
 
 -- The reply to the question for a header at a place: 14 for a recording that is too long or a place past its
 -- end, else what stands there.
 unfoldable pub headerReply : List ℕ → ℕ → Reply Header
 headerReply s at =
-    cond (leb (length s) mostBytes && leb at (length s)) (replyOf (headerOf (drop at s))) (refusal badArgument)
+    cond (leb (length s) mostBytes && leb at (length s)) (replyOf at (headerOf (drop at s))) (refusal badArgument)
 
 -- Document 01's values for each case of `HeaderReply`: id, size and length by their names, or the refusal.
 abbrev pub headerTold : HeaderReply → Reply Header

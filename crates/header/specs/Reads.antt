@@ -52,7 +52,7 @@ behind e = e .payload .at + e .header .size
 
 unfoldable pub headerRead : ℕ → Heading → HeaderRead
 headerRead at (heading h) = Read (headedAt at h)
-headerRead at (refused cause) = Refused (because cause)
+headerRead at (refused cause) = Refused (because cause at)
 
 unfoldable pub headerAt : List ℕ → ℕ → HeaderRead
 headerAt s at = headerRead at (headerOf (drop at s))

@@ -6,7 +6,6 @@ use native.Mathlib.Omega.{arith}
 use native.Mathlib.Nat.{zero-add}
 use borrow.Author.Tests.{lt-ltb, le-ltb}
 use lib.ListN.{length}
-use Rattle.refusals.specs.Causes.{causeNumber}
 use Rattle.refusals.specs.Reply.{accepted, refusal}
 use Rattle.refusals.specs.declared.refusal.Refusal.{Refusal}
 use Rattle.elements_rules.specs.Rows.{rows, rowsOf}
@@ -18,7 +17,7 @@ use Rattle.pages.specs.Text.{ascii, decimal, hexadecimal}
 use Rattle.pages.specs.Page.{written, Wrote}
 use Rattle.rowtext.specs.Lines.{rowLines}
 use Rattle.listing_rules.specs.Listing.{mostListed, tableNumbers, placeText, searchText, partLines}
-use Rattle.listing_rules.specs.Listing.{allParts, listingOf}
+use Rattle.listing_rules.specs.Listing.{refusedText, allParts, listingOf}
 use Rattle.listing_rules.specs.Promise.{ListingPromise}
 use Rattle.pages.proofs.Pages.{then}
 
@@ -32,13 +31,13 @@ told-absent heads (refused r) e = let z : _≡_ {A = ℕ} 0 1 = cc in absurd (om
 
 told-refused :
     (r : Refusal) (y : Search) → refusal r ≡ replyOf y
-    → searchText y ≡ ascii " refused " ++ decimal (causeNumber (r .cause)) ++ ascii "\n"
+    → searchText y ≡ refusedText r
 unfolding searchText
 told-refused r (found at size hs f) e = let z : _≡_ {A = ℕ} 0 1 = cc in absurd (omega arith)
 told-refused r (absent hs) e = let z : _≡_ {A = ℕ} 0 1 = cc in absurd (omega arith)
 told-refused r (refused r′) e =
     let n : r′ ≡ r = cc in
-    ap (λ (x : Refusal). ascii " refused " ++ decimal (causeNumber (x .cause)) ++ ascii "\n") n
+    ap refusedText n
 
 module _ (s : List ℕ) (part : ℕ) (t t′ : List ℕ) (l : length t ≡ tableNumbers) where
   pub absent-text :
@@ -48,7 +47,7 @@ module _ (s : List ℕ) (part : ℕ) (t t′ : List ℕ) (l : length t ≡ table
 
   pub refused-text :
       (r : Refusal) → PartPromise s part t (Refused r) t′
-      → searchText (searchOf s part tableNumbers) ≡ ascii " refused " ++ decimal (causeNumber (r .cause)) ++ ascii "\n"
+      → searchText (searchOf s part tableNumbers) ≡ refusedText r
   refused-text r p = told-refused r (searchOf s part tableNumbers) (rw l at (p .reply))
 
   module _ (at size n heads : ℕ) (p : PartPromise s part t (Found at size n heads) t′) where

@@ -30,12 +30,12 @@ documentListing =
 abbrev emptyListing : List ℕ
 emptyListing =
     ascii "recording 0\n"
-    ++ ascii "part 1654AE6B refused 1\n"
-    ++ ascii "part 1941A469 refused 1\n"
-    ++ ascii "part 1043A770 refused 1\n"
-    ++ ascii "part 1254C367 refused 1\n"
+    ++ ascii "part 1654AE6B refused 1 0\n"
+    ++ ascii "part 1941A469 refused 1 0\n"
+    ++ ascii "part 1043A770 refused 1 0\n"
+    ++ ascii "part 1254C367 refused 1 0\n"
 
--- An entry for a further head whose address exceeds 2^64-1: 8 is shown without its id.
+-- An entry for a further head whose address exceeds 2^64-1: 8 is shown without its id, at the one head.
 abbrev tooFar : List ℕ
 tooFar =
     0x18 ∷ 0x53 ∷ 0x80 ∷ 0x67 ∷ 0x9A ∷ 0x11 ∷ 0x4D ∷ 0x9B ∷ 0x74 ∷ 0x95 ∷ 0x4D ∷ 0xBB ∷ 0x92 ∷ 0x53 ∷ 0xAB ∷ 0x84
@@ -44,10 +44,10 @@ tooFar =
 abbrev tooFarListing : List ℕ
 tooFarListing =
     ascii "recording 31\n"
-    ++ ascii "part 1654AE6B refused 8\n"
-    ++ ascii "part 1941A469 refused 8\n"
-    ++ ascii "part 1043A770 refused 8\n"
-    ++ ascii "part 1254C367 refused 8\n"
+    ++ ascii "part 1654AE6B refused 8 5\n"
+    ++ ascii "part 1941A469 refused 8 5\n"
+    ++ ascii "part 1043A770 refused 8 5\n"
+    ++ ascii "part 1254C367 refused 8 5\n"
 
 abbrev pub Holds : Case → Type 0
 Holds (lists s text) = listingOf s ≡ text

@@ -5,6 +5,7 @@ use mathlib.Core.List.{List, _++_}
 use lib.ListN.{length}
 use lib.Dec.{ltb}
 use Rattle.refusals.specs.Causes.{causeNumber}
+use Rattle.refusals.specs.declared.refusal.Refusal.{Refusal}
 use Rattle.elements_rules.specs.Forest.{count}
 use Rattle.elements_rules.specs.Rows.{rowsAt, width}
 use Rattle.search_rules.specs.Part.{Search, found, absent, refused, searchOf}
@@ -23,11 +24,15 @@ unfoldable pub placeText : (at size rows : ℕ) → List ℕ
 placeText at size rows =
     ascii " at " ++ decimal at ++ ascii " size " ++ decimal size ++ ascii " rows " ++ decimal rows ++ ascii "\n"
 
--- What stands behind a part's id: that it is absent; the refusal's number, without an id; or where it is, and directly
--- under that its rows.
+-- The refusal's number, without an id, and its address.
+abbrev pub refusedText : Refusal → List ℕ
+refusedText e =
+    ascii " refused " ++ decimal (causeNumber (e .cause)) ++ ascii " " ++ decimal (e .address) ++ ascii "\n"
+
+-- What stands behind a part's id: that it is absent; the refusal; or where it is, and directly under that its rows.
 unfoldable pub searchText : Search → List ℕ
 searchText (absent heads) = ascii " absent\n"
-searchText (refused e) = ascii " refused " ++ decimal (causeNumber (e .cause)) ++ ascii "\n"
+searchText (refused e) = refusedText e
 searchText (found at size heads f) = placeText at size (count f) ++ rowLines (rowsAt at f)
 
 unfoldable pub partLines : List ℕ → ℕ → List ℕ

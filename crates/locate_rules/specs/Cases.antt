@@ -15,11 +15,11 @@ numbers = 16 * width
 -- carries.
 pub data Due : Type 0 where
   told : List FieldValue → ℕ → Due
-  refused : (number id : ℕ) → Due
+  refused : (number id address : ℕ) → Due
 
 abbrev pub dueOf : Answer → Due
 dueOf (fields vs rows) = told vs rows
-dueOf (refusal e) = refused (causeNumber (e .cause)) (causeId (e .cause))
+dueOf (refusal e) = refused (causeNumber (e .cause)) (causeId (e .cause)) (e .address)
 
 pub record Case : Type 0 where
   pub given : Answer

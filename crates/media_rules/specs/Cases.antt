@@ -22,5 +22,5 @@ abbrev pub cases : List Case
 cases =
     -- A float of 4 bytes is widened; audio has only record 0.
     audio rateOfOne 0 (told (real (ofBits binary64 0x3FF0000000000000) ∷ unset ∷ unset ∷ []) 1)
-    ∷ audio rateOfOne 1 (refused 15 0)
+    ∷ audio rateOfOne 1 (refused 15 0 0)
     ∷ []

@@ -18,29 +18,29 @@ use Rattle.refusals.specs.declared.refusal.Cause.the-variants.{TooManyHe
 use Rattle.refusals.specs.declared.refusal.Cause.the-variants.{BadArgument, Outside}
 
 -- A cause without an id.
-plain : (c : Cause) → 1 ≤ causeNumber c → causeNumber c ≤ 15 → causeId c ≡ 0 → Listed (because c)
-plain c least most z = record { least = least; most = most; alone = λ some. absurd (some z) }
+plain : (at : ℕ) (c : Cause) → 1 ≤ causeNumber c → causeNumber c ≤ 15 → causeId c ≡ 0 → Listed (because c at)
+plain at c least most z = record { least = least; most = most; alone = λ some. absurd (some z) }
 
-of-cause : (c : Cause) → Listed (because c)
-of-cause PastEnd = plain PastEnd (omega arith) (omega arith) refl
-of-cause InvalidId = plain InvalidId (omega arith) (omega arith) refl
-of-cause InvalidSize = plain InvalidSize (omega arith) (omega arith) refl
-of-cause Overrun = plain Overrun (omega arith) (omega arith) refl
-of-cause InvalidUint = plain InvalidUint (omega arith) (omega arith) refl
-of-cause InvalidFloat = plain InvalidFloat (omega arith) (omega arith) refl
-of-cause InvalidDate = plain InvalidDate (omega arith) (omega arith) refl
-of-cause NotUtf8 = plain NotUtf8 (omega arith) (omega arith) refl
-of-cause (InvalidSeekHead id) = record { least = omega arith; most = omega arith; alone = λ some. refl }
-of-cause StaleEntry = plain StaleEntry (omega arith) (omega arith) refl
-of-cause HeadAgain = plain HeadAgain (omega arith) (omega arith) refl
-of-cause TooManyHeads = plain TooManyHeads (omega arith) (omega arith) refl
-of-cause TooDeep = plain TooDeep (omega arith) (omega arith) refl
-of-cause NoFreeRow = plain NoFreeRow (omega arith) (omega arith) refl
-of-cause BadArgument = plain BadArgument (omega arith) (omega arith) refl
-of-cause Outside = plain Outside (omega arith) (omega arith) refl
+of-cause : (at : ℕ) (c : Cause) → Listed (because c at)
+of-cause at PastEnd = plain at PastEnd (omega arith) (omega arith) refl
+of-cause at InvalidId = plain at InvalidId (omega arith) (omega arith) refl
+of-cause at InvalidSize = plain at InvalidSize (omega arith) (omega arith) refl
+of-cause at Overrun = plain at Overrun (omega arith) (omega arith) refl
+of-cause at InvalidUint = plain at InvalidUint (omega arith) (omega arith) refl
+of-cause at InvalidFloat = plain at InvalidFloat (omega arith) (omega arith) refl
+of-cause at InvalidDate = plain at InvalidDate (omega arith) (omega arith) refl
+of-cause at NotUtf8 = plain at NotUtf8 (omega arith) (omega arith) refl
+of-cause at (InvalidSeekHead id) = record { least = omega arith; most = omega arith; alone = λ some. refl }
+of-cause at StaleEntry = plain at StaleEntry (omega arith) (omega arith) refl
+of-cause at HeadAgain = plain at HeadAgain (omega arith) (omega arith) refl
+of-cause at TooManyHeads = plain at TooManyHeads (omega arith) (omega arith) refl
+of-cause at TooDeep = plain at TooDeep (omega arith) (omega arith) refl
+of-cause at NoFreeRow = plain at NoFreeRow (omega arith) (omega arith) refl
+of-cause at BadArgument = plain at BadArgument (omega arith) (omega arith) refl
+of-cause at Outside = plain at Outside (omega arith) (omega arith) refl
 
 pub listed : AllListed
-listed e = of-cause (e .cause)
+listed e = of-cause (e .address) (e .cause)
 
 -- The causes with an id for 8, and the first of them that has a number.
 abbrev causes : ℕ → List Cause

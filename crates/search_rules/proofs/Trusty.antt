@@ -9,6 +9,7 @@ use lib.ListN.{length}
 use lib.Dec.{ltb, eqb}
 use borrow.Author.Tests.{eqb-true}
 use Rattle.refusals.specs.Refusals.{overrun}
+use Rattle.refusals.specs.declared.refusal.Refusal.{Refusal}
 use Rattle.header.specs.Reads.{headerAt}
 use Rattle.header.specs.declared.cursor.Headed.{Headed}
 use Rattle.header.specs.declared.cursor.HeaderRead.{HeaderRead}
@@ -70,19 +71,20 @@ module _ (s : List ℕ) (wanted : ℕ) (segment : Headed) where
       by false k false l = tt
 
   -- An overrun is no place.
-  kept : (v : Visit Unit Lookup) (b : Bool) → Ended (Trusty s wanted start) v
+  kept : (v : Visit Unit Lookup) (b : Bool) (r : Refusal) → Ended (Trusty s wanted start) v
       → Ended {A = Unit} (Trusty s wanted start)
-      (onVisit v ends (λ more. cond b (ends (stopped overrun)) (over more)))
-  kept (ends p) b t = t
-  kept (over known) true t = tt
-  kept (over known) false t = tt
+      (onVisit v ends (λ more. cond b (ends (stopped r)) (over more)))
+  kept (ends p) b r t = t
+  kept (over known) true r t = tt
+  kept (over known) false r t = tt
 
   children-trusty : Trusty s wanted start (segmentChildren s wanted segment)
   unfolding segmentChildren
   children-trusty =
       walk-holds s (behind segment) (withinSegment segment (searching s wanted segment)) (Trusty s wanted start)
-      (λ known. none-read s) (λ e. tt)
-      (λ known at e t. kept (visit s wanted segment e) (ltb (behind segment) (behind e)) (visited e (t .there)))
+      (λ at known l. none-read s) (λ at e k. tt)
+      (λ known at e t.
+      kept (visit s wanted segment e) (ltb (behind segment) (behind e)) (overrun (e .place .at)) (visited e (t .there)))
       start tt
 
 module _ (s : List ℕ) (wanted : ℕ) where

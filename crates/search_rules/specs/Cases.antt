@@ -55,15 +55,23 @@ tooFarAway =
     0x18 ∷ 0x53 ∷ 0x80 ∷ 0x67 ∷ 0x9A ∷ 0x11 ∷ 0x4D ∷ 0x9B ∷ 0x74 ∷ 0x95 ∷ 0x4D ∷ 0xBB ∷ 0x92 ∷ 0x53 ∷ 0xAB ∷ 0x84
     ∷ 0x11 ∷ 0x4D ∷ 0x9B ∷ 0x74 ∷ 0x53 ∷ 0xAC ∷ 0x88 ∷ 0xFF ∷ 0xFF ∷ 0xFF ∷ 0xFF ∷ 0xFF ∷ 0xFF ∷ 0xFF ∷ 0xFF ∷ []
 
+-- A head with an entry for Tags at position 2^64-1 and one for a head behind it, which is empty.
+abbrev behindTwo : List ℕ
+behindTwo =
+    0x18 ∷ 0x53 ∷ 0x80 ∷ 0x67 ∷ 0xAD ∷ 0x11 ∷ 0x4D ∷ 0x9B ∷ 0x74 ∷ 0xA3 ∷ 0x4D ∷ 0xBB ∷ 0x92 ∷ 0x53 ∷ 0xAB ∷ 0x84
+    ∷ 0x12 ∷ 0x54 ∷ 0xC3 ∷ 0x67 ∷ 0x53 ∷ 0xAC ∷ 0x88 ∷ 0xFF ∷ 0xFF ∷ 0xFF ∷ 0xFF ∷ 0xFF ∷ 0xFF ∷ 0xFF ∷ 0xFF ∷ 0x4D
+    ∷ 0xBB ∷ 0x8B ∷ 0x53 ∷ 0xAB ∷ 0x84 ∷ 0x11 ∷ 0x4D ∷ 0x9B ∷ 0x74 ∷ 0x53 ∷ 0xAC ∷ 0x81 ∷ 0x28 ∷ 0x11 ∷ 0x4D ∷ 0x9B
+    ∷ 0x74 ∷ 0x80 ∷ []
+
 abbrev pub cases : List Case
 cases =
     -- A seek head that names itself: 10 for every part.
-    search namingItself tracks (refused 10 0)
-    ∷ search namingItself attachments (refused 10 0)
-    ∷ search namingItself chapters (refused 10 0)
-    ∷ search namingItself tags (refused 10 0)
+    search namingItself tracks (refused 10 0 5)
+    ∷ search namingItself attachments (refused 10 0 5)
+    ∷ search namingItself chapters (refused 10 0 5)
+    ∷ search namingItself tags (refused 10 0 5)
     -- The entry for Tags leads to the head: 9 for Tags, the others are absent.
-    ∷ search stale tags (refused 9 0)
+    ∷ search stale tags (refused 9 0 5)
     ∷ search stale tracks (absentAfter 1)
     ∷ search stale attachments (absentAfter 1)
     ∷ search stale chapters (absentAfter 1)
@@ -72,17 +80,20 @@ cases =
     ∷ search listing tracks (absentAfter 1)
     ∷ search listing attachments (absentAfter 1)
     ∷ search listing chapters (absentAfter 1)
-    -- 8 for a linked head carries the head's own id.
-    ∷ search tooFarAway tags (refused 8 0x114D9B74)
-    -- An inner place past the end is 1.
-    ∷ search (0xEC ∷ 0x81 ∷ []) tags (refused 1 0)
-    ∷ search (0x18 ∷ 0x53 ∷ 0x80 ∷ 0x67 ∷ 0x84 ∷ 0xEC ∷ 0x81 ∷ []) tags (refused 1 0)
+    -- 8 for a linked head carries the head's own id, and is at the last head that was read.
+    ∷ search tooFarAway tags (refused 8 0x114D9B74 5)
+    -- The entry for Tags is in the first head, and the second is the last one that was read.
+    ∷ search behindTwo tags (refused 8 0x1254C367 45)
+    -- An inner place past the end is 1, at that place.
+    ∷ search (0xEC ∷ 0x81 ∷ []) tags (refused 1 0 3)
+    ∷ search (0x18 ∷ 0x53 ∷ 0x80 ∷ 0x67 ∷ 0x84 ∷ 0xEC ∷ 0x81 ∷ []) tags (refused 1 0 8)
     -- Skipped bytes need not exist.
     ∷ search (0x18 ∷ 0x53 ∷ 0x80 ∷ 0x67 ∷ 0x84 ∷ 0xEC ∷ 0x82 ∷ []) tags (absentAfter 0)
-    -- A child that is passed over and overruns the segment is 3.
-    ∷ search (0x18 ∷ 0x53 ∷ 0x80 ∷ 0x67 ∷ 0xFF ∷ 0xEC ∷ 0xFF ∷ []) tags (refused 3 0)
+    -- A child that is passed over and overruns the segment is 3, at the child.
+    ∷ search (0x18 ∷ 0x53 ∷ 0x80 ∷ 0x67 ∷ 0xFF ∷ 0xEC ∷ 0xFF ∷ []) tags (refused 3 0 5)
+    ∷ search (0x18 ∷ 0x53 ∷ 0x80 ∷ 0x67 ∷ 0x82 ∷ 0xEC ∷ 0x81 ∷ 0x00 ∷ []) tags (refused 3 0 5)
     -- None of the four parts.
-    ∷ search listing 0x1549A966 (refused 14 0)
+    ∷ search listing 0x1549A966 (refused 14 0 0)
     ∷ []
 
 abbrev pub Holds : Case → Type 0

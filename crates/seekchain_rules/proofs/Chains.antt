@@ -23,13 +23,13 @@ use Rattle.seekhead_rules.proofs.Positions.{positions-append, positions-none}
 use Rattle.seekhead_rules.proofs.Levels.{told-read, told-stopped}
 use Rattle.seekhead_rules.proofs.Members.{children, children-law}
 use Rattle.seekchain_rules.specs.Heads.{Heads, Chain, chained, broken, withHead, mostHeads, nextHead, onNext}
-use Rattle.seekchain_rules.specs.Heads.{chain, linkedHeads}
+use Rattle.seekchain_rules.specs.Heads.{lastOf, chain, linkedHeads}
 use Rattle.seekchain_rules.specs.Contract.{headsTold}
 use Rattle.seekchain_rules.specs.Answers.{onOutcome}
 use Rattle.seekchain_rules.specs.Theorems.{headsFrom, ChainUnfolds}
 use Rattle.seekchain_rules.specs.declared.heads.NextHead.the-variants.{Next, Last, Refused}
 use Rattle.seekchain_rules.specs.declared.heads.HeadsRead.the-variants.{Read as HeadsAre, Refused as HeadsRefused}
-use Rattle.seekchain_rules.proofs.Seen.{noted-address}
+use Rattle.seekchain_rules.proofs.Seen.{noted-address, last-noted}
 use Rattle.seekchain_rules.proofs.Sought.{next-is}
 
 unfolds : (s : List ℕ) (start : ℕ) (heads : Heads) (head : Headed) → length (heads .addresses) < mostHeads
@@ -94,6 +94,10 @@ module _ (s : List ℕ) (wanted : Wanted) (start : ℕ) (first : Headed) where
     seen-long : length seen-now ≡ 64
     seen-long = length-set seen n (head .place .at) ∙ g .long
 
+    -- This head is the last of them.
+    pub chaining-last : head .place .at ≡ lastOf (take (n + 1) seen-now)
+    chaining-last = last-noted seen n (head .place .at) (omega (arith, g .few, g .long))
+
     module _ (found : Seektable) (q : HeadIs found ≡ headTold s wanted parts head) where
       -- The head was read, and its own entries are known.
       record Followed : Type 0 where
@@ -131,10 +135,12 @@ module _ (s : List ℕ) (wanted : Wanted) (start : ℕ) (first : Headed) where
       chaining-stops e k = rw (followed .is, ← k) refl
 
       pub chaining-ends : Last ≡ nextHead s start (take (n + 1) seen-now) (found .head)
-          → HeadsAre (found .parts) (n + 1) ≡ headsTold wanted all-heads
+          → HeadsAre (found .parts) (n + 1) (head .place .at) ≡ headsTold wanted all-heads
       chaining-ends k =
           let l = length-take-le (n + 1) seen-now (omega (arith, seen-long, g .few)) in
-          ap (λ (x : Positions). HeadsAre x (n + 1)) (followed .are) ∙ rw (followed .is, ← k, l) refl
+          ap (λ (x : Positions). HeadsAre x (n + 1) (head .place .at)) (followed .are)
+          ∙ rw (followed .is, ← k, l)
+          (ap (λ (x : ℕ). HeadsAre (positions wanted (g .es ++ followed .own)) (n + 1) x) chaining-last)
 
       pub chaining-on : (next : Headed) → Next next ≡ nextHead s start (take (n + 1) seen-now) (found .head)
           → Chaining seen-now (n + 1) next (found .parts)

@@ -8,7 +8,7 @@ use Rattle.refusals.specs.declared.refusal.Refusal.{Refusal}
 use Rattle.header.specs.declared.cursor.Headed.{Headed}
 use Rattle.seekhead_rules.specs.Table.{latest, only, positionsFrom, positions}
 use Rattle.seekhead_rules.specs.declared.head.Positions.{Positions}
-use Rattle.seekchain_rules.specs.Heads.{Chain, chained, broken, linkedHeads}
+use Rattle.seekchain_rules.specs.Heads.{Chain, chained, broken, lastOf, linkedHeads}
 use Rattle.seekchain_rules.specs.Lookup.{onChain, partAt, byHeads}
 use Rattle.seekchain_rules.specs.Contract.{headsTold, placeTold, PartMet}
 use Rattle.seekchain_rules.specs.declared.heads.HeadsRead.the-variants.{Read as HeadsAre, Refused as HeadsRefused}
@@ -30,17 +30,19 @@ module _ (s : List ℕ) (wanted start : ℕ) (first : Headed) where
   chain-broken e q = broken-off (linkedHeads s start first) e q
 
   -- The position of the one wanted id is its latest.
-  read-off : (c : Chain) (parts : Positions) (n : ℕ) → HeadsAre parts n ≡ headsTold (only wanted) c
-      → (r : PartPlace) → PartMet s wanted start n (parts .first) r → r ≡ looked-up c
+  read-off : (c : Chain) (parts : Positions) (n last : ℕ) → HeadsAre parts n last ≡ headsTold (only wanted) c
+      → (r : PartPlace) → PartMet s wanted start n last (parts .first) r → r ≡ looked-up c
   unfolding positionsFrom
-  read-off (chained heads) parts n q r m =
+  read-off (chained heads) parts n last q r m =
       let p : parts ≡ positions (only wanted) (heads .entries) = cc in
       let l : n ≡ length (heads .addresses) = cc in
+      let z : last ≡ lastOf (heads .addresses) = cc in
       let f : parts .first ≡ latest wanted (heads .entries) = ap (λ (x : Positions). x .first) p in
-      m (heads .addresses) (sym l) ∙ ap (λ x. placeTold (partAt s wanted start (heads .addresses) x)) f
-  read-off (broken e) parts n q r m = let z : _≡_ {A = ℕ} 0 1 = cc in absurd (omega arith)
+      m (heads .addresses) (sym l) (sym z) ∙ ap (λ x. placeTold (partAt s wanted start (heads .addresses) x)) f
+  read-off (broken e) parts n last q r m = let z : _≡_ {A = ℕ} 0 1 = cc in absurd (omega arith)
 
-  pub chain-read : (parts : Positions) (n : ℕ) → HeadsAre parts n ≡ headsTold (only wanted) (linkedHeads s start first)
-      → (r : PartPlace) → PartMet s wanted start n (parts .first) r → r ≡ placeTold (byHeads s wanted start first)
+  pub chain-read : (parts : Positions) (n last : ℕ)
+      → HeadsAre parts n last ≡ headsTold (only wanted) (linkedHeads s start first)
+      → (r : PartPlace) → PartMet s wanted start n last (parts .first) r → r ≡ placeTold (byHeads s wanted start first)
   unfolding byHeads
-  chain-read parts n q r m = read-off (linkedHeads s start first) parts n q r m
+  chain-read parts n last q r m = read-off (linkedHeads s start first) parts n last q r m

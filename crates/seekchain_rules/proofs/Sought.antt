@@ -44,15 +44,15 @@ unfolding sought
 sought-is s address id e q = by-child (childAt s (length s) address) refl q
   where
     by-id : (x : Headed) (b : Bool) → eqb (x .header .id) id ≡ b → headerAt s address ≡ Read x
-        → cond b (Read x) (HeaderRefused staleEntry) ≡ Read e → IsAt s id address e
+        → cond b (Read x) (HeaderRefused (staleEntry address)) ≡ Read e → IsAt s id address e
     by-id x true k h w =
         let a : x ≡ e = cc in
         record { head = h ∙ w; named = ap (λ (y : Headed). y .header .id) (sym a) ∙ eqb-true (x .header .id) id k }
     by-id x false k h w = let z : _≡_ {A = ℕ} 0 1 = cc in absurd (omega arith)
 
     by-child : (x : ChildRead) → childAt s (length s) address ≡ x
-        → onChild x (HeaderRefused pastEnd) HeaderRefused (λ y.
-        cond (eqb (y .header .id) id) (Read y) (HeaderRefused staleEntry))
+        → onChild x (HeaderRefused (pastEnd address)) HeaderRefused (λ y.
+        cond (eqb (y .header .id) id) (Read y) (HeaderRefused (staleEntry address)))
         ≡ Read e
         → IsAt s id address e
     by-child (Child x) k w = by-id x (eqb (x .header .id) id) refl (child-is s (length s) address x k) w

@@ -31,11 +31,12 @@ lastAddress = 18446744073709551615
 abbrev pub tooFar : (start position : ℕ) → Bool
 tooFar start position = ltb lastAddress (start + position)
 
--- The element that a sought address holds, up to the recording's end: 1 past it, 9 where its id is another.
+-- The element that a sought address holds, up to the recording's end: 1 past it, 9 where its id is another, each at
+-- the address.
 unfoldable pub sought : List ℕ → (address id : ℕ) → HeaderRead
 sought s address id =
-    onChild (childAt s (length s) address) (HeaderRefused pastEnd) HeaderRefused (λ e.
-    cond (eqb (e .header .id) id) (Read e) (HeaderRefused staleEntry))
+    onChild (childAt s (length s) address) (HeaderRefused (pastEnd address)) HeaderRefused (λ e.
+    cond (eqb (e .header .id) id) (Read e) (HeaderRefused (staleEntry address)))
 
 -- ---- the next head
 
@@ -43,14 +44,20 @@ sought s address id =
 abbrev pub mostHeads : ℕ
 mostHeads = 64
 
+-- The last of the heads that were read; there is always one where it is asked for.
+unfoldable pub lastOf : List ℕ → ℕ
+lastOf [] = 0
+lastOf (a ∷ []) = a
+lastOf (a ∷ b ∷ rest) = lastOf (b ∷ rest)
+
 -- The head that a head's entry for one leads to, where the heads at some addresses were read: 8, 10, 11, header, 9.
--- Without such an entry there is none.
+-- Without such an entry there is none. 8 is at the last head that was read, 10 and 11 at the one that is not.
 unfoldable pub nextHead : List ℕ → (start : ℕ) (seen : List ℕ) (link : Latest) → NextHead
 nextHead s start seen link =
     onLatest link Last (λ position.
-    cond (tooFar start position) (Refused (invalidSeekHead seekHeadId))
-    (cond (member (start + position) seen) (Refused headAgain)
-    (cond (leb mostHeads (length seen)) (Refused tooManyHeads)
+    cond (tooFar start position) (Refused (invalidSeekHead seekHeadId (lastOf seen)))
+    (cond (member (start + position) seen) (Refused (headAgain (start + position)))
+    (cond (leb mostHeads (length seen)) (Refused (tooManyHeads (start + position)))
     (onHeader (sought s (start + position) seekHeadId) Refused Next))))
 
 abbrev pub onNext : {A : Type 0} → NextHead → A → (Refusal → A) → (Headed → A) → A
@@ -84,7 +91,7 @@ pub data Chain : Type 0 where
 -- next. It is looked for in the head's own entries, since those before were followed and dropped. `more` heads may be
 -- read.
 unfoldable pub chain : List ℕ → (start more : ℕ) → Heads → Headed → Chain
-chain s start zero heads head = broken tooManyHeads
+chain s start zero heads head = broken (tooManyHeads (head .place .at))
 chain s start (suc more) heads head =
     onOutcome (headOf s head) broken (λ f.
     let own = entries s (head .payload .at) f in

@@ -20,7 +20,7 @@ use Rattle.seekhead_rules.specs.declared.head.Latest.{Latest}
 use Rattle.seekhead_rules.specs.declared.head.Latest.the-variants.{Nowhere, At}
 use Rattle.seekchain_rules.specs.Answers.{onHeader, onOutcome}
 use Rattle.seekchain_rules.specs.Heads.{Heads, Chain, chained, broken, withHead, mostHeads, nextHead, onNext}
-use Rattle.seekchain_rules.specs.Heads.{tooFar, sought, chain, linkedHeads}
+use Rattle.seekchain_rules.specs.Heads.{tooFar, lastOf, sought, chain, linkedHeads}
 use Rattle.seekchain_rules.specs.Lookup.{Lookup, found, absent, stopped, byHeads}
 use Rattle.seekchain_rules.specs.declared.heads.NextHead.the-variants.{Next, Last, Refused}
 
@@ -35,13 +35,15 @@ pub record IsAt (s : List ℕ) (id address : ℕ) (e : Headed) : Type 0 where
 -- that gives 11 for a head that was read already, and one that looks at the header of a 65th head.
 pub record NextOrder (s : List ℕ) (start : ℕ) (seen : List ℕ) : Type 0 where
   pub none : nextHead s start seen Nowhere ≡ Last
-  pub eight : (p : ℕ) → tooFar start p ≡ true → nextHead s start seen (At p) ≡ Refused (invalidSeekHead seekHeadId)
+  pub eight :
+      (p : ℕ) → tooFar start p ≡ true
+      → nextHead s start seen (At p) ≡ Refused (invalidSeekHead seekHeadId (lastOf seen))
   pub ten :
       (p : ℕ) → tooFar start p ≡ false → member (start + p) seen ≡ true
-      → nextHead s start seen (At p) ≡ Refused headAgain
+      → nextHead s start seen (At p) ≡ Refused (headAgain (start + p))
   pub eleven :
       (p : ℕ) → tooFar start p ≡ false → member (start + p) seen ≡ false → leb mostHeads (length seen) ≡ true
-      → nextHead s start seen (At p) ≡ Refused tooManyHeads
+      → nextHead s start seen (At p) ≡ Refused (tooManyHeads (start + p))
   pub there :
       (p : ℕ) → tooFar start p ≡ false → member (start + p) seen ≡ false → leb mostHeads (length seen) ≡ false
       → nextHead s start seen (At p) ≡ onHeader (sought s (start + p) seekHeadId) Refused Next

@@ -69,7 +69,7 @@ module _ (s : List ℕ) (l : Level) (law : Lawful l) where
   unfolding span full
   spans at e q f k =
       let h = e .header in
-      go (held (bodyOf s (at + h .length) (h .size) (kindUnder (h .id) (l .parent)))
+      go (held at (bodyOf s (at + h .length) (h .size) (kindUnder (h .id) (l .parent)))
       (masterBody s withoutRows 0 (l .depth + 1) (h .id) (at + h .length) (h .size) (0 + 1)))
       (sym (el-body s withoutRows 0 (l .depth) (l .parent) at 0 e q (law .shallow) refl) ∙ k)
     where
@@ -149,10 +149,10 @@ module _ (s : List ℕ) (l : Level) (law : Lawful l) where
           pass-refused x w = lost x (told-stopped _ x _ (here (l .stop x) w))
 
           module _ (x : l .A) (w : l .read x ≡ child-told (e .place .at) a) where
-            pub pass-overruns : end < behind e → l .stop overrun ≡ level-told
+            pub pass-overruns : end < behind e → l .stop (overrun at) ≡ level-told
             pass-overruns o =
                 let (f, k, y) = told-read _ x _ (here (l .read x) w) in
-                comes-to (refused overrun)
+                comes-to (refused (overrun at))
                 (g .rest ∙ rw (child-over child-read (g .most) at _ 0 f (omega arith) (g .enough) k
                 (omega (arith, spans at e q f k))))
 

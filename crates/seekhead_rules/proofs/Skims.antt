@@ -50,7 +50,8 @@ module _ (s : List ℕ) (depth parent : ℕ) (e : Headed) (there : headerAt s (e
   kind = kindUnder (e .header .id) parent
 
   by-body : elementAt s depth parent (e .place .at)
-      ≡ above (elementOf parent (e .header)) (held (bodyOf s (e .payload .at) (e .header .size) kind) below)
+      ≡ above (elementOf parent (e .header))
+      (held (e .place .at) (bodyOf s (e .payload .at) (e .header .size) kind) below)
   unfolding full
   by-body =
       let t = header-there s (e .place .at) e there in
@@ -59,12 +60,12 @@ module _ (s : List ℕ) (depth parent : ℕ) (e : Headed) (there : headerAt s (e
       ∙ rw (t .behind, body-uncounted s 0 (depth + 1) (h .id) (e .place .at + h .length) (h .size) (0 + 1))
 
   pub skim-leaf-refused : (c : Cause) → BodyRefused c ≡ bodyRead kind s (e .payload .at) (e .header .size)
-      → Skimmed s depth parent e (SkimRefused (because c))
+      → Skimmed s depth parent e (SkimRefused (because c (e .place .at)))
   skim-leaf-refused c q = record {
     refusal = λ x w.
-        let z : because c ≡ x = cc in
+        let z : because c (e .place .at) ≡ x = cc in
         by-body ∙ ap (above (elementOf parent (e .header)))
-        (held-refused s (e .payload .at) (e .header .size) kind c below (sym q) ∙ ap refused z);
+        (held-refused s (e .payload .at) (e .header .size) (e .place .at) kind c below (sym q) ∙ ap refused z);
     body = λ b w. other-answer w;
   }
 
@@ -72,7 +73,7 @@ module _ (s : List ℕ) (depth parent : ℕ) (e : Headed) (there : headerAt s (e
       → Read b next ≡ bodyRead kind s (e .payload .at) (e .header .size) → Skimmed s depth parent e (Skim b)
   unfolding bodyRead
   skim-leaf b next m q =
-      let l = leaf-read s (e .payload .at) (e .header .size) kind below b next m (sym q) in
+      let l = leaf-read s (e .payload .at) (e .header .size) (e .place .at) kind below b next m (sym q) in
       record {
         refusal = λ x w. other-answer (sym w);
         body = λ b′ w.

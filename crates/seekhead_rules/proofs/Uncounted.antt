@@ -25,14 +25,14 @@ siblings-uncounted read same (suc most) at left n =
   where
     others : ℕ → Forest → Outcome
     others m f =
-        refuseIf (ltb left (span f)) overrun
+        refuseIf (ltb left (span f)) (overrun at)
         (prepend f (siblings read most (at + span f) (left - span f) (m + count f)))
 
     go : (o : Outcome)
         → ((a l m : ℕ) → siblings read most a l m ≡ siblings read most a l 0)
         → andThen o (others n) ≡ andThen o (others 0)
     go (done f) fewer =
-        ap (λ (x : Outcome). refuseIf (ltb left (span f)) overrun (prepend f x))
+        ap (λ (x : Outcome). refuseIf (ltb left (span f)) (overrun at) (prepend f x))
         (fewer (at + span f) (left - span f) (n + count f) ∙ sym (fewer (at + span f) (left - span f) (0 + count f)))
     go (refused e) fewer = refl
 
@@ -45,19 +45,19 @@ module _ (s : List ℕ) (cap : ℕ) where
     where
       body : ℕ → Header → Outcome
       body m h =
-          refuseIf (full withoutRows cap m) noFreeRow
+          refuseIf (full withoutRows cap m) (noFreeRow at)
           (above (elementOf parent h)
-          (held (bodyOf s (at + h .length) (h .size) (kindUnder (h .id) parent))
+          (held at (bodyOf s (at + h .length) (h .size) (kindUnder (h .id) parent))
           (siblings (element s withoutRows cap levels (h .id)) (h .size) (at + h .length) (h .size) (m + 1))))
 
       go : (x : Heading)
           → ((p a m : ℕ) → element s withoutRows cap levels p a m ≡ element s withoutRows cap levels p a 0)
-          → headed x (body n) ≡ headed x (body 0)
+          → headed at x (body n) ≡ headed at x (body 0)
       go (heading h) lower =
           let read = element s withoutRows cap levels (h .id) in
           let start = at + h .length in
           ap (λ (x : Outcome). above (elementOf parent h)
-          (held (bodyOf s start (h .size) (kindUnder (h .id) parent)) x))
+          (held at (bodyOf s start (h .size) (kindUnder (h .id) parent)) x))
           (siblings-uncounted read (lower (h .id)) (h .size) start (h .size) (n + 1)
           ∙ sym (siblings-uncounted read (lower (h .id)) (h .size) start (h .size) (0 + 1)))
       go (refusedHeader e) lower = refl

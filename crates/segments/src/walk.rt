@@ -63,7 +63,7 @@ fn walk(recording: &[u8], wanted: u32, segment: Headed) -> PartPlace
                     let next = child.payload.at + child.header.size;
                     if end < next {
                         return PartPlace::Refused(Refusal {
-                            address: at,
+                            address: child.place.at,
                             cause: Cause::Overrun,
                         });
                     }

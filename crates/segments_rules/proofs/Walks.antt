@@ -6,7 +6,7 @@ use mathlib.Core.Bool.{Bool, true, false, cond}
 use native.Mathlib.Omega.{arith}
 use lib.ListN.{length}
 use lib.Dec.{ltb, leb, eqb}
-use borrow.Author.Tests.{le-leb, leb-false}
+use borrow.Author.Tests.{le-leb, leb-true, leb-false}
 use Rattle.refusals.specs.Refusals.{pastEnd, overrun}
 use Rattle.refusals.specs.declared.refusal.Refusal.{Refusal}
 use Rattle.header.specs.Reads.{behind, headerAt}
@@ -65,7 +65,7 @@ stepped s end at e = by-test (leb end at) refl (headerAt s at) refl
 
 module _ {A B : Type 0} (s : List ℕ) (end : ℕ) (w : Walk A B) where
   abbrev turn : ℕ → A → ChildRead → (ℕ → A → B) → B
-  turn at a x next = onChild x (w .ended a) (w .stop) (λ e. onVisit (w .visit a e) (λ b. b) (next (behind e)))
+  turn at a x next = onChild x (w .ended at a) (w .stop) (λ e. onVisit (w .visit a e) (λ b. b) (next (behind e)))
 
   -- One step, and the same from the next place on.
   alike : (at : ℕ) (a : A) (f g : ℕ → A → B)
@@ -117,9 +117,9 @@ segment-unfolds s at =
     by-id e false x y = refl
 
     by : (x : ChildRead)
-        → onChild x (HeaderRefused pastEnd) HeaderRefused (λ e.
+        → onChild x (HeaderRefused (pastEnd at)) HeaderRefused (λ e.
         onVisit (seeking .visit tt e) (λ r. r) (walkFrom s (length s) seeking (behind e)))
-        ≡ onChild x (HeaderRefused pastEnd) HeaderRefused (λ e.
+        ≡ onChild x (HeaderRefused (pastEnd at)) HeaderRefused (λ e.
         cond (eqb (e .header .id) segmentId) (Read e) (segmentFrom s (behind e)))
     by (Child e) = by-id e (eqb (e .header .id) segmentId) (Read e) (segmentFrom s (behind e))
     by End = refl
@@ -148,7 +148,8 @@ children-unfold s wanted segment at =
         ≡ onChild x (absent []) stopped (λ e.
         cond (eqb (e .header .id) seekHeadId) (byHeads s wanted (segment .payload .at) e)
         (cond (eqb (e .header .id) wanted) (found e [])
-        (cond (ltb (behind segment) (behind e)) (stopped overrun) (segmentChildrenFrom s wanted segment (behind e)))))
+        (cond (ltb (behind segment) (behind e)) (stopped (overrun (e .place .at)))
+        (segmentChildrenFrom s wanted segment (behind e)))))
     by (Child e) =
         by-tests (eqb (e .header .id) seekHeadId) (eqb (e .header .id) wanted) (ltb (behind segment) (behind e)) _ _ _
         (walkFrom s (behind segment) (withinSegment segment (searching s wanted segment)) (behind e))
@@ -161,7 +162,8 @@ module _ (s : List ℕ) (wanted : ℕ) (segment : Headed) (at : ℕ) (e : Headed
     (q : childAt s (behind segment) at ≡ Child e) where
   abbrev seen-as : Visit Unit Lookup → Lookup
   seen-as v =
-      onVisit (onVisit v ends (λ more. cond (ltb (behind segment) (behind e)) (ends (stopped overrun)) (over more)))
+      onVisit (onVisit v ends (λ more.
+      cond (ltb (behind segment) (behind e)) (ends (stopped (overrun (e .place .at)))) (over more)))
       (λ p. p) (walkFrom s (behind segment) (withinSegment segment (searching s wanted segment)) (behind e))
 
   visited : segmentChildrenFrom s wanted segment at ≡ seen-as (visit s wanted segment e)
@@ -178,18 +180,20 @@ module _ (s : List ℕ) (wanted : ℕ) (segment : Headed) (at : ℕ) (e : Headed
 
   pub child-over : Over ≡ visitTold (visit s wanted segment e)
       → segmentChildrenFrom s wanted segment at
-      ≡ cond (ltb (behind segment) (behind e)) (stopped overrun) (segmentChildrenFrom s wanted segment (behind e))
+      ≡ cond (ltb (behind segment) (behind e)) (stopped (overrun (e .place .at)))
+      (segmentChildrenFrom s wanted segment (behind e))
   child-over w = visited ∙ go (visit s wanted segment e) w
     where
-      by-test : (b : Bool) (f : Unit → Lookup)
-          → onVisit {A = Unit} (cond b (ends (stopped overrun)) (over tt)) (λ p. p) f ≡ cond b (stopped overrun) (f tt)
-      by-test true f = refl
-      by-test false f = refl
+      by-test : (b : Bool) (x : Lookup) (f : Unit → Lookup)
+          → onVisit {A = Unit} (cond b (ends x) (over tt)) (λ p. p) f ≡ cond b x (f tt)
+      by-test true x f = refl
+      by-test false x f = refl
 
       go : (v : Visit Unit Lookup) → Over ≡ visitTold v
           → seen-as v
-          ≡ cond (ltb (behind segment) (behind e)) (stopped overrun) (segmentChildrenFrom s wanted segment (behind e))
-      go (over known) w = by-test (ltb (behind segment) (behind e)) _
+          ≡ cond (ltb (behind segment) (behind e)) (stopped (overrun (e .place .at)))
+          (segmentChildrenFrom s wanted segment (behind e))
+      go (over known) w = by-test (ltb (behind segment) (behind e)) _ _
       go (ends x) w = let z : _≡_ {A = ℕ} 0 1 = cc in absurd (omega arith)
 
 -- ---- what holds of a walk's answer
@@ -199,28 +203,42 @@ abbrev pub Ended : {A B : Type 0} → (B → Type 0) → Visit A B → Type 0
 Ended P (ends b) = P b
 Ended P (over a) = Unit
 
-module _ {A B : Type 0} (s : List ℕ) (end : ℕ) (w : Walk A B) (P : B → Type 0) (at-the-end : (a : A) → P (w .ended a))
-    (refused : (e : Refusal) → P (w .stop e))
+-- Where a walk is at its end.
+pub ended-at : (s : List ℕ) (end at : ℕ) → childAt s end at ≡ End → end ≤ at
+unfolding childAt
+ended-at s end at = by (leb end at) refl (headerAt s at)
+  where
+    by : (b : Bool) → leb end at ≡ b → (x : HeaderRead) → cond b End (onHeader x Refused Child) ≡ End → end ≤ at
+    by true q x w = leb-true end at q
+    by false q (Read e) w = let z : _≡_ {A = ℕ} 0 1 = cc in absurd (omega arith)
+    by false q (HeaderRefused r) w = let z : _≡_ {A = ℕ} 0 1 = cc in absurd (omega arith)
+
+module _ {A B : Type 0} (s : List ℕ) (end : ℕ) (w : Walk A B) (P : B → Type 0)
+    (at-the-end : (at : ℕ) (a : A) → end ≤ at → P (w .ended at a))
+    (refused : (at : ℕ) (e : Refusal) → childAt s end at ≡ Refused e → P (w .stop e))
     (each : (a : A) (at : ℕ) (e : Headed) → Stepped s end at e → Ended P (w .visit a e)) where
   -- It holds of the whole walk if it holds of each visit, of the end and of refusals.
-  bounded : (n at : ℕ) (a : A) → P (walk s end w n at a)
+  bounded : (n at : ℕ) (a : A) → end - at ≤ n → P (walk s end w n at a)
   unfolding walk
-  bounded zero at a = at-the-end a
-  bounded (suc n) at a = by (childAt s end at) refl (bounded n)
+  bounded zero at a l = at-the-end at a (omega arith)
+  bounded (suc n) at a l = by (childAt s end at) refl (bounded n)
     where
       by-visit : (next : ℕ) → ((b : A) → P (walk s end w n next b)) → (v : Visit A B) → Ended P v
           → P (onVisit v (λ b. b) (walk s end w n next))
       by-visit next k (ends b) p = p
       by-visit next k (over b) p = k b
 
-      by : (x : ChildRead) → childAt s end at ≡ x → ((next : ℕ) (b : A) → P (walk s end w n next b))
-          → P (onChild x (w .ended a) (w .stop) (λ e. onVisit (w .visit a e) (λ b. b) (walk s end w n (behind e))))
-      by (Child e) q k = by-visit (behind e) (k (behind e)) (w .visit a e) (each a at e (stepped s end at e q))
-      by End q k = at-the-end a
-      by (Refused r) q k = refused r
+      by : (x : ChildRead) → childAt s end at ≡ x
+          → ((next : ℕ) (b : A) → end - next ≤ n → P (walk s end w n next b))
+          → P (onChild x (w .ended at a) (w .stop) (λ e. onVisit (w .visit a e) (λ b. b) (walk s end w n (behind e))))
+      by (Child e) q k =
+          let t = stepped s end at e q in
+          by-visit (behind e) (λ b. k (behind e) b (omega (arith, t .onward, t .before))) (w .visit a e) (each a at e t)
+      by End q k = at-the-end at a (ended-at s end at q)
+      by (Refused r) q k = refused at r q
 
   pub walk-holds : (at : ℕ) (a : A) → P (walkFrom s end w at a)
-  walk-holds at a = bounded (end - at) at a
+  walk-holds at a = bounded (end - at) at a (omega arith)
 
 -- The segment is an element that was read.
 abbrev WasRead : List ℕ → HeaderRead → Type 0
@@ -230,7 +248,7 @@ WasRead s (HeaderRefused r) = Unit
 pub segment-there : (s : List ℕ) (e : Headed) → segmentOf s ≡ Read e → headerAt s (e .place .at) ≡ Read e
 unfolding segmentOf
 segment-there s e q =
-    subst (WasRead s) q (walk-holds s (length s) seeking (WasRead s) (λ a. tt) (λ r. tt)
+    subst (WasRead s) q (walk-holds s (length s) seeking (WasRead s) (λ at a l. tt) (λ at r k. tt)
     (λ a at x t. by x t (eqb (x .header .id) segmentId)) 0 tt)
   where
     by : (x : Headed) {at : ℕ} → Stepped s (length s) at x → (b : Bool)

@@ -19,11 +19,11 @@ use Rattle.segments_rules.specs.Walk.{walkFrom}
 -- ---- before the segment
 
 -- The segment ends the walk over the file's elements; others are skipped by size. Past the recording's end there is no
--- header: 1.
+-- header: 1 where it would begin.
 abbrev pub seeking : Walk Unit HeaderRead
 seeking = record {
   visit = λ known e. cond (eqb (e .header .id) segmentId) (ends (Read e)) (over known);
-  ended = λ known. Refused pastEnd;
+  ended = λ at known. Refused (pastEnd at);
   stop = Refused;
 }
 
@@ -42,7 +42,7 @@ abbrev pub withinSegment : {A B : Type 0} → Headed → Walk A B → Walk A B
 withinSegment segment w = record {
   visit = λ known e.
       onVisit (w .visit known e) ends (λ more.
-      cond (ltb (behind segment) (behind e)) (ends (w .stop overrun)) (over more));
+      cond (ltb (behind segment) (behind e)) (ends (w .stop (overrun (e .place .at)))) (over more));
   ended = w .ended;
   stop = w .stop;
 }
@@ -56,7 +56,7 @@ visit s wanted segment e =
 
 abbrev pub searching : List ℕ → (wanted : ℕ) (segment : Headed) → Walk Unit Lookup
 searching s wanted segment =
-    record { visit = λ known e. visit s wanted segment e; ended = λ known. absent []; stop = stopped }
+    record { visit = λ known e. visit s wanted segment e; ended = λ at known. absent []; stop = stopped }
 
 -- The children from an address on, up to the segment's end.
 abbrev pub segmentChildrenFrom : List ℕ → (wanted : ℕ) (segment : Headed) (at : ℕ) → Lookup

@@ -21,7 +21,7 @@ abbrev pub WalkUnfolds : Type 1
 WalkUnfolds =
     (A B : Type 0) (s : List ℕ) (end : ℕ) (w : Walk A B) (at : ℕ) (a : A)
     → walkFrom s end w at a
-    ≡ onChild (childAt s end at) (w .ended a) (w .stop) (λ e.
+    ≡ onChild (childAt s end at) (w .ended at a) (w .stop) (λ e.
     onVisit (w .visit a e) (λ b. b) (walkFrom s end w (behind e)))
 
 -- The way to the segment goes from element to element.
@@ -29,7 +29,7 @@ abbrev pub SegmentUnfolds : Type 0
 SegmentUnfolds =
     (s : List ℕ) (at : ℕ)
     → segmentFrom s at
-    ≡ onChild (childAt s (length s) at) (Refused pastEnd) Refused (λ e.
+    ≡ onChild (childAt s (length s) at) (Refused (pastEnd at)) Refused (λ e.
     cond (eqb (e .header .id) segmentId) (Read e) (segmentFrom s (behind e)))
 
 -- The walk over the segment's children goes from child to child.
@@ -40,4 +40,5 @@ ChildrenUnfold =
     ≡ onChild (childAt s (behind segment) at) (absent []) stopped (λ e.
     cond (eqb (e .header .id) seekHeadId) (byHeads s wanted (segment .payload .at) e)
     (cond (eqb (e .header .id) wanted) (found e [])
-    (cond (ltb (behind segment) (behind e)) (stopped overrun) (segmentChildrenFrom s wanted segment (behind e)))))
+    (cond (ltb (behind segment) (behind e)) (stopped (overrun (e .place .at)))
+    (segmentChildrenFrom s wanted segment (behind e)))))

@@ -17,17 +17,17 @@ abbrev pub onVisit : {A B C : Type 0} → Visit A B → (B → C) → (A → C) 
 onVisit (ends b) done next = done b
 onVisit (over a) done next = next a
 
--- A walk: what it does with an element, and its answer at the end and to a refusal.
+-- A walk: what it does with an element, and its answer at the end, which is at a place, and to a refusal.
 pub record Walk (A B : Type 0) : Type 0 where
   pub visit : A → Headed → Visit A B
-  pub ended : A → B
+  pub ended : ℕ → A → B
   pub stop : Refusal → B
 
 -- The elements from a place on. Each takes a byte at least: `most` bounds how many there are.
 unfoldable pub walk : {A B : Type 0} → List ℕ → (end : ℕ) → Walk A B → (most at : ℕ) → A → B
-walk s end w zero at a = w .ended a
+walk s end w zero at a = w .ended at a
 walk s end w (suc most) at a =
-    onChild (childAt s end at) (w .ended a) (w .stop) (λ e.
+    onChild (childAt s end at) (w .ended at a) (w .stop) (λ e.
     onVisit (w .visit a e) (λ b. b) (walk s end w most (behind e)))
 
 abbrev pub walkFrom : {A B : Type 0} → List ℕ → (end : ℕ) → Walk A B → (at : ℕ) → A → B

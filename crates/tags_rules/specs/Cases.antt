@@ -44,13 +44,13 @@ cases =
     -- Only the last Targets counts: no track uids, and no member.
     tag twoTargets 0
     (told (flag true ∷ unset ∷ unset ∷ count 0 ∷ count 0 ∷ count 0 ∷ count 0 ∷ count 0 ∷ []) 4)
-    ∷ uid twoTargets 0 Track 0 (refused 15 0)
+    ∷ uid twoTargets 0 Track 0 (refused 15 0 0)
     -- The members of a list in their order.
     ∷ uid twoUids 0 Track 0 (told (number 7 ∷ []) 4)
     ∷ uid twoUids 0 Track 1 (told (number 8 ∷ []) 4)
     -- A list member of a tag without Targets.
     ∷ tag bytesThenText 0 (told (flag false ∷ count 1 ∷ []) 4)
-    ∷ uid bytesThenText 0 Track 0 (refused 15 0)
+    ∷ uid bytesThenText 0 Track 0 (refused 15 0 0)
     -- The last of a text and bytes is the value.
     ∷ simple bytesThenText 0 0 (told (unset ∷ unset ∷ unset ∷ text 13 0 ∷ []) 4)
     ∷ simple textThenBytes 0 0 (told (unset ∷ unset ∷ unset ∷ binary 12 1 ∷ []) 4)

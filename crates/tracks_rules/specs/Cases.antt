@@ -85,7 +85,7 @@ cases =
     track twoEntries 0 (told bare 7)
     -- The last child sets a field; any number but 0 is yes.
     ∷ track twoEntries 1 (told (few (number 2) (number 17) (flag true) (content 19 1) unset (unset ∷ [])) 7)
-    ∷ track twoEntries 2 (refused 15 0)
+    ∷ track twoEntries 2 (refused 15 0 0)
     -- Any other number is the type Unknown; an ISO 639 language never replaces an IETF one.
     ∷ track languages 0 (told (few unset (number 0) unset unset (ietf 9 1) (unset ∷ [])) 4)
     -- The last settings count, whichever they are.
@@ -103,9 +103,9 @@ cases =
     ∷ track full 0 (told fullValues 16)
     -- What an earlier E0 held is not kept; an entry inside an entry is none of Tracks, and sets nothing.
     ∷ track twoVideos 0 (told (few unset unset unset unset unset (video unset unset unset)) 6)
-    ∷ track twoVideos 1 (refused 15 0)
+    ∷ track twoVideos 1 (refused 15 0 0)
     -- The full set of masters holds for the direct children of Tracks: an E0 there has a row below it.
     ∷ track (0xE0 ∷ 0x83 ∷ 0xB0 ∷ 0x81 ∷ 0x05 ∷ 0xAE ∷ 0x80 ∷ []) 0 (told bare 3)
     -- The read's refusals come before 15: here a number of 9 bytes, and no second entry.
-    ∷ track (0xAE ∷ 0x82 ∷ 0xD7 ∷ 0x89 ∷ []) 1 (refused 4 0)
+    ∷ track (0xAE ∷ 0x82 ∷ 0xD7 ∷ 0x89 ∷ []) 1 (refused 4 0 2)
     ∷ []

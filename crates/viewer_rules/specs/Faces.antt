@@ -1,5 +1,5 @@
--- How a reply crosses to C: `refused` is 0 and the values cross under their own names; or it is the number, with the id
--- that 8 carries, and every other number is 0.
+-- How a reply crosses to C: `refused` is 0 and the values cross under their own names; or it is the number, with the
+-- address and the id that 8 carries, and every other number is 0. A range is refused with 14 alone, and has no address.
 use Rattle.refusals.specs.Causes.{causeNumber, causeId}
 use Rattle.refusals.specs.Reply.{Reply, accepted, refusal}
 use Rattle.bodies_rules.specs.declared.body.Range.{Range}
@@ -11,13 +11,14 @@ use Rattle.viewer_rules.specs.declared.whose.UzPlace.{UzPlace}
 
 abbrev pub partFace : Reply PartTold → UzPart
 partFace (accepted (foundPart at size rows heads)) =
-    record { refused = 0; id = 0; found = 1; at = at; size = size; rows = rows; heads = heads }
+    record { refused = 0; id = 0; «refused_at» = 0; found = 1; at = at; size = size; rows = rows; heads = heads }
 partFace (accepted (absentPart heads)) =
-    record { refused = 0; id = 0; found = 0; at = 0; size = 0; rows = 0; heads = heads }
+    record { refused = 0; id = 0; «refused_at» = 0; found = 0; at = 0; size = 0; rows = 0; heads = heads }
 partFace (refusal e) =
     record {
       refused = causeNumber (e .cause);
       id = causeId (e .cause);
+      «refused_at» = e .address;
       found = 0;
       at = 0;
       size = 0;
@@ -30,6 +31,9 @@ rangeFace (accepted r) = record { refused = 0; at = r .at; length = r .length }
 rangeFace (refusal e) = record { refused = causeNumber (e .cause); at = 0; length = 0 }
 
 abbrev pub placeFace : Reply Whose → UzPlace
-placeFace (accepted (byHeader row rows)) = record { refused = 0; row = row; «in_payload» = 0; rows = rows }
-placeFace (accepted (byPayload row rows)) = record { refused = 0; row = row; «in_payload» = 1; rows = rows }
-placeFace (refusal e) = record { refused = causeNumber (e .cause); row = 0; «in_payload» = 0; rows = 0 }
+placeFace (accepted (byHeader row rows)) =
+    record { refused = 0; «refused_at» = 0; row = row; «in_payload» = 0; rows = rows }
+placeFace (accepted (byPayload row rows)) =
+    record { refused = 0; «refused_at» = 0; row = row; «in_payload» = 1; rows = rows }
+placeFace (refusal e) =
+    record { refused = causeNumber (e .cause); «refused_at» = e .address; row = 0; «in_payload» = 0; rows = 0 }

@@ -77,12 +77,14 @@ IdAlone =
 -- The reply of the call behind each function, name by name.
 abbrev pub partNamed : PartReply → UzPart
 partNamed (Found at size rows heads) =
-    record { refused = 0; id = 0; found = 1; at = at; size = size; rows = rows; heads = heads }
-partNamed (Absent heads) = record { refused = 0; id = 0; found = 0; at = 0; size = 0; rows = 0; heads = heads }
+    record { refused = 0; id = 0; «refused_at» = 0; found = 1; at = at; size = size; rows = rows; heads = heads }
+partNamed (Absent heads) =
+    record { refused = 0; id = 0; «refused_at» = 0; found = 0; at = 0; size = 0; rows = 0; heads = heads }
 partNamed (NoPart e) =
     record {
       refused = causeNumber (e .cause);
       id = causeId (e .cause);
+      «refused_at» = e .address;
       found = 0;
       at = 0;
       size = 0;
@@ -95,9 +97,10 @@ rangeNamed (Range r) = record { refused = 0; at = r .at; length = r .length }
 rangeNamed (NoRange e) = record { refused = causeNumber (e .cause); at = 0; length = 0 }
 
 abbrev pub placeNamed : WhoseReply → UzPlace
-placeNamed (Header row rows) = record { refused = 0; row = row; «in_payload» = 0; rows = rows }
-placeNamed (Payload row rows) = record { refused = 0; row = row; «in_payload» = 1; rows = rows }
-placeNamed (NoRow e) = record { refused = causeNumber (e .cause); row = 0; «in_payload» = 0; rows = 0 }
+placeNamed (Header row rows) = record { refused = 0; «refused_at» = 0; row = row; «in_payload» = 0; rows = rows }
+placeNamed (Payload row rows) = record { refused = 0; «refused_at» = 0; row = row; «in_payload» = 1; rows = rows }
+placeNamed (NoRow e) =
+    record { refused = causeNumber (e .cause); «refused_at» = e .address; row = 0; «in_payload» = 0; rows = 0 }
 
 abbrev pub PartNamed : Type 0
 PartNamed =

@@ -55,6 +55,7 @@ fn ask(question: &Question) -> String {
             at,
             size,
             bytes,
+            ..
         } => plain(body(*id, *parent, *at, *size, bytes)),
         Read {
             start,
@@ -155,7 +156,7 @@ fn call<T>(work: impl FnOnce() -> ebml::Result<T>) -> Outcome<T> {
     }
 }
 
-/// The number of an error of the crate, for 8 with the id.
+/// The number of an error of the crate, for 8 with the id. It has no address.
 fn refusal(error: &MatroskaError) -> String {
     match error {
         MatroskaError::Io(_) => "1".to_string(),

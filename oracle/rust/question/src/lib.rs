@@ -68,6 +68,8 @@ pub enum Question {
         parent: u32,
         at: u64,
         size: u64,
+        /// The address of the element's header.
+        address: u64,
         bytes: Vec<u8>,
     },
     Read {
@@ -179,12 +181,13 @@ pub fn parse(line: &[u8]) -> Option<Question> {
         (b"utf8", 2) => Question::Utf8 {
             bytes: bytes(w[1])?,
         },
-        (b"body", 6) => Question::Body {
+        (b"body", 7) => Question::Body {
             id: id(w[1])?,
             parent: id(w[2])?,
             at: number(w[3])?,
             size: number(w[4])?,
-            bytes: bytes(w[5])?,
+            address: number(w[5])?,
+            bytes: bytes(w[6])?,
         },
         (b"read", 6) => Question::Read {
             start: number(w[1])?,

@@ -7,7 +7,7 @@ use mathlib.Core.Path.{refl, sym, _∙_}
 use native.Mathlib.Omega.{arith}
 use lib.ListN.{length-set}
 use Rattle.seekchain_rules.proofs.Chains.{Chaining, chaining-holds, chaining-lost, chaining-stops, chaining-ends}
-use Rattle.seekchain_rules.proofs.Chains.{chaining-on}
+use Rattle.seekchain_rules.proofs.Chains.{chaining-on, chaining-last}
 
 abbrev Inv-loop : tie.InvT-loop
 Inv-loop recording wanted start seen₀ n₀ head₀ parts₀ seen n head parts =
@@ -32,7 +32,7 @@ returns c =
 next-head-requires : tie.Need-next-head-requires Inv-loop μ-loop
 next-head-requires c κs =
     let g = c .before .before .before .before .before .before .loop .inv in
-    simp length-set (omega (arith, g .few, g .long))
+    (simp length-set (omega (arith, g .few, g .long)), chaining-last _ _ _ _ _ _ _ _ g)
 
 returns-2 : tie.Need-returns-2 Inv-loop μ-loop
 returns-2 c =

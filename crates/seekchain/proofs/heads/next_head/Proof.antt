@@ -11,7 +11,14 @@ use Rattle.seekchain_rules.proofs.Positions.{near}
 
 returns : tie.Need-returns
 unfolding nextHead
-returns c = rw (c .before .before .before .link .given .1, sym (c .before .is-too-far .ensures) ∙ c .if1 .taken) refl
+returns c =
+    let b = c .before .before .before in
+    rw (
+      b .link .given .1,
+      sym (c .before .is-too-far .ensures) ∙ c .if1 .taken,
+      sym (b .before .before .before .before .pre .1),
+    )
+    refl
 
 add-address : tie.Need-add-address
 add-address c =
@@ -39,7 +46,7 @@ returns-3 c =
       b .before .before .before .link .given .1,
       sym (b .before .is-too-far .ensures) ∙ b .if1 .left,
       sym (c .before .before .contains .ensures) ∙ c .before .if2 .left,
-      length-take-le (p .args .read) (p .args .seen .now) (p .pre),
+      length-take-le (p .args .read) (p .args .seen .now) (p .pre .0),
       le-leb 64 (p .args .read) (omega (arith, c .if3 .taken)),
     )
     refl
@@ -58,7 +65,7 @@ returns-5 c =
       b .before .before .before .link .given .1,
       sym (b .before .is-too-far .ensures) ∙ b .if1 .left,
       sym (d .before .before .before .contains .ensures) ∙ d .before .before .if2 .left,
-      length-take-le (p .args .read) (p .args .seen .now) (p .pre),
+      length-take-le (p .args .read) (p .args .seen .now) (p .pre .0),
       lt-leb 64 (p .args .read) (omega (arith, d .before .if3 .left)),
       sym (d .sought .ensures) ∙ c .before .refusal .given .1,
     )
@@ -74,7 +81,7 @@ returns-6 c =
       b .before .before .before .link .given .1,
       sym (b .before .is-too-far .ensures) ∙ b .if1 .left,
       sym (d .before .before .before .contains .ensures) ∙ d .before .before .if2 .left,
-      length-take-le (p .args .read) (p .args .seen .now) (p .pre),
+      length-take-le (p .args .read) (p .args .seen .now) (p .pre .0),
       lt-leb 64 (p .args .read) (omega (arith, d .before .if3 .left)),
       sym (d .sought .ensures) ∙ c .before .head .given .1,
     )

@@ -12,7 +12,8 @@ returns c =
 returns-2 : tie.Need-returns-2
 returns-2 c =
     let b = c .before .before in
-    chain-read _ _ _ _ _ _ (sym (b .parts .given .1) ∙ b .before .before .linked-heads .ensures) _ (c .part-at .ensures)
+    chain-read _ _ _ _ _ _ _ (sym (b .parts .given .1) ∙ b .before .before .linked-heads .ensures) _
+    (c .part-at .ensures)
 
 pub by-heads-spec : {M : Type 1} → statement M
 by-heads-spec =

@@ -9,8 +9,8 @@ use Rattle.seekchain_rules.proofs.Positions.{near}
 
 returns : tie.Need-returns
 unfolding partAt
-returns c heads l =
-    rw (c .before .before .before .link .given .1, sym (c .before .is-too-far .ensures) ∙ c .if1 .taken) refl
+returns c heads l z =
+    rw (c .before .before .before .link .given .1, sym (c .before .is-too-far .ensures) ∙ c .if1 .taken, z) refl
 
 add-address : tie.Need-add-address
 add-address c =
@@ -20,11 +20,11 @@ add-address c =
 
 returns-2 : tie.Need-returns-2
 unfolding partAt
-returns-2 c heads l = rw (c .enum-told .given .1, l) refl
+returns-2 c heads l z = rw (c .enum-told .given .1, l) refl
 
 returns-3 : tie.Need-returns-3
 unfolding partAt
-returns-3 c heads l =
+returns-3 c heads l z =
     let b = c .before .before .before .before in
     rw (
       b .before .before .before .link .given .1,
@@ -35,7 +35,7 @@ returns-3 c heads l =
 
 returns-4 : tie.Need-returns-4
 unfolding partAt
-returns-4 c heads l =
+returns-4 c heads l z =
     let b = c .before .before .before .before in
     rw (
       b .before .before .before .link .given .1,

@@ -4,11 +4,13 @@ mod files;
 mod part;
 mod reading;
 mod records;
+mod refusal;
 mod rules;
 mod table;
 
 use files::Lines;
-use rules::{due, verdict, Case, Verdict, NAMES};
+use refusal::parted;
+use rules::{as_ours, due, verdict, Case, Verdict, NAMES};
 use std::collections::BTreeMap;
 use std::fs;
 use std::io::{self, Write};
@@ -120,14 +122,19 @@ fn compare(cases: &[Case]) -> Result<bool, String> {
     Ok(smallest.is_none())
 }
 
-/// How often ours accepts, gives each refusal, or finds no question.
+/// How often ours accepts, gives each refusal, or finds no question; and how often each
+/// refusal has another address than 0.
 fn sorts(cases: &[Case]) -> BTreeMap<String, usize> {
     let mut sorts = BTreeMap::new();
     for case in cases {
         let mut words = case.ours.split(|byte| *byte == b' ');
         let sort = match (words.next(), words.next()) {
             (Some(b"refused"), Some(number)) => {
-                format!("refused {:>2}", String::from_utf8_lossy(number))
+                let sort = format!("refused {:>2}", String::from_utf8_lossy(number));
+                let told = parted(&String::from_utf8_lossy(case.ours));
+                let elsewhere = told.is_some_and(|(_, address)| address != 0);
+                *sorts.entry(format!("{sort} not at 0")).or_insert(0) += usize::from(elsewhere);
+                sort
             }
             (Some(b"bad"), _) => "bad question".to_string(),
             _ => "accepted".to_string(),
@@ -183,24 +190,34 @@ fn split(questions: &str, answers: &str, names: &[&str]) -> Result<bool, String>
     Ok(true)
 }
 
-/// Prints the answers of a stored list: the checked oracle's, or the given one
-/// where the crate has none or the difference is a listed exception.
+/// Prints the answers of a stored list: the checked oracle's, a refusal with its address, or
+/// the given one where the crate has none or the difference is a listed exception.
 fn store(cases: &[Case]) -> Result<bool, String> {
     let mut answers = Vec::new();
     for case in cases {
+        let asked = question::parse(case.question);
         let given = !case.ours.is_empty();
+        let theirs = match &asked {
+            Some(asked) => as_ours(asked, case.checked),
+            None => case.checked.to_vec(),
+        };
         let fits = if given {
-            // What the oracle says need not be given. Where it has no answer the
-            // judge may know ours, and then that is it.
-            let unknown = case.checked == b"no answer"
-                && question::parse(case.question).is_none_or(|asked| due(&asked).is_none());
-            unknown || matches!(verdict(case), Verdict::Exception(_))
+            // What the oracle says need not be given, but for a refusal, whose address it
+            // does not say. Where it has no answer the judge may know ours, and then that
+            // is it.
+            let unknown =
+                case.checked == b"no answer" && asked.is_none_or(|asked| due(&asked).is_none());
+            let refused = case.ours.starts_with(b"refused ");
+            let verdict = verdict(case);
+            unknown
+                || matches!(verdict, Verdict::Exception(_))
+                || refused && verdict == Verdict::Equal
         } else {
-            let theirs = Case {
-                ours: case.checked,
+            let case = Case {
+                ours: &theirs,
                 ..*case
             };
-            case.checked != b"no answer" && verdict(&theirs) != Verdict::Unexplained
+            case.checked != b"no answer" && verdict(&case) != Verdict::Unexplained
         };
         if !fits {
             let question = case.question.escape_ascii();
@@ -209,7 +226,7 @@ fn store(cases: &[Case]) -> Result<bool, String> {
                 "no listed exception: {question} | {ours} (oracle: {theirs})"
             ));
         }
-        answers.extend_from_slice(if given { case.ours } else { case.checked });
+        answers.extend_from_slice(if given { case.ours } else { &theirs });
         answers.push(b'\n');
     }
     let written = io::stdout().write_all(&answers);

@@ -1,8 +1,10 @@
 //! The search for a part, read straight from document 01 and apart from the
-//! crate: our answer by the document's terms, and each build's by the crate's.
+//! crate: our answer by the document's terms, and each build's by the crate's. A
+//! refusal carries the address that document 02 gives it.
 
 use crate::reading::{header, part, rows, End, Header, Payload, Row, Terms, CRATE, OURS};
-use crate::table::{broken, table, Due};
+use crate::refusal::{plain, refused};
+use crate::table::{broken, table, Due, NOWHERE};
 use question::Question;
 use std::collections::{BTreeMap, BTreeSet};
 use tools::ids::{part_parent, SEEK, SEEK_HEAD, SEEK_ID, SEEK_POSITION, SEGMENT};
@@ -14,8 +16,8 @@ const MOST_HEADS: usize = 64;
 #[derive(Clone, Copy, PartialEq)]
 enum Stop {
     Read(End),
-    /// 8, with the id of the entry.
-    Position(u32),
+    /// 8, with the id of the entry and the address of the last head that was read.
+    Position(u32, u64),
     /// The crate asserts, or a check for overflow fails.
     Panic,
     /// The crate goes from head to head for ever.
@@ -68,9 +70,9 @@ pub fn due(question: &Question) -> Option<Due> {
         wraps,
     };
     let ours = search(OURS, false).answer();
-    let checked = search(CRATE, false).answer();
-    let wrapping = search(CRATE, true).answer();
-    let differ = ours != checked || ours != wrapping;
+    let checked = plain(&search(CRATE, false).answer());
+    let wrapping = plain(&search(CRATE, true).answer());
+    let differ = plain(&ours) != checked || plain(&ours) != wrapping;
     let exception = differ.then(|| {
         // The searches are the same up to where they part. So the crate's search
         // within our bounds tells whether a bound is met before the crate stops.
@@ -107,7 +109,7 @@ impl Search<'_> {
     /// The answer: 14 for the arguments, then the search.
     fn answer(&self) -> String {
         if self.terms.bounds && (self.parent.is_none() || broken(self.numbers)) {
-            return "refused 14 table 0".to_string();
+            return refused(14, None, NOWHERE) + " table 0";
         }
         let Some(parent) = self.parent else {
             return "no answer".to_string();
@@ -118,9 +120,11 @@ impl Search<'_> {
                 heads,
                 found: Some(Found { at, size, rows }),
             }) => format!("at {at} size {size} heads {heads} {}", table(&rows)),
-            Err(Stop::Read(End::Refused(number))) => format!("refused {number} table 0"),
+            Err(Stop::Read(End::Refused(number, address))) => {
+                refused(number, None, address) + " table 0"
+            }
             Err(Stop::Read(End::Memory)) => "memory".to_string(),
-            Err(Stop::Position(id)) => format!("refused 8 {id:X} table 0"),
+            Err(Stop::Position(id, head)) => refused(8, Some(id), head) + " table 0",
             Err(Stop::Panic) => "panic".to_string(),
             Err(Stop::Circles) => "circles".to_string(),
         }
@@ -151,7 +155,7 @@ impl Search<'_> {
             let whole = child.header + child.payload;
             left = match left.checked_sub(whole) {
                 Some(left) => left,
-                None => self.or_wraps(left.wrapping_sub(whole), Stop::Read(End::Refused(3)))?,
+                None => self.or_wraps(left.wrapping_sub(whole), Stop::Read(End::Refused(3, at)))?,
             };
             at += whole;
         }
@@ -174,13 +178,17 @@ impl Search<'_> {
             };
             at = match start.checked_add(position) {
                 Some(at) => at,
-                None => self.or_wraps(start.wrapping_add(position), Stop::Position(SEEK_HEAD))?,
+                None => {
+                    let refused = Stop::Position(SEEK_HEAD, at);
+                    self.or_wraps(start.wrapping_add(position), refused)?
+                }
             };
+            // From here on it is the head that is not read.
             if heads.contains(&at) {
-                return Err(self.refused_or(10, Stop::Circles));
+                return Err(self.refused_or(10, at, Stop::Circles));
             }
             if self.terms.bounds && heads.len() == MOST_HEADS {
-                return Err(Stop::Read(End::Refused(11)));
+                return Err(Stop::Read(End::Refused(11, at)));
             }
             head = self.sought(at, SEEK_HEAD)?;
         }
@@ -190,18 +198,19 @@ impl Search<'_> {
                 found: None,
             });
         };
-        // Here the crate looks for the overflow too.
-        let at = start.checked_add(*position);
-        let at = at.ok_or(Stop::Position(self.wanted))?;
-        let part = self.sought(at, self.wanted)?;
-        self.read(at, &part, parent, heads.len())
+        // Here the crate looks for the overflow too. The last head is told, whichever has
+        // the entry.
+        let sought = start.checked_add(*position);
+        let sought = sought.ok_or(Stop::Position(self.wanted, at))?;
+        let part = self.sought(sought, self.wanted)?;
+        self.read(sought, &part, parent, heads.len())
     }
 
     /// The header at a sought address, which has to have that id.
     fn sought(&self, at: u64, id: u32) -> Result<Header, Stop> {
         let found = header(self.bytes, at)?;
         if found.id != id {
-            return Err(self.refused_or(9, Stop::Panic));
+            return Err(self.refused_or(9, at, Stop::Panic));
         }
         Ok(found)
     }
@@ -271,9 +280,9 @@ impl Search<'_> {
     }
 
     /// Our refusal, or what the crate does in its place.
-    fn refused_or(&self, number: u64, theirs: Stop) -> Stop {
+    fn refused_or(&self, number: u64, address: u64, theirs: Stop) -> Stop {
         if self.terms.bounds {
-            Stop::Read(End::Refused(number))
+            Stop::Read(End::Refused(number, address))
         } else {
             theirs
         }

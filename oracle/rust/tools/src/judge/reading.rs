@@ -1,6 +1,7 @@
 //! The element table, read straight from document 01 and apart from the crate.
 //! It is read by the document's own terms, or by the crate's, which has no
 //! bounds: so both answers to a question are known before they are looked at.
+//! A refusal carries the address that document 02 gives it.
 
 use question::rows_in;
 use tools::ids::{
@@ -45,7 +46,8 @@ const TOO_DEEP: u64 = 16;
 /// How a reading ends that is not accepted.
 #[derive(Clone, Copy, PartialEq)]
 pub enum End {
-    Refused(u64),
+    /// The number, and the address that it carries.
+    Refused(u64, u64),
     Memory,
 }
 
@@ -115,7 +117,8 @@ impl Reading<'_> {
         while left > 0 {
             let whole = self.element(at, id, row, depth)?;
             if whole > left {
-                return Err(End::Refused(3));
+                // The child is told, and not the master that it overruns.
+                return Err(End::Refused(3, at));
             }
             left -= whole;
             at += whole;
@@ -131,10 +134,10 @@ impl Reading<'_> {
             payload,
         } = header(self.bytes, at)?;
         if self.terms.bounds && depth == TOO_DEEP {
-            return Err(End::Refused(12));
+            return Err(End::Refused(12, at));
         }
         if self.terms.bounds && self.rows.len() as u64 == self.most {
-            return Err(End::Refused(13));
+            return Err(End::Refused(13, at));
         }
         let kind = kind(id, parent_id);
         self.rows.push(Row {
@@ -151,18 +154,20 @@ impl Reading<'_> {
             let own = self.rows.len() as u64;
             self.master(at + header, payload, id, own, depth + 1)?;
         } else {
-            self.leaf(kind, at + header, payload)?;
+            self.leaf(kind, at, header, payload)?;
         }
         Ok(header + payload)
     }
 
-    /// A typed body: its size, then the end of the recording, then its text.
-    fn leaf(&self, kind: u64, at: u64, size: u64) -> Result<(), End> {
+    /// A typed body: its size, then the end of the recording, then its text. It is told by
+    /// the address of its header.
+    fn leaf(&self, kind: u64, at: u64, header: u64, size: u64) -> Result<(), End> {
+        let refused = |number| End::Refused(number, at);
         match kind {
-            INT_KIND | UINT_KIND if size > 8 => return Err(End::Refused(4)),
-            FLOAT_KIND if size != 4 && size != 8 => return Err(End::Refused(5)),
-            DATE_KIND if size != 8 => return Err(End::Refused(6)),
-            INT_KIND if size == 0 && !self.terms.empty_signed => return Err(End::Refused(1)),
+            INT_KIND | UINT_KIND if size > 8 => return Err(refused(4)),
+            FLOAT_KIND if size != 4 && size != 8 => return Err(refused(5)),
+            DATE_KIND if size != 8 => return Err(refused(6)),
+            INT_KIND if size == 0 && !self.terms.empty_signed => return Err(refused(1)),
             STRING_KIND | UTF8_KIND | BINARY_KIND
                 if size > MOST_AT_ONCE && !self.terms.no_memory =>
             {
@@ -170,10 +175,10 @@ impl Reading<'_> {
             }
             _ => {}
         }
-        let body = part(self.bytes, at, size).ok_or(End::Refused(1))?;
+        let body = part(self.bytes, at + header, size).ok_or(refused(1))?;
         let text = kind == STRING_KIND || kind == UTF8_KIND;
         if text && std::str::from_utf8(body).is_err() {
-            return Err(End::Refused(7));
+            return Err(refused(7));
         }
         Ok(())
     }
@@ -186,10 +191,11 @@ pub struct Header {
     pub payload: u64,
 }
 
-/// The header at a place, the id before the size.
+/// The header at a place, the id before the size. A bad one is told by where it begins.
 pub fn header(bytes: &[u8], at: u64) -> Result<Header, End> {
-    let (id, id_width) = number(bytes, at, 4, 2)?;
-    let (size, size_width) = number(bytes, at + id_width, 8, 3)?;
+    let refused = |number| End::Refused(number, at);
+    let (id, id_width) = number(bytes, at, 4, 2).map_err(refused)?;
+    let (size, size_width) = number(bytes, at + id_width, 8, 3).map_err(refused)?;
     Ok(Header {
         // Four bytes hold an id.
         id: id as u32,
@@ -199,16 +205,17 @@ pub fn header(bytes: &[u8], at: u64) -> Result<Header, End> {
 }
 
 /// A number with its marker, and its width: one byte more than there are zero
-/// bits before the first one bit. Zeros run on through following bytes.
-fn number(bytes: &[u8], at: u64, widest: u64, too_wide: u64) -> Result<(u64, u64), End> {
-    let missing = End::Refused(1);
+/// bits before the first one bit. Zeros run on through following bytes. Else the number of
+/// a refusal.
+fn number(bytes: &[u8], at: u64, widest: u64, too_wide: u64) -> Result<(u64, u64), u64> {
+    let missing = 1u64;
     let rest = usize::try_from(at).ok().and_then(|at| bytes.get(at..));
     let rest = rest.ok_or(missing)?;
     let zeros = rest.iter().take_while(|byte| **byte == 0).count();
     let first = rest.get(zeros).ok_or(missing)?;
     let width = 8 * zeros as u64 + u64::from(first.leading_zeros()) + 1;
     if width > widest {
-        return Err(End::Refused(too_wide));
+        return Err(too_wide);
     }
     let all = rest.get(..width as usize).ok_or(missing)?;
     let value = all.iter().fold(0, |sum, byte| sum << 8 | u64::from(*byte));

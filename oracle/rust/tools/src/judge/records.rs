@@ -1,14 +1,17 @@
 //! The records, built straight from document 01 over the judge's own reading and
 //! apart from the crate: a field is the last direct child of its id and kind.
 
-use crate::reading::{part, Payload, Row, Terms, CRATE, OURS};
-use crate::reading::{End, End::Refused};
-use crate::table::{read, reason, with_table, Due, BOUNDED};
+use crate::reading::{part, End, Payload, Row, Terms, CRATE, OURS};
+use crate::refusal::plain;
+use crate::table::{read, reason, with_table, Due, BOUNDED, NOWHERE};
 use question::{List, Question};
 use tools::ids::*;
 
 /// The exception of the flags 55AB to 55AF of a track.
 pub const MARKS: &str = "flags 55AB to 55AF";
+
+/// There is no such record or list member.
+const MISSING: End = End::Refused(15, NOWHERE);
 
 /// The answers due to a question; `None` if it asks for no record.
 pub fn due(question: &Question) -> Option<Due> {
@@ -36,9 +39,9 @@ pub fn due(question: &Question) -> Option<Due> {
                 bytes: &payload.bytes,
             };
             let ours = answer(question, &payload, OURS);
-            let theirs = answer(question, &payload, CRATE);
-            let bounded = || answer(question, &payload, BOUNDED);
-            let exception = (ours != theirs).then(|| {
+            let theirs = plain(&answer(question, &payload, CRATE));
+            let bounded = || plain(&answer(question, &payload, BOUNDED));
+            let exception = (plain(&ours) != theirs).then(|| {
                 if but_marks(&ours, &theirs) {
                     MARKS
                 } else {
@@ -118,7 +121,7 @@ fn record(question: &Question, whole: Record, terms: Terms) -> Result<String, En
         }
         Question::Tag { k, .. } => tag(whole.member(TAG, *k)?),
         Question::Uid { k, list, i, .. } => {
-            let targets = targets(whole.member(TAG, *k)?).ok_or(Refused(15))?;
+            let targets = targets(whole.member(TAG, *k)?).ok_or(MISSING)?;
             let uids = targets.numbers(match list {
                 List::Track => TRACK_UID,
                 List::Edition => TAG_EDITION_UID,
@@ -139,7 +142,7 @@ fn record(question: &Question, whole: Record, terms: Terms) -> Result<String, En
 fn nth<T: Copy>(things: &[T], k: u64) -> Result<T, End> {
     let place = usize::try_from(k).ok();
     let thing = place.and_then(|place| things.get(place));
-    thing.copied().ok_or(Refused(15))
+    thing.copied().ok_or(MISSING)
 }
 
 /// A record: a master's row, or the whole payload.

@@ -2,7 +2,8 @@
 //! rule looks at the question's own arguments and at the answers.
 
 use crate::reading::MOST_AT_ONCE;
-use crate::table::Due;
+use crate::refusal::{parted, plain};
+use crate::table::{Due, NOWHERE};
 use crate::{part, records, table};
 use question::{parse, Question};
 
@@ -126,21 +127,76 @@ fn allocation(question: &Question, case: &Case) -> Option<bool> {
     }
 }
 
+/// The address that a refusal of a header or body question carries, given its number: where
+/// the header began, or what the question names as its address, and none for 14. `None` if
+/// it is no such question.
+fn address_due(question: &Question, number: &str) -> Option<u64> {
+    let address = match question {
+        Question::Header { at, .. } => *at,
+        Question::Body { address, .. } => *address,
+        _ => return None,
+    };
+    Some(if number == "14" { NOWHERE } else { address })
+}
+
+/// Our answer to such a question without the address, which the crate does not have; `None`
+/// if it is a refusal with another address than the one that is due, or without any.
+fn without_address(question: &Question, ours: &[u8]) -> Option<Vec<u8>> {
+    if !ours.starts_with(b"refused") {
+        return Some(ours.to_vec());
+    }
+    let (plain, address) = parted(std::str::from_utf8(ours).ok()?)?;
+    let due = address_due(question, plain.strip_prefix("refused ")?)?;
+    (address == due).then(|| plain.into_bytes())
+}
+
+/// An answer of the crate as ours has to be where both agree: a refusal has its address.
+/// Where they don't, it is the crate's own.
+pub fn as_ours(question: &Question, theirs: &[u8]) -> Vec<u8> {
+    if let Some(due) = due(question) {
+        let equal = plain(&due.ours).as_bytes() == theirs;
+        return if equal {
+            due.ours.into_bytes()
+        } else {
+            theirs.to_vec()
+        };
+    }
+    let number = theirs.strip_prefix(b"refused ");
+    let number = number.and_then(|number| std::str::from_utf8(number).ok());
+    match number.and_then(|number| address_due(question, number)) {
+        Some(address) => [theirs, format!(" at {address}").as_bytes()].concat(),
+        None => theirs.to_vec(),
+    }
+}
+
 /// Judges one case.
 pub fn verdict(case: &Case) -> Verdict {
+    let Some(question) = parse(case.question) else {
+        return equality(case);
+    };
     // Agreeing with the crate is no excuse where a rule holds.
-    if let Some(question) = parse(case.question) {
-        if let Some(due) = due(&question) {
-            return known_verdict(&due, case);
-        }
-        for (name, rule) in RULES {
-            match rule(&question, case) {
-                Some(true) => return Verdict::Exception(name),
-                Some(false) => return Verdict::Unexplained,
-                None => {}
-            }
+    if let Some(due) = due(&question) {
+        return known_verdict(&due, case);
+    }
+    let Some(ours) = without_address(&question, case.ours) else {
+        return Verdict::Unexplained;
+    };
+    let case = &Case {
+        ours: &ours,
+        ..*case
+    };
+    for (name, rule) in RULES {
+        match rule(&question, case) {
+            Some(true) => return Verdict::Exception(name),
+            Some(false) => return Verdict::Unexplained,
+            None => {}
         }
     }
+    equality(case)
+}
+
+/// Compares our answer with those of both builds.
+fn equality(case: &Case) -> Verdict {
     let checked = case.ours == case.checked;
     let wrapping = case.ours == case.wrapping;
     if checked && wrapping {
@@ -160,8 +216,8 @@ pub fn due(question: &Question) -> Option<Due> {
         .or_else(|| records::due(question))
 }
 
-/// There every answer is known beforehand. A crate that answers otherwise shows that
-/// the judge's reading is wrong.
+/// There every answer is known beforehand, ours with the address of a refusal. A crate that
+/// answers otherwise shows that the judge's reading is wrong.
 fn known_verdict(due: &Due, case: &Case) -> Verdict {
     let pairs = [
         (&due.ours, case.ours),

@@ -2,6 +2,7 @@
 //! own reading: ours by document 01's terms, the crate's by its own.
 
 use crate::reading::{part, rows, End, Payload, Row, Terms, CRATE, OURS};
+use crate::refusal::{plain, refused};
 use question::{rows_in, whole_rows, Question, MOST_NUMBERS, WIDTH};
 use std::fmt::Write;
 use tools::ids::{STRING_KIND, UTF8_KIND};
@@ -13,26 +14,30 @@ pub struct Due {
     /// The answers of the crate's two builds.
     pub checked: String,
     pub wrapping: String,
-    /// Why they differ, by the name of the rule; `None` if they don't.
+    /// Why they differ, by the name of the rule; `None` if they don't. That the crate has
+    /// no addresses is no difference.
     pub exception: Option<&'static str>,
 }
+
+/// The address of 14 and 15, which tell of no element.
+pub const NOWHERE: u64 = 0;
 
 /// The answers due to a question; `None` if it is not about the element table.
 pub fn due(question: &Question) -> Option<Due> {
     if let Question::Range { table, row, bytes } = question {
         let told = range(table, *row, bytes.len());
         return Some(Due {
-            ours: told.clone(),
-            checked: told.clone(),
-            wrapping: told,
+            checked: plain(&told),
+            wrapping: plain(&told),
+            ours: told,
             exception: None,
         });
     }
     let payload = payload_of(question)?;
     let ours = answer(question, &payload, OURS);
-    let theirs = answer(question, &payload, CRATE);
-    let bounded = || answer(question, &payload, BOUNDED);
-    let exception = (ours != theirs).then(|| reason(&bounded(), &theirs));
+    let theirs = plain(&answer(question, &payload, CRATE));
+    let bounded = || plain(&answer(question, &payload, BOUNDED));
+    let exception = (plain(&ours) != theirs).then(|| reason(&bounded(), &theirs));
     Some(Due {
         ours,
         checked: theirs.clone(),
@@ -124,7 +129,7 @@ fn answer(question: &Question, payload: &Payload, terms: Terms) -> String {
 pub fn with_table(answer: Result<String, End>) -> String {
     match answer {
         Ok(told) => told,
-        Err(End::Refused(number)) => format!("refused {number} table 0"),
+        Err(End::Refused(number, address)) => refused(number, None, address) + " table 0",
         Err(End::Memory) => "memory".to_string(),
     }
 }
@@ -133,7 +138,7 @@ pub fn with_table(answer: Result<String, End>) -> String {
 fn arguments(payload: &Payload, terms: Terms) -> Result<(), End> {
     let past_end = payload.start > payload.bytes.len() as u64;
     if terms.bounds && (past_end || broken(payload.numbers)) {
-        return Err(End::Refused(14));
+        return Err(End::Refused(14, NOWHERE));
     }
     Ok(())
 }
@@ -154,7 +159,7 @@ pub fn read(payload: &Payload, terms: Terms) -> Result<Vec<Row>, End> {
 fn whose(payload: &Payload, address: u64, terms: Terms) -> Result<String, End> {
     arguments(payload, terms)?;
     if address < payload.start || address - payload.start >= payload.size {
-        return Err(End::Refused(15));
+        return Err(End::Refused(15, NOWHERE));
     }
     let rows = rows(payload, terms)?;
     Ok(format!("{} {}", holder(&rows, address), table(&rows)))
@@ -178,7 +183,7 @@ fn holder(rows: &[Row], address: u64) -> String {
 /// used is all zeros: an empty part.
 fn bytes_of(payload: &Payload, rows: &[Row], row: u64) -> String {
     if row >= rows_in(payload.numbers) {
-        return "refused 14".to_string();
+        return refused(14, None, NOWHERE);
     }
     match rows.get(row as usize) {
         Some(row) => told_bytes("bytes ", payload, row),
@@ -196,7 +201,7 @@ fn text_of(payload: &Payload, rows: &[Row], row: u64) -> String {
             let place = format!("text {}+{} ", row.address + row.header, row.payload);
             told_bytes(&place, payload, row)
         }
-        None => "refused 14".to_string(),
+        None => refused(14, None, NOWHERE),
     }
 }
 
@@ -216,12 +221,12 @@ fn told_bytes(words: &str, payload: &Payload, row: &Row) -> String {
 fn range(table: &[u64], row: u64, length: usize) -> String {
     let numbers = table.len() as u64;
     if broken(numbers) || row >= rows_in(numbers) {
-        return "refused 14".to_string();
+        return refused(14, None, NOWHERE);
     }
     let place = WIDTH * row as usize;
     let [address, header, payload] = [2, 3, 4].map(|field| u128::from(table[place + field]));
     if address + header + payload > length as u128 {
-        return "refused 14".to_string();
+        return refused(14, None, NOWHERE);
     }
     format!("at {}+{payload}", address + header)
 }

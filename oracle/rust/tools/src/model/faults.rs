@@ -2,6 +2,28 @@
 //! that has it does. Such a reader could well be written, and the comparison and
 //! the stored lists have to find every one.
 
+/// Those of single headers and bodies: which address a refusal carries.
+pub const SINGLE: &str = "\
+header-at-zero: a bad header is told by 0
+header-at-size: a bad size is told by its own address
+header-at-end: a header that ends too early is told by the recording's end
+header-14-at: 14 of a header carries the place that was asked for
+header-14-end: 14 of a header carries the recording's end
+body-at-place: a refused body is told by its place
+body-at-zero: a refused body is told by 0
+body-at-before: a refused body is told by a header of two bytes before it
+body-at-behind: a refused body is told by the place behind it
+body-at-32: the address of a header has 32 bits
+body-at-held: a refused body is told by the recording's end if its header is said to be behind it
+body-at-missing: a body that ends too early is told by its place
+body-at-size: a body of a wrong size is told by its place
+body-at-text: a body that is no text is told by its place
+body-14-address: 14 of a body carries the address of the header
+body-14-place: 14 of a body carries the place that was asked for
+body-14-past: an address past the end is 14
+body-14-order: an address that is not before the place is 14
+";
+
 /// Those of the element table and the search.
 pub const TABLE: &str = "\
 parent-off: a parent is the row's number, without the 1
@@ -148,6 +170,68 @@ late-14: 14 comes after the search
 inner-place-14: a sought place past the end is 14
 at-header: a part is told by its header's address
 size-whole: a part's size is told with its header
+at-none: a refusal has no address
+at-none-14: 14 and 15 have no address
+at-zero: every address is 0
+at-32: an address has 32 bits
+at-hex: an address is told in hexadecimal digits
+at-behind: an address is told behind the table
+at-relative: an address counts from the start of the payload that is read
+at-held: an address past the end is told as the recording's end
+at-header-master: a bad header is told by its master's address
+at-header-before: a bad header is told by the last element before it
+at-header-size: a bad size is told by its own address
+at-header-end: a header that ends too early is told by the recording's end
+at-missing-payload: a body that ends too early is told by its own address
+at-missing-end: a body that ends too early is told by the recording's end
+at-size-payload: a body of a wrong size is told by its own address
+at-text-payload: a body that is no text is told by its own address
+at-text-byte: a body that is no text is told by its first wrong byte
+at-body-master: a refused body is told by its master's address
+at-overrun-master: an overrun is told by the master's address
+at-overrun-end: an overrun is told by the place where the master ends
+at-overrun-behind: an overrun is told by the place behind the child
+at-depth-master: 12 carries the master's address
+at-depth-outer: 12 carries the outermost master's address
+at-rows-master: 13 carries the master's address
+at-rows-last: 13 carries the address of the last row that had room
+at-limits-payload: 12 and 13 carry the address behind the header
+at-14: 14 carries the start that was asked for
+at-14-end: 14 carries the recording's end
+at-15: 15 carries the address that was asked for
+at-15-start: 15 carries the start of the payload
+at-row: a row that is not in the table is told by its number
+at-range: a row whose range is not in the recording is told by its address
+at-text-row: a row that is no text row is told by its address
+at-file-last: where no segment is found the last element is told
+at-file-zero: where no segment is found 0 is told
+at-child-segment: a bad header in the segment is told by the segment's address
+at-child-before: a bad header in the segment is told by the child before it
+at-skip-segment: a skipped child that overruns is told by the segment's address
+at-skip-start: a skipped child that overruns is told by the start of the segment's payload
+at-skip-end: a skipped child that overruns is told by the segment's end
+at-skip-behind: a skipped child that overruns is told by the place behind it
+at-head-inner: what is refused in a head is told by the head's address
+at-part-inner: what is refused in a part is told by the part's address
+at-sought-head: a bad header at a sought address is told by the last head's address
+at-sought-seek: a bad header at a sought address is told by the Seek's address
+at-sought-position: a bad header at a sought address is told by the position
+at-nine-head: 9 carries the last head's address
+at-nine-payload: 9 carries the address behind the header that was found
+at-nine-segment: 9 carries the segment's address
+at-eight-first: 8 carries the first head's address
+at-eight-holder: 8 carries the address of the head that has the entry
+at-eight-before: 8 carries the address of the head before the last
+at-eight-payload: 8 carries the address behind the last head's header
+at-eight-seek: 8 carries the Seek's address
+at-eight-start: 8 carries the start of the segment's payload
+at-eight-wrapped: 8 carries the sum as it wraps
+at-ten-last: 10 carries the last head's address
+at-ten-first: 10 carries the first head's address
+at-ten-holder: 10 carries the address of the head that has the entry
+at-eleven-last: 11 carries the 64th head's address
+at-eleven-first: 11 carries the first head's address
+at-eleven-nothing: 11 carries 0 where nothing is at the address
 ";
 
 /// Those of the records, the label and the track types.
@@ -158,6 +242,9 @@ record-any-id: every direct row of the payload is counted as a record
 record-15-kept: 15 after the read leaves what was read
 record-15-first: 15 comes before the read where it can be known
 record-15-early: 15 comes before 14 where it can be known
+record-15-start: 15 carries the start of the payload
+record-15-last: 15 carries the last row's address
+record-15-outer: 15 carries the address of the record that lacks the member
 record-rows: only the record's own rows are counted
 index-1: the first index counts from 1
 inner-index-1: the inner indices count from 1
@@ -301,13 +388,15 @@ gamma-unset: a gamma of 0 is told as unset
 ";
 
 /// The faults of records that a reader of tracks could have as well.
-pub const SHARED: [&str; 42] = [
+pub const SHARED: [&str; 44] = [
     "record-parent",
     "record-any-depth",
     "record-any-id",
     "record-15-kept",
     "record-15-first",
     "record-15-early",
+    "record-15-start",
+    "record-15-last",
     "record-rows",
     "index-1",
     "index-32",

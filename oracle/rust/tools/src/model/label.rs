@@ -1,5 +1,6 @@
 //! The stage label and the track types, which need no table.
 
+use crate::refusal::refusal;
 use crate::Fault;
 use std::fmt::Write;
 
@@ -11,7 +12,7 @@ pub fn label(range: Option<(u64, u64)>, label: &[u8], bytes: &[u8], fault: Fault
         None => label,
         Some((address, length)) => match within(address, length, bytes, fault) {
             Some(shown) => shown,
-            None if refused => return "refused 14".to_string(),
+            None if refused => return refusal(14, 0).told(None, "", fault),
             None => label,
         },
     };

@@ -1,6 +1,7 @@
 //! The lent table and the read that fills it, element by element with a list of
 //! the masters that are open.
 
+use crate::refusal::{refusal, Refusal};
 use crate::Fault;
 use question::{whole_rows, MOST_NUMBERS, WIDTH};
 use std::fmt::Write;
@@ -39,6 +40,8 @@ pub struct Lent {
 /// A master that is being read, or the whole payload.
 struct Open {
     id: u32,
+    /// The address of its header, or where the payload starts.
+    at: u64,
     /// Its row's number plus 1, or 0.
     row: u64,
     /// Header and payload.
@@ -80,7 +83,7 @@ impl Lent {
     }
 
     /// 14 for the arguments, which comes before all else.
-    pub fn arguments(&self, read: &Read) -> Result<(), u64> {
+    pub fn arguments(&self, read: &Read) -> Result<(), Refusal> {
         let (count, length) = (self.numbers.len() as u64, read.bytes.len() as u64);
         let past = if self.fault.is("start-at-end") {
             read.start >= length
@@ -88,22 +91,32 @@ impl Lent {
             read.start > length && !self.fault.is("start-past")
         };
         if past || broken(count, self.fault) {
-            return Err(14);
+            let wrong = [("at-14", read.start), ("at-14-end", length)];
+            return Err(refusal(14, 0).or(self.fault, &wrong));
         }
         Ok(())
     }
 
     /// Fills the table with the rows of a payload.
-    pub fn read(&mut self, read: &Read) -> Result<(), u64> {
+    pub fn read(&mut self, read: &Read) -> Result<(), Refusal> {
         self.arguments(read)?;
         self.fill(read)
     }
 
     /// The same without a look at the arguments.
-    pub fn fill(&mut self, read: &Read) -> Result<(), u64> {
+    pub fn fill(&mut self, read: &Read) -> Result<(), Refusal> {
+        let filled = self.fill_from(read);
+        filled.map_err(|bad| {
+            let from = bad.at.wrapping_sub(read.start);
+            bad.or(self.fault, &[("at-relative", from)])
+        })
+    }
+
+    fn fill_from(&mut self, read: &Read) -> Result<(), Refusal> {
         let mut at = read.start;
         let mut open = vec![Open {
             id: read.parent,
+            at,
             row: 0,
             whole: 0,
             end: read.start.saturating_add(read.size),
@@ -114,9 +127,9 @@ impl Lent {
                 at = self.element(at, read.bytes, &mut open)?;
                 continue;
             }
-            let whole = master.whole;
+            let (own, whole) = (master.at, master.whole);
             open.pop();
-            self.take(whole, &mut open)?;
+            self.take(own, whole, &mut open)?;
         }
         self.set_after();
         if self.fault.is("last-row") && self.used > 0 {
@@ -166,10 +179,10 @@ impl Lent {
     }
 
     /// One element, of a master only the header. Gives the next place.
-    fn element(&mut self, at: u64, bytes: &[u8], open: &mut Vec<Open>) -> Result<u64, u64> {
+    fn element(&mut self, at: u64, bytes: &[u8], open: &mut Vec<Open>) -> Result<u64, Refusal> {
         let depth = open.len() as u64 - 1;
         let master = &open[depth as usize];
-        let (left, parent) = (master.left, master.row);
+        let (left, parent, outer) = (master.left, master.row, master.at);
         let end = open.iter().map(|open| open.end).min().unwrap_or(0);
         let bytes = if self.fault.is("held") {
             &bytes[..bytes.len().min(end as usize)]
@@ -178,22 +191,27 @@ impl Lent {
         };
 
         if self.fault.is("limits-first") {
-            self.limits(depth)?;
+            self.limits(at, at, open)?;
         }
-        let [id, header, size] = self.header(bytes, at, left)?;
+        let [id, header, size] = self.header(bytes, at, left).map_err(|bad| {
+            let before = self.last_row().unwrap_or(outer);
+            let wrong = [("at-header-master", outer), ("at-header-before", before)];
+            bad.or(self.fault, &wrong)
+        })?;
         let kind = self.kind(id as u32, open);
         let body = at + header;
         if self.fault.is("overrun-first") && header + size > left {
-            return Err(3);
+            return Err(refusal(3, at));
         }
         if kind != 1 && self.fault.is("limits-last") {
-            self.body(kind, bytes, body, size)?;
+            self.body(kind, bytes, at, body, size)?;
         }
-        self.limits(depth)?;
+        self.limits(at, body, open)?;
         self.row([id, parent, at, header, size, kind, depth, 0]);
         if kind == 1 {
             open.push(Open {
                 id: id as u32,
+                at,
                 row: self.used as u64,
                 whole: header + size,
                 end: body + size,
@@ -201,35 +219,55 @@ impl Lent {
             });
             return Ok(body);
         }
-        self.body(kind, bytes, body, size)?;
-        self.take(header + size, open)?;
+        let read = self.body(kind, bytes, at, body, size);
+        read.map_err(|bad| bad.or(self.fault, &[("at-body-master", outer)]))?;
+        self.take(at, header + size, open)?;
         Ok(body + size)
     }
 
+    /// The address of the last row's header.
+    fn last_row(&self) -> Option<u64> {
+        let last = self.used.checked_sub(1)?;
+        self.numbers.get(WIDTH * last + 2).copied()
+    }
+
     /// The header at a place: the id, its own length and the payload's.
-    pub fn header(&self, bytes: &[u8], at: u64, left: u64) -> Result<[u64; 3], u64> {
-        let (id, width) = self.marked(bytes, at, 4, 2)?;
-        let (size, size_width) = self.marked(bytes, at + width, 8, 3)?;
+    pub fn header(&self, bytes: &[u8], at: u64, left: u64) -> Result<[u64; 3], Refusal> {
+        let bad = |number| {
+            let end = if number == 1 { bytes.len() as u64 } else { at };
+            refusal(number, at).or(self.fault, &[("at-header-end", end)])
+        };
+        let (id, width) = self.marked(bytes, at, 4, 2).map_err(bad)?;
+        let place = at + width;
+        let wrong = [("at-header-size", place), ("header-at-size", place)];
+        let size = self.marked(bytes, place, 8, 3);
+        let (size, size_width) = size.map_err(|number| bad(number).or(self.fault, &wrong))?;
         let header = width + size_width;
         let size = self.payload_size(size, size_width, left.saturating_sub(header));
         Ok([id, header, size])
     }
 
-    /// Takes a whole element from what its master has left.
-    fn take(&self, whole: u64, open: &mut [Open]) -> Result<(), u64> {
+    /// Takes a whole element, whose header stands there, from what its master has left.
+    fn take(&self, at: u64, whole: u64, open: &mut [Open]) -> Result<(), Refusal> {
         let outer = open.len() == 1;
         let Some(master) = open.last_mut() else {
             return Ok(());
         };
         let tested = !self.fault.is("overrun-never") && (outer || !self.fault.is("overrun-outer"));
         if whole > master.left && tested {
-            return Err(3);
+            let wrong = [
+                ("at-overrun-master", master.at),
+                ("at-overrun-end", master.end),
+                ("at-overrun-behind", at + whole),
+            ];
+            return Err(refusal(3, at).or(self.fault, &wrong));
         }
         master.left = master.left.saturating_sub(whole);
         Ok(())
     }
 
-    fn limits(&self, depth: u64) -> Result<(), u64> {
+    /// 12 and 13 for an element by the addresses of its header and of its payload.
+    fn limits(&self, at: u64, body: u64, open: &[Open]) -> Result<(), Refusal> {
         let deepest = match () {
             () if self.head && self.fault.is("head-deep") => return Ok(()),
             () if self.head && self.fault.is("head-depth") => 14,
@@ -240,15 +278,23 @@ impl Lent {
         let short = usize::from(self.fault.is("row-short"));
         let room = self.numbers.len() / WIDTH;
         let full = self.used + short >= room && !self.fault.is("rows-dropped");
-        let deep = depth > deepest;
-        if deep && full && self.fault.is("rows-first") {
-            return Err(13);
-        }
-        if deep {
-            return Err(12);
+        let deep = open.len() as u64 - 1 > deepest;
+        let master = open.last().map_or(at, |master| master.at);
+        if deep && !(full && self.fault.is("rows-first")) {
+            let wrong = [
+                ("at-depth-master", master),
+                ("at-depth-outer", open.get(1).map_or(at, |outer| outer.at)),
+                ("at-limits-payload", body),
+            ];
+            return Err(refusal(12, at).or(self.fault, &wrong));
         }
         if full {
-            return Err(13);
+            let wrong = [
+                ("at-rows-master", master),
+                ("at-rows-last", self.last_row().unwrap_or(at)),
+                ("at-limits-payload", body),
+            ];
+            return Err(refusal(13, at).or(self.fault, &wrong));
         }
         Ok(())
     }
@@ -322,46 +368,63 @@ impl Lent {
         ids::kind(id, parent)
     }
 
-    /// A leaf's body: its size, the end of the recording, its text.
-    fn body(&self, kind: u64, bytes: &[u8], at: u64, size: u64) -> Result<(), u64> {
+    /// A leaf's body: its size, the end of the recording, its text. The header stands at its
+    /// own address.
+    pub fn body(
+        &self,
+        kind: u64,
+        bytes: &[u8],
+        own: u64,
+        at: u64,
+        size: u64,
+    ) -> Result<(), Refusal> {
         if self.head && self.fault.is("head-unchecked") {
             return Ok(());
         }
         let there = bytes.len() as u64 >= at && bytes.len() as u64 - at >= size;
-        let missing = if self.fault.is("inner-14") { 14 } else { 1 };
+        let number = if self.fault.is("inner-14") { 14 } else { 1 };
+        let wrong = [
+            ("at-missing-payload", at),
+            ("at-missing-end", bytes.len() as u64),
+        ];
+        let missing = refusal(number, own).or(self.fault, &wrong);
+        let sized = |number| Err(refusal(number, own).or(self.fault, &[("at-size-payload", at)]));
         if !there && self.fault.is("end-first") {
             return Err(missing);
         }
         match (kind, size) {
-            (2, 0) if self.fault.is("empty-signed") => return Err(1),
+            (2, 0) if self.fault.is("empty-signed") => return sized(1),
             (2 | 3, 0..=8) | (7, 4 | 8) | (8, 8) | (1 | 4 | 5 | 6, _) => {}
-            (7, _) => return Err(5),
-            (8, _) => return Err(6),
-            _ => return Err(4),
+            (7, _) => return sized(5),
+            (8, _) => return sized(6),
+            _ => return sized(4),
         }
         if !there {
             return Err(missing);
         }
         let body = &bytes[at as usize..(at + size) as usize];
         let text = kind == 4 || kind == 5;
-        if text && !self.fault.is("text-unchecked") && String::from_utf8(body.to_vec()).is_err() {
-            return Err(7);
+        let wrong = String::from_utf8(body.to_vec()).err();
+        if let Some(wrong) = wrong.filter(|_| text && !self.fault.is("text-unchecked")) {
+            let byte = at + wrong.utf8_error().valid_up_to() as u64;
+            let wrong = [("at-text-payload", at), ("at-text-byte", byte)];
+            return Err(refusal(7, own).or(self.fault, &wrong));
         }
         Ok(())
     }
 
     /// Tells an answer with the table behind it, or a refusal with what the
     /// table holds then.
-    pub fn told(&mut self, answer: Result<String, u64>) -> String {
+    pub fn told(&mut self, answer: Result<String, Refusal>) -> String {
         self.told_with(answer, true)
     }
 
     /// The same of a record, where the rows are only counted.
-    pub fn counted(&mut self, answer: Result<String, u64>) -> String {
+    pub fn counted(&mut self, answer: Result<String, Refusal>) -> String {
         self.told_with(answer, false)
     }
 
-    fn told_with(&mut self, answer: Result<String, u64>, rows: bool) -> String {
+    fn told_with(&mut self, answer: Result<String, Refusal>, rows: bool) -> String {
         let mut told = match answer {
             Ok(before) => {
                 let absent = before.starts_with("absent") && self.fault.is("absent-kept");
@@ -370,7 +433,8 @@ impl Lent {
                 }
                 before
             }
-            Err(number) => {
+            Err(refusal) => {
+                let number = refusal.number;
                 let argument = number == 14 || number == 15;
                 let kept = self.fault.is("table-kept")
                     || argument && self.fault.is("table-kept-14")
@@ -378,9 +442,9 @@ impl Lent {
                 if !kept {
                     self.clear(0, self.fault.is("table-narrow"));
                 }
-                let table = if zero(&self.numbers) { "0" } else { "dirty" };
-                let about = self.about.map_or(String::new(), |id| format!(" {id:X}"));
-                return format!("refused {number}{about} table {table}");
+                let clear = zero(&self.numbers);
+                let table = if clear { " table 0" } else { " table dirty" };
+                return refusal.told(self.about, table, self.fault);
             }
         };
         write!(told, "rows {}", self.used).expect("a string takes everything");

@@ -1,21 +1,25 @@
-//! A model of our reader for the questions about the element table, the search for
-//! a part and the records, to test the judge and the stored lists with: `model`
-//! answers the questions on standard input as document 01 orders, `model FAULT` with
-//! one fault. `model faults` tells the faults, `model faults table`, `model faults record`
-//! and `model faults track` those of one sort. It shares no reading with the judge.
+//! A model of our reader, to test the judge and the stored lists with: `model` answers the
+//! questions on standard input as documents 01 and 02 order, `model FAULT` with one fault.
+//! `model faults` tells the faults, `model faults SORT` those of one sort: of single headers
+//! and bodies, of the element table and the search, of records, and of tracks. It shares no
+//! reading with the judge.
 
 mod faults;
 mod label;
 mod lent;
 mod places;
 mod records;
+mod refusal;
 mod search;
+mod single;
 mod track;
 
-use faults::{RECORD, SHARED, TABLE, TRACK};
+use faults::{RECORD, SHARED, SINGLE, TABLE, TRACK};
 use lent::{Lent, Read};
 use question::{parse, rows_in, Question};
+use refusal::{refusal, Refusal};
 use std::io::{self, BufRead, BufWriter, Write};
+use tools::ids::kind;
 
 /// The fault of this run, or none.
 #[derive(Clone, Copy)]
@@ -32,13 +36,14 @@ fn main() {
     let arguments: Vec<String> = std::env::args().skip(1).collect();
     let done = match &arguments[..] {
         [] => answer_all(Fault(None)),
-        [word] if word == "faults" => tell(&[TABLE, RECORD, TRACK]),
+        [word] if word == "faults" => tell(&[SINGLE, TABLE, RECORD, TRACK]),
+        [word, sort] if word == "faults" && sort == "single" => tell(&[SINGLE]),
         [word, sort] if word == "faults" && sort == "table" => tell(&[TABLE]),
         [word, sort] if word == "faults" && sort == "record" => tell(&[RECORD]),
         [word, sort] if word == "faults" && sort == "track" => tell(&[TRACK, &shared()]),
         [word] if known(word).is_some() => answer_all(Fault(known(word))),
         _ => {
-            eprintln!("usage: model [FAULT]\n       model faults [table|record|track]");
+            eprintln!("usage: model [FAULT]\n       model faults [single|table|record|track]");
             std::process::exit(2);
         }
     };
@@ -65,8 +70,8 @@ fn named(line: &str) -> &str {
 
 /// The fault of that name.
 fn known(word: &str) -> Option<&'static str> {
-    let lines = TABLE.lines().chain(RECORD.lines()).chain(TRACK.lines());
-    let mut names = lines.map(named);
+    let sorts = [SINGLE, TABLE, RECORD, TRACK];
+    let mut names = sorts.into_iter().flat_map(str::lines).map(named);
     names.find(|name| *name == word)
 }
 
@@ -85,7 +90,31 @@ fn answer_all(fault: Fault) -> io::Result<()> {
 }
 
 fn answer(question: &Question, fault: Fault) -> String {
+    // The answer of a call that has no table.
+    let told = |answer: Result<String, Refusal>| {
+        answer.unwrap_or_else(|refusal| refusal.told(None, "", fault))
+    };
     match question {
+        Question::Header { at, bytes } => told(single::header(*at, bytes, fault)),
+        Question::Kind { id, parent } => single::kind(*id, *parent),
+        Question::Utf8 { bytes } => single::utf8(bytes).to_string(),
+        Question::Body {
+            id,
+            parent,
+            at,
+            size,
+            address,
+            bytes,
+        } => {
+            let body = single::Body {
+                kind: kind(*id, *parent),
+                at: *at,
+                size: *size,
+                address: *address,
+                bytes,
+            };
+            told(body.answer(fault))
+        }
         Question::Read {
             start,
             size,
@@ -120,11 +149,11 @@ fn answer(question: &Question, fault: Fault) -> String {
         } => {
             let mut lent = Lent::new(*numbers, fault);
             if fault.is("row-first") && *row >= rows_in(*numbers) {
-                return "refused 14".to_string();
+                return told(Err(refusal(14, 0)));
             }
             match lent.read(&Read::new(*start, *size, *parent, bytes)) {
                 Ok(()) => places::payload(&lent, *row, bytes, fault),
-                Err(number) => lent.told(Err(number)),
+                Err(refusal) => lent.told(Err(refusal)),
             }
         }
         Question::Shown {
@@ -138,7 +167,7 @@ fn answer(question: &Question, fault: Fault) -> String {
             let mut lent = Lent::new(*numbers, fault);
             match lent.read(&Read::new(*start, *size, *parent, bytes)) {
                 Ok(()) => places::shown(&lent, *row, bytes, fault),
-                Err(number) => lent.told(Err(number)),
+                Err(refusal) => lent.told(Err(refusal)),
             }
         }
         Question::Part { id, numbers, bytes } => {
@@ -147,10 +176,8 @@ fn answer(question: &Question, fault: Fault) -> String {
             lent.told(found)
         }
         Question::Range { table, row, bytes } => {
-            match places::range(table, *row, bytes.len() as u64, fault) {
-                Ok((from, length)) => format!("at {from}+{length}"),
-                Err(number) => format!("refused {number}"),
-            }
+            let range = places::range(table, *row, bytes.len() as u64, fault);
+            told(range.map(|(from, length)| format!("at {from}+{length}")))
         }
         Question::TrackType { number } => label::track_type(*number, fault).to_string(),
         Question::Label {
@@ -158,13 +185,11 @@ fn answer(question: &Question, fault: Fault) -> String {
             label,
             bytes,
         } => label::label(*range, label, bytes, fault),
-        _ => match records::asked(question) {
-            Some(asked) => {
-                let mut lent = Lent::new(asked.payload.numbers, fault);
-                let told = records::record(&mut lent, &asked, fault);
-                lent.counted(told)
-            }
-            None => "not a question of the model".to_string(),
-        },
+        _ => {
+            let asked = records::asked(question).expect("all other questions ask for a record");
+            let mut lent = Lent::new(asked.payload.numbers, fault);
+            let told = records::record(&mut lent, &asked, fault);
+            lent.counted(told)
+        }
     }
 }

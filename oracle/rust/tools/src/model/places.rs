@@ -1,6 +1,7 @@
 //! The address question, a row's payload and its shown text, from the lent table.
 
 use crate::lent::{broken, Lent, Read};
+use crate::refusal::{refusal, Refusal};
 use crate::Fault;
 use question::{rows_in, WIDTH};
 use std::fmt::Write;
@@ -8,18 +9,19 @@ use tools::ids::{BINARY_KIND, STRING_KIND, UTF8_KIND};
 
 /// Reads, and tells the row that holds an address, up to where the table stands
 /// in the answer.
-pub fn whose(lent: &mut Lent, read: &Read, address: u64, fault: Fault) -> Result<String, u64> {
+pub fn whose(lent: &mut Lent, read: &Read, address: u64, fault: Fault) -> Result<String, Refusal> {
     let outside = outside(read, address, fault);
+    let nowhere = refusal(15, 0).or(fault, &[("at-15", address), ("at-15-start", read.start)]);
     if outside && fault.is("early-15") {
-        return Err(15);
+        return Err(nowhere);
     }
     lent.arguments(read)?;
     if outside && !fault.is("late-15") {
-        return Err(15);
+        return Err(nowhere);
     }
     lent.read(read)?;
     if outside {
-        return Err(15);
+        return Err(nowhere);
     }
     let rows: Vec<&[u64]> = lent.numbers.chunks_exact(WIDTH).take(lent.used).collect();
     let around = |row: &&[u64]| row[2] <= address && address - row[2] < row[3] + row[4];
@@ -57,15 +59,15 @@ pub fn payload(lent: &Lent, row: u64, bytes: &[u8], fault: Fault) -> String {
     let numbers = written(lent);
     let mut range = range(&numbers, row, bytes.len() as u64, fault);
     if fault.is("unused-14") && row >= lent.used as u64 {
-        range = Err(14);
+        range = Err(refusal(14, 0));
     }
     match range {
         Ok((from, length)) => {
             let part = &bytes[from as usize..(from + length) as usize];
             format!("bytes {}", digits(part))
         }
-        Err(number) if fault.is("row-table") => format!("refused {number} table 0"),
-        Err(number) => format!("refused {number}"),
+        Err(refusal) if fault.is("row-table") => refusal.told(None, " table 0", fault),
+        Err(refusal) => refusal.told(None, "", fault),
     }
 }
 
@@ -93,13 +95,13 @@ pub fn shown(lent: &Lent, row: u64, bytes: &[u8], fault: Fault) -> String {
     let range = range(&numbers, row, bytes.len() as u64, fault);
     let shown = range.and_then(|range| {
         let mut rows = numbers.chunks_exact(WIDTH);
-        let row = rows.nth(row as usize).ok_or(14u64)?;
+        let row = rows.nth(row as usize).ok_or(refusal(14, 0))?;
         text(row, range, bytes, fault)
     });
     match shown {
         Ok((from, text)) => format!("text {from}+{} {}", text.len(), digits(text)),
-        Err(number) if fault.is("shown-table") => format!("refused {number} table 0"),
-        Err(number) => format!("refused {number}"),
+        Err(refusal) if fault.is("shown-table") => refusal.told(None, " table 0", fault),
+        Err(refusal) => refusal.told(None, "", fault),
     }
 }
 
@@ -109,7 +111,7 @@ fn text<'a>(
     (from, length): (u64, u64),
     bytes: &'a [u8],
     fault: Fault,
-) -> Result<(u64, &'a [u8]), u64> {
+) -> Result<(u64, &'a [u8]), Refusal> {
     let (header, kind) = (row[2], row[5]);
     let whole = &bytes[from as usize..][..length as usize];
     let is_text = match kind {
@@ -121,7 +123,7 @@ fn text<'a>(
         _ => fault.is("shown-any"),
     };
     if !is_text || whole.is_empty() && fault.is("shown-empty") {
-        return Err(14);
+        return Err(refusal(14, 0).or(fault, &[("at-text-row", header)]));
     }
     let ends = |end: Option<usize>| &whole[..end.unwrap_or(0)];
     Ok(match () {
@@ -142,9 +144,10 @@ fn text<'a>(
 }
 
 /// The payload range of a row: its address and its length.
-pub fn range(numbers: &[u64], row: u64, length: u64, fault: Fault) -> Result<(u64, u64), u64> {
+pub fn range(numbers: &[u64], row: u64, length: u64, fault: Fault) -> Result<(u64, u64), Refusal> {
+    let nowhere = refusal(14, 0);
     if broken(numbers.len() as u64, fault) {
-        return Err(14);
+        return Err(nowhere);
     }
     let count = if fault.is("row-narrow") {
         numbers.len() as u64 / (WIDTH as u64 - 1)
@@ -155,7 +158,7 @@ pub fn range(numbers: &[u64], row: u64, length: u64, fault: Fault) -> Result<(u6
         return Ok((0, 0));
     }
     if row >= count {
-        return Err(14);
+        return Err(nowhere.or(fault, &[("at-row", row)]));
     }
     // A faulty reader may take a row of which nothing is there.
     let rest = numbers.get(WIDTH * row as usize..).unwrap_or(&[]);
@@ -163,7 +166,7 @@ pub fn range(numbers: &[u64], row: u64, length: u64, fault: Fault) -> Result<(u6
         return Ok((0, 0));
     };
     if after > count && fault.is("range-after") {
-        return Err(14);
+        return Err(nowhere);
     }
     let end = if fault.is("range-wraps") {
         Some(address.wrapping_add(header).wrapping_add(payload))
@@ -178,7 +181,7 @@ pub fn range(numbers: &[u64], row: u64, length: u64, fault: Fault) -> Result<(u6
         length
     };
     if !end.is_some_and(|end| end <= most) {
-        return Err(14);
+        return Err(nowhere.or(fault, &[("at-range", address)]));
     }
     let from = if fault.is("range-address") {
         address

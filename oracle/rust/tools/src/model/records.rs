@@ -2,6 +2,7 @@
 //! with each field as it stands by then.
 
 use crate::lent::{Lent, Read};
+use crate::refusal::{refusal, Refusal};
 use crate::Fault;
 use question::{rows_in, List, Payload, Question, WIDTH};
 use tools::ids::*;
@@ -74,7 +75,7 @@ fn part_of(parent: u32) -> u32 {
 }
 
 /// Reads, and tells the record, up to where the table stands in the answer.
-pub fn record(lent: &mut Lent, asked: &Asked, fault: Fault) -> Result<String, u64> {
+pub fn record(lent: &mut Lent, asked: &Asked, fault: Fault) -> Result<String, Refusal> {
     let payload = asked.payload;
     let parent = if fault.is("record-parent") {
         part_of(asked.parent)
@@ -87,11 +88,11 @@ pub fn record(lent: &mut Lent, asked: &Asked, fault: Fault) -> Result<String, u6
     let most = if audio { 1 } else { rows_in(payload.numbers) };
     let beyond = asked.path[0].1 >= most;
     if beyond && fault.is("record-15-early") {
-        return Err(15);
+        return Err(refusal(15, 0));
     }
     lent.arguments(&read)?;
     if beyond && fault.is("record-15-first") {
-        return Err(15);
+        return Err(refusal(15, 0));
     }
     lent.fill(&read)?;
     let rows = lent.numbers.chunks_exact(WIDTH).take(lent.used).collect();
@@ -100,7 +101,8 @@ pub fn record(lent: &mut Lent, asked: &Asked, fault: Fault) -> Result<String, u6
         bytes: &payload.bytes,
         fault,
     };
-    let told = table.told(asked)?;
+    let told = table.told(asked);
+    let told = told.map_err(|bad| bad.or(fault, &[("record-15-start", payload.start)]))?;
     if fault.is("record-rows") {
         lent.used = lent.used.min(1);
     }
@@ -185,8 +187,10 @@ impl Table<'_> {
     }
 
     /// The record with an index.
-    fn nth<T: Copy>(&self, all: &[T], index: u64, outer: bool) -> Result<T, u64> {
+    fn nth<T: Copy>(&self, all: &[T], index: u64, outer: bool) -> Result<T, Refusal> {
         let fault = self.fault;
+        let last = self.rows.last().map_or(0, |row| row[2]);
+        let missing = refusal(15, 0).or(fault, &[("record-15-last", last)]);
         let index = match () {
             () if fault.is("index-1") && outer => index.wrapping_sub(1),
             () if fault.is("inner-index-1") && !outer => index.wrapping_sub(1),
@@ -194,13 +198,13 @@ impl Table<'_> {
             () => index,
         };
         if fault.is("index-last") && index >= all.len() as u64 {
-            return all.last().copied().ok_or(15);
+            return all.last().copied().ok_or(missing);
         }
         let found = all.iter().zip(0u64..).find(|(_, own)| *own == index);
-        found.map(|(thing, _)| *thing).ok_or(15)
+        found.map(|(thing, _)| *thing).ok_or(missing)
     }
 
-    fn told(&self, asked: &Asked) -> Result<String, u64> {
+    fn told(&self, asked: &Asked) -> Result<String, Refusal> {
         let mut master = Master { row: None };
         for (level, (id, index)) in asked.path.iter().enumerate() {
             if *id == AUDIO {
@@ -212,7 +216,10 @@ impl Table<'_> {
             if *id == TRACK {
                 all = self.counted_tracks(all);
             }
-            master = self.nth(&all, *index, level == 0)?;
+            let outer = master.row.map_or(0, |row| self.rows[row][2]);
+            let found = self.nth(&all, *index, level == 0);
+            let found = found.map_err(|bad| bad.or(self.fault, &[("record-15-outer", outer)]));
+            master = found?;
         }
         match &asked.sort {
             Sort::Attachment => self.attachment(master),
@@ -352,11 +359,12 @@ impl Table<'_> {
         }
     }
 
-    fn attachment(&self, file: Master) -> Result<String, u64> {
+    fn attachment(&self, file: Master) -> Result<String, Refusal> {
         let field = |id| self.field(file, id);
         let data = field(FILE_DATA);
         if let Some(row) = data.filter(|_| self.fault.is("data-text")) {
-            String::from_utf8(self.body(row).to_vec()).map_err(|_| 7u64)?;
+            let at = self.rows[row][2];
+            String::from_utf8(self.body(row).to_vec()).map_err(|_| refusal(7, at))?;
         }
         Ok(format!(
             "description {} name {} mime {} data {}",
@@ -459,7 +467,7 @@ impl Table<'_> {
         rows
     }
 
-    fn member(&self, tag: Master, list: List, index: u64) -> Result<String, u64> {
+    fn member(&self, tag: Master, list: List, index: u64) -> Result<String, Refusal> {
         match self.nth(&self.list(tag, list), index, false) {
             Err(_) if self.fault.is("list-zero") => Ok("uid 0".to_string()),
             row => Ok(format!("uid {}", self.number(row?))),

@@ -2,16 +2,18 @@
 //! the part's own rows into the lent table.
 
 use crate::lent::{Lent, Read};
+use crate::refusal::{refusal, Refusal};
 use crate::Fault;
 use question::{numbers_of, WIDTH};
 use tools::ids::{part_parent, SEEK, SEEK_HEAD, SEEK_ID, SEEK_POSITION, SEGMENT};
 
 /// Searches and reads, up to where the table stands in the answer.
-pub fn part(lent: &mut Lent, wanted: u32, bytes: &[u8], fault: Fault) -> Result<String, u64> {
+pub fn part(lent: &mut Lent, wanted: u32, bytes: &[u8], fault: Fault) -> Result<String, Refusal> {
     let known = part_parent(wanted);
     let arguments = lent.arguments(&Read::new(0, 0, 0, bytes));
+    let length = bytes.len() as u64;
     let arguments = arguments.and(match known {
-        None if !fault.is("other-id") => Err(14),
+        None if !fault.is("other-id") => Err(refusal(14, 0).or(fault, &[("at-14-end", length)])),
         _ => Ok(()),
     });
     if !fault.is("late-14") {
@@ -27,6 +29,7 @@ pub fn part(lent: &mut Lent, wanted: u32, bytes: &[u8], fault: Fault) -> Result<
         parent,
         bytes,
         fault,
+        segment: 0,
         start: 0,
         end: 0,
         heads: Vec::new(),
@@ -36,7 +39,7 @@ pub fn part(lent: &mut Lent, wanted: u32, bytes: &[u8], fault: Fault) -> Result<
     if told.is_ok() {
         arguments?;
     }
-    told
+    told.map_err(|bad| bad.or(fault, &[("at-held", bad.at.min(length))]))
 }
 
 /// A search and what it has found out so far.
@@ -46,13 +49,24 @@ struct Search<'a> {
     parent: u32,
     bytes: &'a [u8],
     fault: Fault,
+    /// The address of the segment's header.
+    segment: u64,
     /// The segment's payload begins here, and ends here.
     start: u64,
     end: u64,
-    /// The addresses of the heads that were read.
-    heads: Vec<u64>,
-    /// Ids with their positions, as they came.
-    entries: Vec<(u32, u64)>,
+    /// The heads that were read.
+    heads: Vec<Met>,
+    /// The entries of all heads, as they came.
+    entries: Vec<Entry>,
+}
+
+/// An entry: an id and a position, and the addresses of its Seek and of its head.
+#[derive(Clone, Copy)]
+struct Entry {
+    id: u32,
+    position: u64,
+    seek: u64,
+    head: u64,
 }
 
 /// A header: its address, its id, its length and that of the payload.
@@ -71,7 +85,7 @@ impl Met {
 }
 
 impl Search<'_> {
-    fn header(&self, at: u64, left: u64) -> Result<Met, u64> {
+    fn header(&self, at: u64, left: u64) -> Result<Met, Refusal> {
         let [id, header, payload] = self.lent.header(self.bytes, at, left)?;
         Ok(Met {
             at,
@@ -82,14 +96,18 @@ impl Search<'_> {
     }
 
     /// Goes to the segment, and over its children.
-    fn whole(&mut self) -> Result<String, u64> {
-        let mut at = 0;
+    fn whole(&mut self) -> Result<String, Refusal> {
+        let (mut at, mut last) = (0, 0);
         let segment = loop {
             let left = (self.bytes.len() as u64).saturating_sub(at);
             let met = match self.header(at, left) {
-                Err(1) if self.fault.is("no-segment") => return self.absent(),
-                met => met?,
+                Err(bad) if bad.number == 1 && self.fault.is("no-segment") => return self.absent(),
+                met => met.map_err(|bad| {
+                    let wrong = [("at-file-last", last), ("at-file-zero", 0)];
+                    bad.or(self.fault, &wrong)
+                })?,
             };
+            last = at;
             at = met.body() + met.payload;
             if met.id == SEGMENT {
                 break met;
@@ -101,6 +119,7 @@ impl Search<'_> {
                 return self.follow(met);
             }
         };
+        self.segment = segment.at;
         self.end = at;
         self.start = match () {
             () if self.fault.is("position-header") => segment.at,
@@ -136,19 +155,27 @@ impl Search<'_> {
     }
 
     /// Goes over the children of the segment, of which the first stands there.
-    fn children(&mut self, mut at: u64) -> Result<String, u64> {
+    fn children(&mut self, mut at: u64) -> Result<String, Refusal> {
         let mut last = None;
+        let mut before = self.segment;
         while at < self.end || self.fault.is("after-taken") && at < self.bytes.len() as u64 {
             let left = self.end.saturating_sub(at);
             if self.fault.is("header-held") && left < 2 {
-                return Err(3);
+                return Err(refusal(3, at));
             }
-            let met = self.header(at, left)?;
+            let met = self.header(at, left).map_err(|bad| {
+                let wrong = [
+                    ("at-child-segment", self.segment),
+                    ("at-child-before", before),
+                ];
+                bad.or(self.fault, &wrong)
+            })?;
+            before = at;
             let end = met.body() + met.payload;
             let over = end > self.end && !self.fault.is("after-taken");
             if met.id == SEEK_HEAD && !self.fault.is("wanted-only") {
                 if over && self.fault.is("head-overrun") {
-                    return Err(3);
+                    return Err(refusal(3, at));
                 }
                 let told = self.follow(met)?;
                 let passed = self.fault.is("head-passed") && told.starts_with("absent");
@@ -157,7 +184,7 @@ impl Search<'_> {
                 }
             } else if met.id == self.wanted {
                 if over && self.fault.is("met-overrun") {
-                    return Err(3);
+                    return Err(refusal(3, at));
                 }
                 if !self.fault.is("last-met") {
                     return self.read(met);
@@ -165,10 +192,16 @@ impl Search<'_> {
                 last = Some(met);
             }
             if end > self.bytes.len() as u64 && self.fault.is("skip-there") {
-                return Err(1);
+                return Err(refusal(1, at));
             }
             if over && !self.fault.is("skip-accepted") {
-                return Err(3);
+                let wrong = [
+                    ("at-skip-segment", self.segment),
+                    ("at-skip-start", self.start),
+                    ("at-skip-end", self.end),
+                    ("at-skip-behind", end),
+                ];
+                return Err(refusal(3, at).or(self.fault, &wrong));
             }
             at = end;
         }
@@ -179,41 +212,61 @@ impl Search<'_> {
     }
 
     /// Reads a head and all that it leads to, then looks the part up.
-    fn follow(&mut self, first: Met) -> Result<String, u64> {
+    fn follow(&mut self, first: Met) -> Result<String, Refusal> {
         let mut head = first;
         loop {
-            self.heads.push(head.at);
-            self.head(head)?;
+            self.heads.push(head);
+            let read = self.head(head);
+            read.map_err(|bad| bad.or(self.fault, &[("at-head-inner", head.at)]))?;
             if self.fault.is("wanted-first") && self.entry(self.wanted).is_some() {
                 break;
             }
-            let Some(position) = self.entry(SEEK_HEAD) else {
+            let Some(entry) = self.entry(SEEK_HEAD) else {
                 break;
             };
             if self.fault.is("links-ignored") {
                 break;
             }
             if !self.fault.is("link-kept") {
-                self.entries.retain(|entry| entry.0 != SEEK_HEAD);
+                self.entries.retain(|entry| entry.id != SEEK_HEAD);
             }
-            head = self.next(position)?;
+            head = self.next(entry)?;
         }
-        let Some(position) = self.entry(self.wanted) else {
+        let Some(entry) = self.entry(self.wanted) else {
             return self.absent();
         };
-        let at = self.sum(position, self.wanted)?;
-        let met = self.sought(at, self.wanted)?;
+        let at = self.sum(entry)?;
+        let met = self.sought(at, entry)?;
         if met.id != self.wanted && !self.fault.is("stale-part") {
             if self.fault.is("stale-absent") {
                 return self.absent();
             }
-            return Err(9);
+            return Err(self.stale(&met));
         }
         self.read(met)
     }
 
-    /// The head that a position leads to: 8, 10, 11, its header, 9.
-    fn next(&mut self, position: u64) -> Result<Met, u64> {
+    /// 9 for what was found at a sought address.
+    fn stale(&self, met: &Met) -> Refusal {
+        let wrong = [
+            ("at-nine-head", self.last_head()),
+            ("at-nine-payload", met.body()),
+            ("at-nine-segment", self.segment),
+        ];
+        refusal(9, met.at).or(self.fault, &wrong)
+    }
+
+    /// The addresses of the first and of the last head that was read.
+    fn first_head(&self) -> u64 {
+        self.heads.first().map_or(0, |head| head.at)
+    }
+
+    fn last_head(&self) -> u64 {
+        self.heads.last().map_or(0, |head| head.at)
+    }
+
+    /// The head that an entry leads to: 8, 10, 11, its header, 9.
+    fn next(&mut self, entry: Entry) -> Result<Met, Refusal> {
         let most = match () {
             () if self.fault.is("heads-65") => 65,
             () if self.fault.is("heads-63") => 63,
@@ -222,11 +275,18 @@ impl Search<'_> {
         // A reader that gives no 10 ends here.
         let full = self.heads.len() >= most;
         if full && self.fault.is("eight-late") {
-            return Err(11);
+            return Err(refusal(11, self.start.wrapping_add(entry.position)));
         }
-        let at = self.sum(position, SEEK_HEAD)?;
+        let at = self.sum(entry)?;
+        let nothing = if at < self.bytes.len() as u64 { at } else { 0 };
+        let wrong = [
+            ("at-eleven-last", self.last_head()),
+            ("at-eleven-first", self.first_head()),
+            ("at-eleven-nothing", nothing),
+        ];
+        let eleven = refusal(11, at).or(self.fault, &wrong);
         if full && self.fault.is("eleven-first") {
-            return Err(11);
+            return Err(eleven);
         }
         let known = match &self.heads[..] {
             _ if self.fault.is("ten-never") => &[],
@@ -234,61 +294,80 @@ impl Search<'_> {
             [.., last] if self.fault.is("last-address") => std::slice::from_ref(last),
             all => all,
         };
-        if known.contains(&at) {
-            return Err(10);
+        if known.iter().any(|head| head.at == at) {
+            let wrong = [
+                ("at-ten-last", self.last_head()),
+                ("at-ten-first", self.first_head()),
+                ("at-ten-holder", entry.head),
+            ];
+            return Err(refusal(10, at).or(self.fault, &wrong));
         }
         let late = self.fault.is("eleven-late");
         if full && !late {
-            return Err(11);
+            return Err(eleven);
         }
-        let met = self.sought(at, SEEK_HEAD)?;
+        let met = self.sought(at, entry)?;
         if met.id != SEEK_HEAD && !self.fault.is("stale-head") {
-            return Err(9);
+            return Err(self.stale(&met));
         }
         if full {
-            return Err(11);
+            return Err(eleven);
         }
         Ok(met)
     }
 
-    /// The address of a position; 8 with the entry's id if there is none.
-    fn sum(&mut self, position: u64, id: u32) -> Result<u64, u64> {
-        if self.fault.is("position-wraps") {
-            return Ok(self.start.wrapping_add(position));
+    /// The address of an entry; 8 with its id if there is none.
+    fn sum(&mut self, entry: Entry) -> Result<u64, Refusal> {
+        let wrapped = self.start.wrapping_add(entry.position);
+        if wrapped >= self.start || self.fault.is("position-wraps") {
+            return Ok(wrapped);
         }
-        self.start.checked_add(position).ok_or_else(|| {
-            self.lent.about = match () {
-                () if self.fault.is("eight-plain") => None,
-                () if self.fault.is("eight-wanted") => Some(self.wanted),
-                () => Some(id),
-            };
-            8
-        })
+        self.lent.about = match () {
+            () if self.fault.is("eight-plain") => None,
+            () if self.fault.is("eight-wanted") => Some(self.wanted),
+            () => Some(entry.id),
+        };
+        let before = self.heads.iter().rev().nth(1);
+        let wrong = [
+            ("at-eight-first", self.first_head()),
+            ("at-eight-holder", entry.head),
+            ("at-eight-before", before.map_or(0, |head| head.at)),
+            ("at-eight-payload", self.heads.last().map_or(0, Met::body)),
+            ("at-eight-seek", entry.seek),
+            ("at-eight-start", self.start),
+            ("at-eight-wrapped", wrapped),
+        ];
+        Err(refusal(8, self.last_head()).or(self.fault, &wrong))
     }
 
-    /// The header at a sought address.
-    fn sought(&self, at: u64, id: u32) -> Result<Met, u64> {
+    /// The header at the address that an entry names.
+    fn sought(&self, at: u64, entry: Entry) -> Result<Met, Refusal> {
         let outside = at >= self.end && self.fault.is("position-outside");
         let at = if outside { self.bytes.len() as u64 } else { at };
         if at > self.bytes.len() as u64 && self.fault.is("inner-place-14") {
-            return Err(14);
+            return Err(refusal(14, 0));
         }
-        let (read, _) = self.lent.marked(self.bytes, at, 4, 2)?;
-        if read != u64::from(id) && self.fault.is("nine-early") {
-            return Err(9);
+        let first = self.lent.marked(self.bytes, at, 4, 2);
+        let early = first.is_ok_and(|(id, _)| id != u64::from(entry.id));
+        if early && self.fault.is("nine-early") {
+            return Err(refusal(9, at));
         }
-        self.header(at, 0)
+        let wrong = [
+            ("at-sought-head", self.last_head()),
+            ("at-sought-seek", entry.seek),
+            ("at-sought-position", entry.position),
+        ];
+        self.header(at, 0).map_err(|bad| bad.or(self.fault, &wrong))
     }
 
-    /// The position that the entries have for an id.
-    fn entry(&self, id: u32) -> Option<u64> {
+    /// The last entry for an id.
+    fn entry(&self, id: u32) -> Option<Entry> {
         let mut entries = self.entries.iter();
-        let entry = entries.rfind(|entry| entry.0 == id);
-        entry.map(|entry| entry.1)
+        entries.rfind(|entry| entry.id == id).copied()
     }
 
     /// Reads a head's payload without rows, and takes its entries.
-    fn head(&mut self, head: Met) -> Result<(), u64> {
+    fn head(&mut self, head: Met) -> Result<(), Refusal> {
         // Each element has two bytes or more.
         let room = if self.fault.is("head-rows") {
             self.lent.numbers.len() as u64
@@ -306,11 +385,17 @@ impl Search<'_> {
         own.fill(&Read::new(head.body(), head.payload, SEGMENT, bytes))?;
 
         let rows: Vec<&[u64]> = own.numbers.chunks_exact(WIDTH).take(own.used).collect();
-        let mut entries: Vec<(u32, u64)> = Vec::new();
+        let mut entries: Vec<Entry> = Vec::new();
         for (number, row) in rows.iter().enumerate() {
             let direct = row[6] == 0 || self.fault.is("seek-deep");
             if row[0] == u64::from(SEEK) && row[5] == 1 && direct {
-                entries.extend(self.seek(&rows, number));
+                let named = self.seek(&rows, number);
+                entries.extend(named.map(|(id, position)| Entry {
+                    id,
+                    position,
+                    seek: row[2],
+                    head: head.at,
+                }));
             }
         }
         if self.fault.is("first-seek") {
@@ -326,7 +411,7 @@ impl Search<'_> {
         Ok(())
     }
 
-    /// The entry of the Seek of that row.
+    /// The id and the position of the Seek of that row.
     fn seek(&self, rows: &[&[u64]], number: usize) -> Option<(u32, u64)> {
         let (mut ids, mut positions) = (Vec::new(), Vec::new());
         let inside = rows[number + 1..].iter();
@@ -375,7 +460,7 @@ impl Search<'_> {
     }
 
     /// Reads the part into the lent table.
-    fn read(&mut self, met: Met) -> Result<String, u64> {
+    fn read(&mut self, met: Met) -> Result<String, Refusal> {
         let end = if self.fault.is("part-held") {
             self.end.min(self.bytes.len() as u64)
         } else {
@@ -383,7 +468,8 @@ impl Search<'_> {
         };
         let bytes = &self.bytes[..end as usize];
         let read = Read::new(met.body(), met.payload, self.parent, bytes);
-        self.lent.fill(&read)?;
+        let filled = self.lent.fill(&read);
+        filled.map_err(|bad| bad.or(self.fault, &[("at-part-inner", met.at)]))?;
         let heads = self.count(self.heads.len());
         let heads = match heads {
             0 if self.fault.is("heads-met") => 1,
@@ -399,9 +485,9 @@ impl Search<'_> {
         Ok(format!("at {at} size {size} heads {heads} "))
     }
 
-    fn absent(&self) -> Result<String, u64> {
+    fn absent(&self) -> Result<String, Refusal> {
         if self.fault.is("absent-refused") {
-            return Err(1);
+            return Err(refusal(1, self.end));
         }
         let heads = match self.count(self.heads.len()) {
             _ if self.fault.is("heads-absent") => 0,

@@ -14,6 +14,7 @@ struct Asked {
     parent: u32,
     at: String,
     size: u64,
+    address: String,
     bytes: Vec<u8>,
 }
 
@@ -36,13 +37,33 @@ pub fn question(_seed: u64, j: u64, random: &mut Random) -> Vec<u8> {
         &format!("{:X}", asked.parent),
         &asked.at,
         &asked.size.to_string(),
+        &asked.address,
         &hex(&asked.bytes),
     ];
     if j % 20 < 19 {
         return words.join(" ").into_bytes();
     }
     use Sort::{Id, Number, Recording};
-    broken::broken(&words, &[Id, Id, Number, Number, Recording], random)
+    broken::broken(&words, &[Id, Id, Number, Number, Number, Recording], random)
+}
+
+/// The address of a header, which need not be one: mostly before the place, else any number
+/// around a boundary, and seldom one that is too large.
+fn address(before: u64, length: u64, random: &mut Random) -> String {
+    let address = match random.below(16) {
+        0 => 0,
+        1 => before,
+        2..=6 => before.saturating_sub(random.between(1, 12)),
+        7..=8 => before + random.between(1, 12),
+        9 => length,
+        10 => length + 1,
+        11 => (1 << 32) - 1 + random.below(3),
+        12 => (1 << 63) - 1 + random.below(3),
+        13 => u64::MAX - random.below(2),
+        14 if random.once_in(4) => return (u128::from(u64::MAX) + 1).to_string(),
+        _ => random.number(),
+    };
+    address.to_string()
 }
 
 /// A payload somewhere in a recording. Once in four the place or the size is
@@ -61,6 +82,7 @@ fn placed(id: u32, payload: &[u8], random: &mut Random) -> Asked {
         parent: parent(random),
         at: before.to_string(),
         size: payload.len() as u64,
+        address: address(before, bytes.len() as u64, random),
         bytes,
     };
     match random.below(8) {
@@ -218,6 +240,7 @@ fn anything(random: &mut Random) -> Asked {
         parent: parent(random),
         at: place(count, random),
         size: size(count, random),
+        address: address(count / 2, count, random),
         bytes,
     }
 }

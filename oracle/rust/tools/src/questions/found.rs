@@ -1,5 +1,5 @@
 //! Recordings to search: parts that are met, heads that name them, heads in each
-//! other, long chains of heads, and webs of them.
+//! other, long chains of heads, chains with entries that are too far, and webs of heads.
 
 use crate::random::Random;
 use crate::segment::{
@@ -336,6 +336,50 @@ pub fn long(random: &mut Random) -> Made {
         pieces: recording(children, random),
         wanted,
         rows,
+    }
+}
+
+/// A chain of up to five heads, of which any has an entry that leads past 2^64 or just not: for
+/// the part, or for a further head. The last head that is read is mostly another one.
+pub fn far(random: &mut Random) -> Made {
+    let wanted = any_part(random);
+    let heads = random.between(1, 5);
+    let [holder, good] = [random.below(heads), random.below(4 * heads)];
+    let past = |random: &mut Random| Piece::Position {
+        mark: ORIGIN,
+        more: random.one_of(&[0, 0, 1, 2, u64::MAX, u64::MAX - 1]),
+        width: 8,
+    };
+    let mut chain = Vec::new();
+    for which in 0..heads {
+        let mut seeks = Vec::new();
+        if which == holder {
+            seeks.push(seek_to(wanted, past(random)));
+        }
+        if which == good {
+            seeks.push(seek(wanted, PLACES, 2));
+        }
+        let last = which + 1 == heads;
+        if random.once_in(if last { 4 } else { 12 }) {
+            seeks.push(seek_to(SEEK_HEAD, past(random)));
+        } else if !last {
+            seeks.push(seek(SEEK_HEAD, HEADS + which + 1, 2));
+        }
+        let seeks = shuffled(seeks, random);
+        chain.push(vec![Piece::Mark(HEADS + which), head(seeks)]);
+    }
+    let mut behind = chain.split_off(1);
+    behind.push(vec![Piece::Mark(PLACES), element(wanted, Vec::new())]);
+    let mut children = Vec::new();
+    if random.once_in(2) {
+        children.push(other(random));
+    }
+    children.extend(chain.concat());
+    children.extend(shuffled(behind, random).concat());
+    Made {
+        pieces: recording(children, random),
+        wanted,
+        rows: 0,
     }
 }
 

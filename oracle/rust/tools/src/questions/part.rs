@@ -3,7 +3,7 @@
 
 use crate::asked::{damage, numbers, Asked};
 use crate::broken::{self, Sort};
-use crate::found::{headed, long, met, nested, web, Made};
+use crate::found::{far, headed, long, met, nested, web, Made};
 use crate::list::List;
 use crate::random::{hex, Random};
 use crate::segment::{element, head, leaf, recorded, seek, seek_to, segment, Piece, Size, ORIGIN};
@@ -11,15 +11,16 @@ use question::numbers_of;
 use tools::ids::{PARTS, SEEK, SEEK_HEAD, SEEK_ID, SEEK_POSITION, SEGMENT};
 
 /// The shares are fixed: of 20 questions 3 are from a walk through the whole list,
-/// 3 are about parts that are met, 5 about heads, 2 about odd heads, 1 about heads
-/// in each other, 1 about a long chain, 1 about a web of heads, 3 are damaged, and 1
-/// is a broken line.
+/// 3 are about parts that are met, 4 about heads, 1 about entries that are too far, 2 about
+/// odd heads, 1 about heads in each other, 1 about a long chain, 1 about a web of heads, 3
+/// are damaged, and 1 is a broken line.
 pub fn question(seed: u64, j: u64, random: &mut Random) -> Vec<u8> {
     let (round, turn) = (j / 20, j % 20);
     let made = match turn {
         0..=2 => return WHOLE.walk(seed, round * 3 + turn),
         3..=5 => met(random),
-        6..=10 => headed(false, random),
+        6..=9 => headed(false, random),
+        10 => far(random),
         11..=12 => headed(true, random),
         13 => nested(random),
         14 => long(random),
@@ -46,7 +47,8 @@ fn any(random: &mut Random) -> Made {
     match random.below(40) {
         0..=11 => met(random),
         12..=27 => headed(false, random),
-        28..=34 => headed(true, random),
+        28..=33 => headed(true, random),
+        34 => far(random),
         35..=36 => nested(random),
         37..=38 => web(random),
         _ => long(random),
@@ -97,9 +99,10 @@ fn words(id: u32, asked: &Asked) -> [String; 4] {
 }
 
 /// Every way in which three heads lead to each other, entries of every length,
-/// overruns, entries to every place, and recordings cut off at every byte.
+/// overruns, entries to every place, chains with entries that are too far, and recordings
+/// cut off at every byte.
 pub const WHOLE: List = List {
-    length: GRAPHS + FORMS + OVERRUNS + AIMS + CUTS,
+    length: GRAPHS + FORMS + OVERRUNS + AIMS + FARS + CUTS,
     at: |place| {
         if place < GRAPHS {
             return small(TAGS, &graph(place));
@@ -116,7 +119,11 @@ pub const WHOLE: List = List {
         if place < AIMS {
             return small(TAGS, &aim(place));
         }
-        cut(place - AIMS)
+        let place = place - AIMS;
+        if place < FARS {
+            return small(TAGS, &too_far(place));
+        }
+        cut(place - FARS)
     },
 };
 
@@ -255,6 +262,38 @@ fn aim(place: u64) -> Vec<Piece> {
         element(0xEC, vec![inner]),
     ];
     vec![part, segment(Size::Fits(1), children)]
+}
+
+const FARS: u64 = 4 * 5 * 2 * 2;
+
+/// A chain of one to four heads in either order, of which one or none names the part at 2^64,
+/// and the last may name a further head there.
+fn too_far(place: u64) -> Vec<Piece> {
+    let (heads, place) = (place % 4 + 1, place / 4);
+    let (holder, place) = (place % 5, place / 5);
+    let (linked, backward) = (place % 2 == 1, place / 2 == 1);
+    let past = Piece::Position {
+        mark: ORIGIN,
+        more: 0,
+        width: 8,
+    };
+    let mut chain = Vec::new();
+    for own in 0..heads {
+        let mut seeks = Vec::new();
+        if own == holder {
+            seeks.push(seek_to(TAGS, past.clone()));
+        }
+        if own + 1 < heads {
+            seeks.push(seek(SEEK_HEAD, HEADS + own + 1, 1));
+        } else if linked {
+            seeks.push(seek_to(SEEK_HEAD, past.clone()));
+        }
+        chain.push(vec![Piece::Mark(HEADS + own), head(seeks)]);
+    }
+    if backward {
+        chain[1..].reverse();
+    }
+    vec![segment(Size::Fits(1), chain.concat())]
 }
 
 /// Every recording of the list of cuts has fewer bytes.
