@@ -54,6 +54,25 @@ static void damage(const uint8_t *recording, size_t length, uint64_t *table, siz
                 seen += recording[k];
 }
 
+// What may be wrong with the address of a refusal.
+static uint64_t misplaced(uint64_t refused, uint64_t at) {
+    if (is("address_after_acceptance") && refused == 0)
+        return 1;
+    if (is("address_of_what_was_asked") && refused >= UZ_BAD_ARGUMENT)
+        return 1;
+    if (is("address_of_no_bad_header") && refused == UZ_INVALID_ID)
+        return at + 1;
+    if (is("address_of_the_first_byte") && refused == UZ_NOT_UTF8)
+        return 0;
+    if (is("address_of_the_payload") && refused >= UZ_INVALID_INTEGER && refused <= UZ_NOT_UTF8)
+        return at + 2;
+    if (is("address_of_the_segment") && refused == UZ_HEAD_AGAIN)
+        return 0;
+    if (is("another_address_each_time") && refused == UZ_TOO_MANY_HEADS)
+        return at + (++calls & 1);
+    return at;
+}
+
 uz_part uz_find_part(const uint8_t *recording, size_t length, uint32_t part, uint64_t *table,
                      size_t numbers) {
     uz_part said = shipped_find_part(recording, length, part, table, numbers);
@@ -66,6 +85,7 @@ uz_part uz_find_part(const uint8_t *recording, size_t length, uint32_t part, uin
         said.at++;
     if (is("another_reply_each_time") && said.refused == 0)
         said.heads = ++calls & 1;
+    said.refused_at = misplaced(said.refused, said.refused_at);
     return said;
 }
 
@@ -88,5 +108,8 @@ uz_place uz_whose_byte(const uint8_t *recording, size_t length, uint64_t start, 
         said.row ^= 1;
     if (is("header_told_as_payload") && said.refused == 0)
         said.in_payload ^= 1;
+    if (is("address_before_the_start") && said.refused == UZ_NO_FREE_ROW)
+        said.refused_at = start - 1;
+    said.refused_at = misplaced(said.refused, said.refused_at);
     return said;
 }

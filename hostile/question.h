@@ -181,7 +181,7 @@ static uint64_t most_heads(recording from) {
 static uint64_t kept[1 << 16];
 
 static uz_part ask_part(const question *asked, uint32_t part, size_t numbers) {
-    uz_part first = {0, 0, 0, 0, 0, 0, 0};
+    uz_part first = {0, 0, 0, 0, 0, 0, 0, 0};
     for (unsigned front = 0; front < 2; front++) {
         recording from = placed(asked->bytes, asked->length, front != 0);
         lent to = lend_for(numbers, front != 0);
@@ -205,7 +205,7 @@ static uz_part ask_part(const question *asked, uint32_t part, size_t numbers) {
 
 static uz_place ask_place(const question *asked, uint64_t start, uint64_t size, uint32_t parent,
                           uint64_t address, size_t numbers) {
-    uz_place first = {0, 0, 0, 0};
+    uz_place first = {0, 0, 0, 0, 0};
     for (unsigned front = 0; front < 2; front++) {
         recording from = placed(asked->bytes, asked->length, front != 0);
         lent to = lend_for(numbers, front != 0);

@@ -82,9 +82,9 @@ static void told_part(uint32_t part, uz_part said, lent in) {
         return;
     printf("find %" PRIX32 ":", part);
     if (said.refused == UZ_INVALID_SEEK_HEAD)
-        printf(" refused 8 id %" PRIX64 "\n", said.id);
+        printf(" refused 8 id %" PRIX64 " at %" PRIu64 "\n", said.id, said.refused_at);
     else if (said.refused != UZ_ACCEPTED)
-        printf(" refused %" PRIu64 "\n", said.refused);
+        printf(" refused %" PRIu64 " at %" PRIu64 "\n", said.refused, said.refused_at);
     else if (said.found == 0)
         printf(" absent heads %" PRIu64 "\n", said.heads);
     else {
@@ -97,7 +97,7 @@ static void told_place(uz_place said, lent in) {
     if (!telling)
         return;
     if (said.refused != UZ_ACCEPTED) {
-        printf("whose: refused %" PRIu64 "\n", said.refused);
+        printf("whose: refused %" PRIu64 " at %" PRIu64 "\n", said.refused, said.refused_at);
         return;
     }
     printf("whose: row %" PRIu64 " %s", said.row, said.in_payload != 0 ? "payload" : "header");

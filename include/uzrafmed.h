@@ -2,9 +2,10 @@
   uzrafmed.h - the C face of Uzrafmed, a verified reader of Matroska's element structure.
 
   It implements the rules of docs/01-scope.md, which comments here call document 01, as later requests change them
-  (docs/DECISIONS.md: a row has eight numbers where document 01 has seven). Those rules rest on RFC 8794 (sizes,
-  integers, floats, dates), RFC 9559 (the ids) and RFC 3629 (UTF-8). It is proved that every call ends and answers, on
-  all bytes and all numbers, as the definitions in crates/NAME/specs say, which are written from document 01.
+  (docs/DECISIONS.md: a row has eight numbers where document 01 has seven, and a refusal has an address). Those rules
+  rest on RFC 8794 (sizes, integers, floats, dates), RFC 9559 (the ids) and RFC 3629 (UTF-8). It is proved that every
+  call ends and answers, on all bytes and all numbers, as the definitions in crates/NAME/specs say, which are written
+  from document 01.
   docs/TRUSTED.md lists what has to be believed; this header, which is written by hand, is in it. What is asked of the
   caller is in "What every call asks and promises" below.
 
@@ -22,7 +23,7 @@
       uz_find_part       finds Tracks, Attachments, Chapters or Tags, and reads it into a table of rows
       uz_row_payload     tells where in the recording the payload of a row is
       uz_whose_byte      reads a payload into a table, and names the row that holds an address
-      uz_refusal_words   tells what a refusal means and what to do; plain C, not proved
+      uz_refusal_words   tells what a refusal means, what its address is and what to do; plain C, not proved
 
   A whole program, which prints the address and the text of every chapter string of a recording. It shows texts
   as they are; a program that writes to a terminal has to escape control characters (viewer/stages/show.c does).
@@ -50,7 +51,8 @@ int main(int count, char **words) {
 
     uz_part part = uz_find_part(recording, length, UZ_CHAPTERS, table, UZ_MOST_NUMBERS);
     if (part.refused != 0)
-        fprintf(stderr, "refused %u: %s\n", (unsigned)part.refused, uz_refusal_words(part.refused).meaning);
+        fprintf(stderr, "refused %u at %llu: %s\n", (unsigned)part.refused, (unsigned long long)part.refused_at,
+                uz_refusal_words(part.refused).meaning);
     for (uint64_t row = 0; row < part.rows; row++) {
         if (table[row * UZ_WIDTH + UZ_ID] != 0x85) continue; // the id of a ChapString
         uz_range text = uz_row_payload(recording, length, table, UZ_MOST_NUMBERS, row);
@@ -70,6 +72,13 @@ int main(int count, char **words) {
   Row R of a table T is T[R * UZ_WIDTH] up to T[R * UZ_WIDTH + UZ_WIDTH - 1]; the columns are named below. A table has
   0 to UZ_MOST_ROWS rows, so its count of numbers is a multiple of UZ_WIDTH and at most UZ_MOST_NUMBERS.
 
+  Where it broke. A refusal comes with an address, `refused_at`: the header of the element that was being read. Where
+  the header itself is at fault, or was to be read and is not there, it is the address where that header begins. For 14
+  and 15, whose fault lies in what was asked and not in the recording, it is 0. But 0 is also the address of the first
+  byte, so it is the number of the refusal that tells whether there is an address. The address may lie past the
+  recording's end, up to 2^64-1: compare it with `length` before a byte is read there. What it is for each number
+  stands in the lists of the calls below. uz_row_payload refuses with 14 alone, and its reply has no address.
+
   Rows below a row. The last number of row R, A = T[R * UZ_WIDTH + UZ_AFTER], is the first row after it that does not
   lie in its element, or the count of rows where there is none. It is a row's number as it is, without the plus 1 of
   UZ_PARENT, and never 0 in a row that was written. So rows R + 1 up to A - 1 are what the element holds, at any depth;
@@ -87,9 +96,10 @@ int main(int count, char **words) {
     a table has one that no other call uses meanwhile. A call takes less than 16 kilobytes of stack (measured, not
     proved).
   - Damaged or hostile bytes are answered like any others: the call ends, with an answer or a refusal.
-  - A refusal is a number from 1 to 15 in `refused`. Every other number of the reply is then 0, but `id` for 8, and
-    every number of a table that the call was to write is 0. After acceptance `refused` is 0, and the numbers of
-    the table beyond the last row are 0. No other outcome exists, and equal arguments get equal answers.
+  - A refusal is a number from 1 to 15 in `refused`. Every other number of the reply is then 0, but `id` for 8 and
+    `refused_at`, and every number of a table that the call was to write is 0. After acceptance `refused` and
+    `refused_at` are 0, and the numbers of the table beyond the last row are 0. No other outcome exists, and equal
+    arguments get equal answers.
   - The tests come in a fixed order, so a recording with two faults gets one number, always the same: 14 comes
     before all else, then 15, then the others in the order in which the reader meets the elements.
 
@@ -180,18 +190,20 @@ typedef struct uz_words {
     const char *name;    /* its name here, without UZ_ */
     const char *rule;    /* when exactly it is given */
     const char *meaning; /* the same in plain words, short enough for a line */
+    const char *where;   /* what its address is, in plain words */
     const char *next;    /* what to do next; FILE stands for the recording, NEW.mkv for a new one */
 } uz_words;
 
 /* The reply of uz_find_part. */
 typedef struct uz_part {
-    uint64_t refused; /* 0, or the number of the refusal; then the others are 0, but `id` for 8 */
-    uint64_t id;      /* for refusal 8 the id that the entry names, else 0 */
-    uint64_t found;   /* 1, or 0 for an absent part: then at, size and rows are 0 */
-    uint64_t at;      /* the address of the part's payload, that is the first byte after its header */
-    uint64_t size;    /* how many bytes the payload has; all of them are in the recording */
-    uint64_t rows;    /* how many rows were written */
-    uint64_t heads;   /* how many seek heads were read, 0 to 64; counted for an absent part too */
+    uint64_t refused;    /* 0, or the number of the refusal; then the others are 0, but `id` for 8 and `refused_at` */
+    uint64_t id;         /* for refusal 8 the id that the entry names, else 0 */
+    uint64_t refused_at; /* for refusals 1 to 13 the address where it broke, which may be 0 or past the end; else 0 */
+    uint64_t found;      /* 1, or 0 for an absent part: then at, size and rows are 0 */
+    uint64_t at;         /* the address of the part's payload, that is the first byte after its header */
+    uint64_t size;       /* how many bytes the payload has; all of them are in the recording */
+    uint64_t rows;       /* how many rows were written */
+    uint64_t heads;      /* how many seek heads were read, 0 to 64; counted for an absent part too */
 } uz_part;
 
 /* The reply of uz_row_payload: bytes `at` up to `at + length - 1`, all of them in the recording. */
@@ -203,7 +215,8 @@ typedef struct uz_range {
 
 /* The reply of uz_whose_byte. */
 typedef struct uz_place {
-    uint64_t refused;    /* 0, or the number of the refusal; then the others are 0 */
+    uint64_t refused;    /* 0, or the number of the refusal; then the others are 0, but `refused_at` */
+    uint64_t refused_at; /* for refusals 1 to 13 the address where it broke, which may be 0 or past the end; else 0 */
     uint64_t row;        /* the number of the one row that holds the address, from 0 on */
     uint64_t in_payload; /* 1 if its payload holds the address (it is a leaf row), 0 if its header does */
     uint64_t rows;       /* how many rows were written */
@@ -238,6 +251,19 @@ typedef struct uz_place {
     13  the part has more elements than the table has rows
     14  length exceeds UZ_MOST_BYTES, numbers is no multiple of UZ_WIDTH or exceeds UZ_MOST_NUMBERS, or part is none
         of the four
+
+  What `refused_at` is, by the number:
+     1  where the header begins that was not there whole; for the body of an element, that element's header; with no
+        segment, where the next header would begin; for an entry that leads past the end, where it leads
+     2  where that header begins
+     3  where that header begins; for an element that is too large its own header, not its master's or the segment's
+     4, 5, 6, 7  the header of that integer, float, date or text
+     8  the header of the last seek head that was read, which need not be the one that holds the entry
+     9  the address that the entry leads to, where the header with another id begins
+    10  the address of the seek head that would be read once more
+    11  the address of the 65th seek head, which is not looked at: anything or nothing may be there
+    12, 13  the header of that element
+    14  0
 
   Not promised: that the part lies within the segment, that it is the only one of its id, or that two parts do not
   overlap. A recording with several segments is searched in the first alone.
@@ -289,6 +315,14 @@ uz_range uz_row_payload(const uint8_t *recording, size_t length, const uint64_t 
         length
     15  address is not one of the `size` bytes from start on
 
+  What `refused_at` is, by the number:
+     1, 2, 3  where that header begins; for the body that the recording ends in, and for an element that is too large,
+        the header of that element, not its master's
+     4, 5, 6, 7  the header of that integer, float, date or text
+    12, 13  the header of that element
+    14, 15  0
+  It may lie behind the payload: an element is read, with all that it holds, before it is held to what was left.
+
   Not promised: that start is the begin of an element. Bytes from elsewhere are read as elements too, and are
   mostly refused. start + size may exceed the recording or 2^64-1; such a payload is refused where its bytes run
   out, mostly with 1.
@@ -297,8 +331,9 @@ uz_place uz_whose_byte(const uint8_t *recording, size_t length, uint64_t start, 
                        uint64_t address, uint64_t *table, size_t numbers);
 
 /*
-  Tells what the number of a refusal means, in words for a person. Every number has an answer: 0 is 'no refusal', and
-  one over 15 'an unknown number'. It is plain C (viewer/refusals.c), not proved, and docs/REFUSALS.md is made from it.
+  Tells what the number of a refusal means and where its address points, in words for a person. Every number has an
+  answer: 0 is 'no refusal', and one over 15 'an unknown number'. It is plain C (viewer/refusals.c), not proved, and
+  docs/REFUSALS.md is made from it.
 */
 uz_words uz_refusal_words(uint64_t refused);
 

@@ -151,7 +151,7 @@ class Against:
             matching = [e for e in shown if (e.at + e.header(), e.data) == (part.at, part.size)]
             if not matching and self.open_cluster(label, part, shown, heads):
                 self.counts['parts with a reason'] += 1
-                self.find(*self.open_cluster(label, part, shown, heads))
+                self.find(*self.open_cluster(label, part, shown, heads)[:2])
                 return None
             if not matching:
                 self.fail('%s: ours at %d size %d, mkvinfo has %r' % (label, part.at, part.size,
@@ -173,34 +173,41 @@ class Against:
             return None
         cause = self.cause(label, part, shown, heads, entries, named)
         if cause:
+            reason, what, due = cause
             self.counts['parts with a reason'] += 1
-            self.find(*cause)
+            self.find(reason, what)
+            if due is not None:
+                self.same('%s: where it broke' % label, part.refused_at, due, 'addresses of refusals')
         else:
             self.fail('%s: ours %s; mkvinfo shows it at %r, seek entries lead to %r, and there is no cause' %
                       (label, part.answer[:20], [e.at for e in shown], entries))
         return None
 
     def cause(self, label, part, shown, heads, entries, named):
-        """Why a part is not found that mkvinfo shows, or is refused: the reason and its facts, or None."""
+        """Why a part is not found that mkvinfo shows, or is refused: the reason, its facts and the address where it
+        broke, None where there is none or mkvinfo does not tell it; or None."""
         length = len(self.bytes)
         if part.refused is None and shown and heads and heads[0].at < shown[0].at and not entries:
             return 'hidden', '%s at %d; the seek heads at %r name it nowhere; %s' % (
-                label, shown[0].at, [h.at for h in heads], self.who_finds(label))
+                label, shown[0].at, [h.at for h in heads], self.who_finds(label)), None
         if part.refused == 13 and shown and len(list(shown[0].below())) > ROWS:
-            return 'rows', '%s: %d elements' % (label, len(list(shown[0].below())))
+            below = list(shown[0].below())
+            return 'rows', '%s: %d elements' % (label, len(below)), below[ROWS].at
         if named is not None and named < length and named not in [e.at for e in shown] and \
                 part.refused == (self.header_fault(named) or 9):
             return 'stale', '%s: the entry leads to %d, it is at %r; %s' % (
-                label, named, [e.at for e in shown], self.who_finds(label))
+                label, named, [e.at for e in shown], self.who_finds(label)), named
         if part.refused == 8 and named is not None and named - self.tools.info.start() == 2 ** 64 - 1:
-            return 'unfilled', '%s: the position is all ones; it is at %r' % (label, [e.at for e in shown])
+            # The last head that was read.
+            return 'unfilled', '%s: the position is all ones; it is at %r' % (label, [e.at for e in shown]), \
+                heads[-1].at
         if part.refused == 1 and named is not None and named >= length:
-            return 'cut off', '%s: the entry leads to %d of %d bytes' % (label, named, length)
+            return 'cut off', '%s: the entry leads to %d of %d bytes' % (label, named, length), named
         info = self.tools.info
         endless = info.segment.data is None or info.start() + info.segment.data > length
         if part.refused == 1 and not heads and not shown and endless and all(e.size for e in info.level1()):
             return 'open end', '%s: the segment has %s bytes, the recording ends at %d' % (
-                label, info.segment.data or 'unknown', length)
+                label, info.segment.data or 'unknown', length), max([info.start(), *(e.end() for e in info.level1())])
         return self.open_cluster(label, part, shown, heads)
 
     def misplaced(self, label):
@@ -232,7 +239,7 @@ class Against:
 
     def open_cluster(self, label, part, shown, heads):
         """The first element of unknown size, where neither a seek head nor the part comes before it, ends the search:
-        its size of n bytes is a plain number to us, 2^7n - 1."""
+        its size of n bytes is a plain number to us, 2^7n - 1. Answers as `cause` does."""
         info = self.tools.info
         unknown = [e for e in info.level1() if e.size is None]
         if not unknown or (heads and heads[0].at < unknown[0].at) or (shown and shown[0].at < unknown[0].at):
@@ -244,12 +251,12 @@ class Against:
         # A segment of unknown size has 2^56 - 1 bytes to us.
         end = info.start() + (2 ** 56 - 1 if info.segment.data is None else info.segment.data)
         if after > end:
-            return ('unknown size', what) if part.refused == 3 else None
+            return ('unknown size', what, cluster.at) if part.refused == 3 else None
         if after >= len(self.bytes):
-            return ('unknown size', what) if part.refused == 1 else None
+            return ('unknown size', what, after) if part.refused == 1 else None
         if part.found() and part.at < after:
             return None
-        return 'unknown size, short', '%s: %s' % (what, part.answer.split(' rest')[0].split(' table')[0])
+        return 'unknown size, short', '%s: %s' % (what, part.answer.split(' rest')[0].split(' table')[0]), None
 
     def who_finds(self, label):
         """Which of the tools show the part: for the reader of the findings."""

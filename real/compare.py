@@ -94,12 +94,12 @@ class Part:
 
     def __init__(self, answer):
         self.answer, self.rows, self.refused, self.at, self.size, self.heads = answer, [], None, None, None, None
+        self.refused_at = None
         head, *rows = answer.split(' / ')
         words = head.split()
         if words[0] == 'refused':
-            self.refused = int(words[1])
-            # The address of the refusal, which `ask` tells: refused N at A, refused 8 ID at A.
-            self.refused_at = int(words[words.index('at') + 1]) if 'at' in words else None
+            # For 8 an id stands before the address where it broke: refused 8 ID at A.
+            self.refused, self.refused_at = int(words[1]), int(words[words.index('at') + 1])
             return
         self.heads = int(words[words.index('heads') + 1])
         if words[0] == 'at':
@@ -178,7 +178,7 @@ class Comparison(Against):
                           for r in part.rows]
             else:
                 lines.append('part %X %s' % (ident, 'absent' if part.refused is None else
-                                             'refused %d %s' % (part.refused, part.refused_at)))
+                                             'refused %d %d' % (part.refused, part.refused_at)))
         got = self.change('listing', self.run_rows(self.path))
         self.same('the listing', got, '\n'.join(lines) + '\n', 'listings')
 

@@ -1,11 +1,11 @@
 // The parts of a large recording, by the C face: parts FILE prints for each of the four parts one line,
 //
-//   part ID refused N | part ID absent heads H rows 0 | part ID at A size S heads H rows N / row / row ..
+//   part ID refused N at A | part ID absent heads H rows 0 | part ID at A size S heads H rows N / row / row ..
 //
 // with each row's numbers (id in hexadecimal digits, the rest decimal) as `ask` tells them (docs/ASK.md), and
 // behind them where uz_row_payload says that the row's payload is, as ADDRESS+LENGTH.
 // parts FILE ID ADDRESS.. prints for each address of that part what uz_whose_byte says: 'whose ADDRESS row R header',
-// 'whose ADDRESS row R payload' or 'whose ADDRESS refused N'.
+// 'whose ADDRESS row R payload' or 'whose ADDRESS refused N at A'.
 // Status 0: answered. Status 1: the file can't be read. Status 2: wrong arguments.
 #include "uzrafmed.h"
 
@@ -51,7 +51,7 @@ static void tell_part(const part *of) {
     uz_part reply = uz_find_part(recording, length, of->id, table, UZ_MOST_NUMBERS);
     printf("part %" PRIX32, of->id);
     if (reply.refused != UZ_ACCEPTED)
-        printf(" refused %" PRIu64, reply.refused);
+        printf(" refused %" PRIu64 " at %" PRIu64, reply.refused, reply.refused_at);
     else if (reply.found == 0)
         printf(" absent heads %" PRIu64 " rows 0", reply.heads);
     else {
@@ -67,7 +67,7 @@ static void tell_address(const part *of, uint64_t address) {
     uz_place place =
         uz_whose_byte(recording, length, reply.at, reply.size, of->parent, address, table, UZ_MOST_NUMBERS);
     if (place.refused != UZ_ACCEPTED)
-        printf("whose %" PRIu64 " refused %" PRIu64 "\n", address, place.refused);
+        printf("whose %" PRIu64 " refused %" PRIu64 " at %" PRIu64 "\n", address, place.refused, place.refused_at);
     else
         printf("whose %" PRIu64 " row %" PRIu64 " %s\n", address, place.row,
                place.in_payload ? "payload" : "header");

@@ -51,7 +51,8 @@ def word_changes(answer):
 
 
 def part_changes(answer):
-    """Changes of a part's answer: its place, its count of heads, rows left out, each number of some rows."""
+    """Changes of a part's answer: its place, its count of heads, where it broke, rows left out, each number of some
+    rows."""
     head, *rows = answer.split(' / ')
     yield 'refused 3 at 0 table 0'
     yield 'refused 9 at 0 table 0'

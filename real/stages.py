@@ -46,14 +46,22 @@ LEADS = re.compile(r'leads to (\d+), where ([0-9A-F]+) \S+ stands(: the entry is
 
 
 def refusals():
-    """What each refusal means and what to do, by the page on them."""
+    """What each refusal means, what its address is and what to do, by the page on them."""
     page = os.path.join(os.path.dirname(os.path.dirname(os.path.abspath(__file__))), 'docs', 'REFUSALS.md')
     with open(page, encoding='utf-8') as file:
         cells = [line.strip('|\n ').split(' | ') for line in file if re.match(r'\| \d', line)]
-    return {int(row[0]): (row[3], row[4]) for row in cells}
+    return {int(row[0]): (row[3], row[4], row[5]) for row in cells}
+
+
+def element_names():
+    """Matroska's names of elements, by the list that the viewer is built with."""
+    listed = os.path.join(os.path.dirname(os.path.dirname(os.path.abspath(__file__))), 'viewer', 'names.def')
+    with open(listed, encoding='utf-8') as file:
+        return {int(ident, 16): name for ident, name in re.findall(r'^UZ_NAME\(0x(\w+), (\S+)\)$', file.read(), re.M)}
 
 
 REFUSALS = refusals()
+ELEMENTS = element_names()
 
 
 class Part:
@@ -64,7 +72,8 @@ class Part:
         self.refused, self.heads = told.get('refused'), told.get('heads')
         self.at, self.size, self.rows = told.get('at'), told.get('size'), told.get('rows')
         self.stands, self.meaning, self.next = told.get('stands'), told.get('meaning'), told.get('next')
-        self.entry = told.get('entry')
+        self.entry, self.refused_at, self.there = told.get('entry'), told.get('refused_at'), told.get('there')
+        self.where = told.get('where')
         self.answer = self.state if self.refused is None else 'refused %d' % self.refused
 
     def found(self):
@@ -265,7 +274,8 @@ class Viewed(Against):
             part, label = Part(one), one['name']
             self.keys(label, one, 'name', 'id', 'state', *(
                 ('heads', 'at', 'size', 'rows') if part.found() else ('heads', 'stands') if part.refused is None else
-                ('refused', 'meaning', 'next', 'stands')), *(['entry'] if part.refused == 8 else []))
+                ('refused', 'refused_at', 'there', 'meaning', 'where', 'next', 'stands')),
+                *(['entry'] if part.refused == 8 else []))
             self.same(label + ' state', part.state, 'found' if part.found() else 'absent' if part.refused is None else
                       'refused')
             element = self.place(label, part)
@@ -275,7 +285,8 @@ class Viewed(Against):
             if not part.found():
                 self.same(label + ' stands', part.stands, self.stands(label))
             if part.refused is not None:
-                self.same(label + ' words', (part.meaning, part.next), REFUSALS.get(part.refused))
+                self.same(label + ' words', (part.meaning, part.where, part.next), REFUSALS.get(part.refused))
+                self.same(label + ' there', part.there, self.there(part.refused_at))
             if part.refused == 8:
                 # The entry whose position is too large: in these recordings the part's own.
                 self.same(label + ' entry', part.entry, one['id'])
@@ -363,8 +374,22 @@ class Viewed(Against):
         self.counts['remarks'] += len(said)
         return explained
 
+    def there(self, at):
+        """The id of the header at an address, in digits; None where there is none."""
+        if at >= len(self.bytes) or self.header_fault(at) is not None:
+            return None
+        return self.bytes[at:at + 9 - self.bytes[at].bit_length()].hex().upper()
+
     def refusal(self, part):
-        return '%s: refused %d%s: %s' % (part.name, part.refused, ' ' + part.entry if part.entry else '', part.meaning)
+        if part.refused_at >= len(self.bytes):
+            there = 'past the end of the file'
+        elif part.there is None:
+            there = 'where no header can be read'
+        else:
+            there = 'where %s %s stands' % (part.there, ELEMENTS.get(int(part.there, 16), '-'))
+        return '%s: refused %d%s at %d/0x%X, %s: %s' % (
+            part.name, part.refused, ' ' + part.entry if part.entry else '', part.refused_at, part.refused_at, there,
+            part.meaning)
 
     def errors(self, told, parts, explained, plain):
         """The lines on standard error: absent parts in the plain form, refused parts, remarks, and each advice once."""

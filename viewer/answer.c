@@ -140,11 +140,12 @@ static bool zeros_from(size_t first)
     return true;
 }
 
-// A refusal, with the id for 8. The table of a call that was to write one is told too.
-static void tell_refusal(uint64_t refused, uint64_t id, bool writes)
+// A refusal, with the id for 8, and the address where it broke. The table of a call that was to write one is told too.
+static void tell_refusal(uint64_t refused, uint64_t id, uint64_t at, bool writes)
 {
     printf("refused %" PRIu64, refused);
     if (refused == UZ_INVALID_SEEK_HEAD) printf(" %" PRIX64, id);
+    printf(" at %" PRIu64, at);
     if (writes) fputs(zeros_from(0) ? " table 0" : " table dirty", stdout);
 }
 
@@ -169,7 +170,7 @@ static bool answer_part(const question *q)
         return false;
     uz_part part = uz_find_part(recording, length, id, table, numbers);
     if (part.refused != 0) {
-        tell_refusal(part.refused, part.id, true);
+        tell_refusal(part.refused, part.id, part.refused_at, true);
         return true;
     }
     if (part.found != 0)
@@ -191,7 +192,7 @@ static bool answer_whose(const question *q)
         return false;
     uz_place place = uz_whose_byte(recording, length, start, size, parent, address, table, numbers);
     if (place.refused != 0) {
-        tell_refusal(place.refused, 0, true);
+        tell_refusal(place.refused, 0, place.refused_at, true);
         return true;
     }
     printf("row %" PRIu64 " %s", place.row, place.in_payload != 0 ? "payload" : "header");
@@ -207,7 +208,7 @@ static bool answer_range(const question *q)
         return false;
     uz_range range = uz_row_payload(recording, length, table, numbers, row);
     if (range.refused != 0)
-        tell_refusal(range.refused, 0, false);
+        tell_refusal(range.refused, 0, 0, false); // 14 alone, which has the address 0
     else
         printf("at %" PRIu64 "+%" PRIu64, range.at, range.length);
     return true;

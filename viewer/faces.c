@@ -287,8 +287,8 @@ static void test_example(void) {
     for (size_t i = 0; i < 4; i++) {
         lent to = lend(large_tables, 5 * UZ_WIDTH, i % 2 != 0);
         uz_part said = find_part(from, parts[i], to);
-        uz_part absent = {0, 0, 0, 0, 0, 0, 1};
-        uz_part tags = {0, 0, 1, 29, 10, 3, 1};
+        uz_part absent = {0, 0, 0, 0, 0, 0, 0, 1};
+        uz_part tags = {0, 0, 0, 1, 29, 10, 3, 1};
         check(is_part(said, parts[i] == UZ_TAGS ? tags : absent), "the reply");
         if (parts[i] == UZ_TAGS) {
             check(memcmp(to.table, rows, sizeof rows) == 0, "the rows");
@@ -300,7 +300,7 @@ static void test_example(void) {
                                           {1, 0}, {2, 0}, {2, 0}, {2, 0}, {2, 1}};
     for (unsigned i = 0; i < 10; i++) {
         lent to = lend(large_tables, 3 * UZ_WIDTH, i % 2 != 0);
-        uz_place due = {0, owner[i][0], owner[i][1], 3};
+        uz_place due = {0, 0, owner[i][0], owner[i][1], 3};
         check(same_place(whose_byte(from, 29, 10, UZ_UNDER_TAGS, 29 + i, to), due), "the owner");
         check(memcmp(to.table, rows, sizeof rows) == 0, "the rows of the address question");
     }
@@ -318,7 +318,7 @@ static void test_after(void) {
     recording from = hex("A084A082EC80EC80", false);
     for (uint64_t i = 0; i < from.length; i++) {
         lent to = lend(large_tables, 5 * UZ_WIDTH, i % 2 != 0);
-        uz_place due = {0, i / 2, 0, 4};
+        uz_place due = {0, 0, i / 2, 0, 4};
         check(same_place(whose_byte(from, 0, from.length, 0, i, to), due), "the owner");
         check(memcmp(to.table, rows, sizeof rows) == 0, "the rows");
     }
@@ -334,67 +334,85 @@ typedef struct {
 // clang-format off
 static const part_case part_cases[] = {
     // 1: nothing at all; no segment; a seek entry past the end; the part cut short.
-    {"", UZ_TAGS, 1, {1, 0, 0, 0, 0, 0, 0}},
-    {"EC81", UZ_TAGS, 1, {1, 0, 0, 0, 0, 0, 0}},
-    {"1853806784EC81", UZ_TAGS, 0, {1, 0, 0, 0, 0, 0, 0}},
-    {"0000", UZ_TAGS, 1, {1, 0, 0, 0, 0, 0, 0}},
-    {"1853806793114D9B748E4DBB8B53AB841254C36753AC8113", UZ_TAGS, 1, {1, 0, 0, 0, 0, 0, 0}},
-    {"18538067871254C3678285", UZ_TAGS, 1, {1, 0, 0, 0, 0, 0, 0}},
+    {"", UZ_TAGS, 1, {1, 0, 0, 0, 0, 0, 0, 0}},
+    {"EC81", UZ_TAGS, 1, {1, 0, 3, 0, 0, 0, 0, 0}},
+    {"1853806784EC81", UZ_TAGS, 0, {1, 0, 8, 0, 0, 0, 0, 0}},
+    {"0000", UZ_TAGS, 1, {1, 0, 0, 0, 0, 0, 0, 0}},
+    {"1853806793114D9B748E4DBB8B53AB841254C36753AC8113", UZ_TAGS, 1, {1, 0, 24, 0, 0, 0, 0, 0}},
+    {"18538067871254C3678285", UZ_TAGS, 1, {1, 0, 10, 0, 0, 0, 0, 0}},
+    // The body that the recording ends in: its header, not its payload. An entry that leads as far
+    // away as one can.
+    {"185380678A1254C3678545A38241", UZ_TAGS, 1, {1, 0, 10, 0, 0, 0, 0, 0}},
+    {"185380679A114D9B74954DBB9253AB841254C36753AC88FFFFFFFFFFFFFFFA",
+     UZ_TAGS, 0, {1, 0, UINT64_MAX, 0, 0, 0, 0, 0}},
     // 2 and 3: ids and sizes that are too long; a child that overruns; an element that does.
-    {"0F80", UZ_TAGS, 1, {2, 0, 0, 0, 0, 0, 0}},
-    {"0001", UZ_TAGS, 1, {2, 0, 0, 0, 0, 0, 0}},
-    {"AE0001", UZ_TAGS, 1, {3, 0, 0, 0, 0, 0, 0}},
-    {"1853806781EC80", UZ_TAGS, 0, {3, 0, 0, 0, 0, 0, 0}},
-    {"18538067871254C36782EC8141", UZ_TAGS, 1, {3, 0, 0, 0, 0, 0, 0}},
+    {"0F80", UZ_TAGS, 1, {2, 0, 0, 0, 0, 0, 0, 0}},
+    {"0001", UZ_TAGS, 1, {2, 0, 0, 0, 0, 0, 0, 0}},
+    {"AE0001", UZ_TAGS, 1, {3, 0, 0, 0, 0, 0, 0, 0}},
+    {"1853806781EC80", UZ_TAGS, 0, {3, 0, 5, 0, 0, 0, 0, 0}},
+    {"18538067871254C36782EC8141", UZ_TAGS, 1, {3, 0, 10, 0, 0, 0, 0, 0}},
+    {"1853806782EC8100", UZ_TAGS, 1, {3, 0, 5, 0, 0, 0, 0, 0}},
+    // A child of a seek head, and of a Seek, that overruns: not the first child, and not the head.
+    {"185380678A114D9B7484EC80EC8141", UZ_TAGS, 0, {3, 0, 12, 0, 0, 0, 0, 0}},
+    {"185380678D114D9B74884DBB84EC80EC8141", UZ_TAGS, 0, {3, 0, 15, 0, 0, 0, 0, 0}},
+    // A sought header that is none: the sought address, not that of the entry.
+    {"1853806795114D9B748E4DBB8B53AB841254C36753AC81130F80", UZ_TAGS, 1, {2, 0, 24, 0, 0, 0, 0, 0}},
+    {"1853806796114D9B748E4DBB8B53AB84114D9B7453AC8113AE0001", UZ_TAGS, 1, {3, 0, 24, 0, 0, 0, 0, 0}},
     // 4 to 7: bodies.
-    {"18538067871254C367828389", UZ_TAGS, 1, {4, 0, 0, 0, 0, 0, 0}},
-    {"18538067871254C36782FB89", UZ_TAGS, 1, {4, 0, 0, 0, 0, 0, 0}},
-    {"18538067871254C36782B580", UZ_TAGS, 1, {5, 0, 0, 0, 0, 0, 0}},
-    {"18538067881254C36783446187", UZ_TAGS, 1, {6, 0, 0, 0, 0, 0, 0}},
-    {"185380678A1254C3678545A382C080", UZ_TAGS, 1, {7, 0, 0, 0, 0, 0, 0}},
-    {"185380678A1254C3678545A382C2A0", UZ_TAGS, 1, {0, 0, 1, 10, 5, 1, 0}},
+    {"18538067871254C367828389", UZ_TAGS, 1, {4, 0, 10, 0, 0, 0, 0, 0}},
+    {"18538067871254C36782FB89", UZ_TAGS, 1, {4, 0, 10, 0, 0, 0, 0, 0}},
+    {"18538067871254C36782B580", UZ_TAGS, 1, {5, 0, 10, 0, 0, 0, 0, 0}},
+    {"18538067881254C36783446187", UZ_TAGS, 1, {6, 0, 10, 0, 0, 0, 0, 0}},
+    {"185380678A1254C3678545A382C080", UZ_TAGS, 1, {7, 0, 10, 0, 0, 0, 0, 0}},
+    {"185380678A1254C3678545A382C2A0", UZ_TAGS, 1, {0, 0, 0, 1, 10, 5, 1, 0}},
     // 8 to 10: the entries. The id of 8 is the entry's.
     {"185380679A114D9B74954DBB9253AB84114D9B7453AC88FFFFFFFFFFFFFFFF",
-     UZ_TAGS, 0, {8, SEEK_HEAD, 0, 0, 0, 0, 0}},
+     UZ_TAGS, 0, {8, SEEK_HEAD, 5, 0, 0, 0, 0, 0}},
     {"185380679A114D9B74954DBB9253AB841254C36753AC88FFFFFFFFFFFFFFFF",
-     UZ_TAGS, 0, {8, UZ_TAGS, 0, 0, 0, 0, 0}},
+     UZ_TAGS, 0, {8, UZ_TAGS, 5, 0, 0, 0, 0, 0}},
+    // The last head that was read is the one behind the head with the entry.
+    {"18538067AD114D9B74A34DBB9253AB841254C36753AC88FFFFFFFFFFFFFFFF4DBB8B53AB84114D9B7453AC8128114D9B7480",
+     UZ_TAGS, 0, {8, UZ_TAGS, 45, 0, 0, 0, 0, 0}},
     {"185380679A114D9B74954DBB9253AB841254C36753AC88FFFFFFFFFFFFFFFF",
-     UZ_CHAPTERS, 0, {0, 0, 0, 0, 0, 0, 1}},
-    {"1853806793114D9B748E4DBB8B53AB841254C36753AC8100", UZ_TAGS, 1, {9, 0, 0, 0, 0, 0, 0}},
-    {"1853806793114D9B748E4DBB8B53AB841254C36753AC8100", UZ_TRACKS, 1, {0, 0, 0, 0, 0, 0, 1}},
-    {"1853806793114D9B748E4DBB8B53AB84114D9B7453AC8100", UZ_TAGS, 1, {10, 0, 0, 0, 0, 0, 0}},
-    {"1853806795114D9B748E4DBB8B53AB84114D9B7453AC8113EC80", UZ_TAGS, 1, {9, 0, 0, 0, 0, 0, 0}},
+     UZ_CHAPTERS, 0, {0, 0, 0, 0, 0, 0, 0, 1}},
+    {"1853806793114D9B748E4DBB8B53AB841254C36753AC8100", UZ_TAGS, 1, {9, 0, 5, 0, 0, 0, 0, 0}},
+    {"1853806793114D9B748E4DBB8B53AB841254C36753AC8100", UZ_TRACKS, 1, {0, 0, 0, 0, 0, 0, 0, 1}},
+    {"1853806793114D9B748E4DBB8B53AB84114D9B7453AC8100", UZ_TAGS, 1, {10, 0, 5, 0, 0, 0, 0, 0}},
+    {"1853806795114D9B748E4DBB8B53AB84114D9B7453AC8113EC80", UZ_TAGS, 1, {9, 0, 24, 0, 0, 0, 0, 0}},
+    // Two heads that name each other: the first would be read once more, after the second.
+    {"18538067A2114D9B748E4DBB8B53AB84114D9B7453AC8113114D9B748A4DBB8753AB84114D9B74",
+     UZ_TAGS, 0, {10, 0, 5, 0, 0, 0, 0, 0}},
     // The last entry of an id wins.
     {"18538067A6114D9B749C4DBB8B53AB841254C36753AC81004DBB8B53AB841254C36753AC81211254C36780",
-     UZ_TAGS, 0, {0, 0, 1, 43, 0, 0, 1}},
+     UZ_TAGS, 0, {0, 0, 0, 1, 43, 0, 0, 1}},
     {"18538067A6114D9B749C4DBB8B53AB841254C36753AC81214DBB8B53AB841254C36753AC81001254C36780",
-     UZ_TAGS, 0, {9, 0, 0, 0, 0, 0, 0}},
+     UZ_TAGS, 0, {9, 0, 5, 0, 0, 0, 0, 0}},
     // Any master is one directly below each part.
-    {"185380678A1654AE6B85E083B08101", UZ_TRACKS, 2, {0, 0, 1, 10, 5, 2, 0}},
-    {"185380678A1941A46985E083B08101", UZ_ATTACHMENTS, 2, {0, 0, 1, 10, 5, 2, 0}},
-    {"185380678A1043A77085E083B08101", UZ_CHAPTERS, 2, {0, 0, 1, 10, 5, 2, 0}},
-    {"185380678A1254C36785E083B08101", UZ_TAGS, 2, {0, 0, 1, 10, 5, 2, 0}},
+    {"185380678A1654AE6B85E083B08101", UZ_TRACKS, 2, {0, 0, 0, 1, 10, 5, 2, 0}},
+    {"185380678A1941A46985E083B08101", UZ_ATTACHMENTS, 2, {0, 0, 0, 1, 10, 5, 2, 0}},
+    {"185380678A1043A77085E083B08101", UZ_CHAPTERS, 2, {0, 0, 0, 1, 10, 5, 2, 0}},
+    {"185380678A1254C36785E083B08101", UZ_TAGS, 2, {0, 0, 0, 1, 10, 5, 2, 0}},
     // 12: in a seek head, and in the part; depth 15 is accepted.
     {"18538067A7114D9B74A2AEA0AE9EAE9CAE9AAE98AE96AE94AE92AE90AE8EAE8CAE8AAE88AE86AE84AE82AE80",
-     UZ_TAGS, 0, {12, 0, 0, 0, 0, 0, 0}},
+     UZ_TAGS, 0, {12, 0, 42, 0, 0, 0, 0, 0}},
     {"18538067A71254C367A2AEA0AE9EAE9CAE9AAE98AE96AE94AE92AE90AE8EAE8CAE8AAE88AE86AE84AE82AE80",
-     UZ_TAGS, 17, {12, 0, 0, 0, 0, 0, 0}},
+     UZ_TAGS, 17, {12, 0, 42, 0, 0, 0, 0, 0}},
     {"18538067A51254C367A0AE9EAE9CAE9AAE98AE96AE94AE92AE90AE8EAE8CAE8AAE88AE86AE84AE82AE80",
-     UZ_TAGS, 16, {0, 0, 1, 10, 32, 16, 0}},
+     UZ_TAGS, 16, {0, 0, 0, 1, 10, 32, 16, 0}},
     // 13: one row too few, and none. An empty part needs none.
-    {"18538067891254C36784EC80EC80", UZ_TAGS, 1, {13, 0, 0, 0, 0, 0, 0}},
-    {"18538067891254C36784EC80EC80", UZ_TAGS, 2, {0, 0, 1, 10, 4, 2, 0}},
-    {"18538067871254C36782EC80", UZ_TAGS, 0, {13, 0, 0, 0, 0, 0, 0}},
-    {"18538067851254C36780", UZ_TAGS, 0, {0, 0, 1, 10, 0, 0, 0}},
+    {"18538067891254C36784EC80EC80", UZ_TAGS, 1, {13, 0, 12, 0, 0, 0, 0, 0}},
+    {"18538067891254C36784EC80EC80", UZ_TAGS, 2, {0, 0, 0, 1, 10, 4, 2, 0}},
+    {"18538067871254C36782EC80", UZ_TAGS, 0, {13, 0, 10, 0, 0, 0, 0, 0}},
+    {"18538067851254C36780", UZ_TAGS, 0, {0, 0, 0, 1, 10, 0, 0, 0}},
     // 14: no part of the four, before anything in the recording.
-    {"0F80", 0, 1, {14, 0, 0, 0, 0, 0, 0}},
-    {"0F80", SEEK_HEAD, 1, {14, 0, 0, 0, 0, 0, 0}},
-    {"0F80", UZ_UNDER_TAGS, 1, {14, 0, 0, 0, 0, 0, 0}},
-    {"0F80", UINT32_MAX, 1, {14, 0, 0, 0, 0, 0, 0}},
+    {"0F80", 0, 1, {14, 0, 0, 0, 0, 0, 0, 0}},
+    {"0F80", SEEK_HEAD, 1, {14, 0, 0, 0, 0, 0, 0, 0}},
+    {"0F80", UZ_UNDER_TAGS, 1, {14, 0, 0, 0, 0, 0, 0, 0}},
+    {"0F80", UINT32_MAX, 1, {14, 0, 0, 0, 0, 0, 0, 0}},
     // Absent: an empty segment; a head that does not name it. A part may pass its segment's end.
-    {"1853806780", UZ_TAGS, 1, {0, 0, 0, 0, 0, 0, 0}},
-    {"185380678A114D9B74801254C36780", UZ_TAGS, 0, {0, 0, 0, 0, 0, 0, 1}},
-    {"18538067811254C36782EC80", UZ_TAGS, 1, {0, 0, 1, 10, 2, 1, 0}},
+    {"1853806780", UZ_TAGS, 1, {0, 0, 0, 0, 0, 0, 0, 0}},
+    {"185380678A114D9B74801254C36780", UZ_TAGS, 0, {0, 0, 0, 0, 0, 0, 0, 1}},
+    {"18538067811254C36782EC80", UZ_TAGS, 1, {0, 0, 0, 1, 10, 2, 1, 0}},
 };
 // clang-format on
 
@@ -415,7 +433,9 @@ static void test_chain(unsigned heads, uint64_t refused) {
     about = "a chain of heads";
     written *to = clean();
     size_t segment = open_master(to, SEGMENT);
+    size_t last = 0;
     for (unsigned i = 0; i < heads; i++) {
+        last = to->length;
         size_t head = open_master(to, SEEK_HEAD);
         size_t place = put_seek(to, i + 1 < heads ? SEEK_HEAD : UZ_TAGS, 0);
         close_master(to, head);
@@ -428,6 +448,14 @@ static void test_chain(unsigned heads, uint64_t refused) {
     uz_part said = find_part(from, UZ_TAGS, lend(small_tables, 0, false));
     check(said.refused == refused, "64 heads are read, and no 65th");
     check(refused != UZ_ACCEPTED || (said.found == 1 && said.heads == heads), "heads are counted");
+    if (refused == UZ_ACCEPTED)
+        return;
+    // The 65th is told by its address, though nothing is there.
+    uz_part due = {refused, 0, last, 0, 0, 0, 0, 0};
+    check(is_part(said, due), "the address of the 65th head");
+    from = placed(to->bytes, last, false);
+    said = find_part(from, UZ_TAGS, lend(small_tables, 0, false));
+    check(is_part(said, due), "the address of the 65th head, cut off before it");
 }
 
 // ---- Tables ----
@@ -487,22 +515,24 @@ static void test_tables(void) {
             recording from = siblings(rows[i], front != 0);
             lent to = lend(large_tables, numbers, front != 0);
             uz_part said = find_part(from, UZ_TAGS, to);
-            uz_part due = {0, 0, 1, 12, 2 * (uint64_t)rows[i], rows[i], 0};
+            uz_part due = {0, 0, 0, 1, 12, 2 * (uint64_t)rows[i], rows[i], 0};
             check(is_part(said, due), "as many elements as rows");
             check_payloads(from, rows[i], to);
             if (rows[i] > 0) {
                 uint64_t last = said.at + said.size - 1;
-                uz_place owner = {0, rows[i] - 1, 0, rows[i]};
+                uz_place owner = {0, 0, rows[i] - 1, 0, rows[i]};
                 to = lend(large_tables, numbers, front != 0);
                 check(same_place(whose_byte(from, said.at, said.size, 0, last, to), owner),
                       "the last byte is the last row's");
             }
             from = siblings(rows[i] + 1, front != 0);
             to = lend(large_tables, numbers, front != 0);
-            check(find_part(from, UZ_TAGS, to).refused == UZ_NO_FREE_ROW, "one element more");
-            to = lend(large_tables, numbers, front != 0);
             uint64_t size = 2 * (uint64_t)rows[i] + 2;
-            check(whose_byte(from, 12, size, 0, 12, to).refused == UZ_NO_FREE_ROW, "and again");
+            uz_part full = {UZ_NO_FREE_ROW, 0, 12 + size - 2, 0, 0, 0, 0, 0};
+            check(is_part(find_part(from, UZ_TAGS, to), full), "one element more");
+            to = lend(large_tables, numbers, front != 0);
+            uz_place again = {UZ_NO_FREE_ROW, 12 + size - 2, 0, 0, 0};
+            check(same_place(whose_byte(from, 12, size, 0, 12, to), again), "and again");
         }
     }
 }
@@ -584,36 +614,46 @@ typedef struct {
 // clang-format off
 static const place_case place_cases[] = {
     // A setting of the bench, below a tag.
-    {"67C88C45A3847261696C4487823556", 0, 15, 0x7373, 8, 4, {0, 1, 1, 3}},
-    {"67C88C45A3847261696C4487823556", 0, 15, 0x7373, 0, 4, {0, 0, 0, 3}},
-    {"67C88C45A3847261696C4487823556", 3, 12, 0x67C8, 14, 2, {0, 1, 1, 2}},
-    {"67C88C45A3847261696C4487823556", 0, 14, 0x7373, 8, 4, {3, 0, 0, 0}},
+    {"67C88C45A3847261696C4487823556", 0, 15, 0x7373, 8, 4, {0, 0, 1, 1, 3}},
+    {"67C88C45A3847261696C4487823556", 0, 15, 0x7373, 0, 4, {0, 0, 0, 0, 3}},
+    {"67C88C45A3847261696C4487823556", 3, 12, 0x67C8, 14, 2, {0, 0, 1, 1, 2}},
+    {"67C88C45A3847261696C4487823556", 0, 14, 0x7373, 8, 4, {3, 0, 0, 0, 0}},
     // 14 for the start; the end itself is allowed, and no address lies there.
-    {"EC80", 3, 2, 0, 3, 1, {14, 0, 0, 0}},
-    {"EC80", 3, 2, 0, 9, 1, {14, 0, 0, 0}},
-    {"EC80", UINT64_MAX, 1, 0, UINT64_MAX, 1, {14, 0, 0, 0}},
-    {"EC80", 2, 0, 0, 2, 1, {15, 0, 0, 0}},
-    {"EC80", 2, 1, 0, 2, 1, {1, 0, 0, 0}},
+    {"EC80", 3, 2, 0, 3, 1, {14, 0, 0, 0, 0}},
+    {"EC80", 3, 2, 0, 9, 1, {14, 0, 0, 0, 0}},
+    {"EC80", UINT64_MAX, 1, 0, UINT64_MAX, 1, {14, 0, 0, 0, 0}},
+    {"EC80", 2, 0, 0, 2, 1, {15, 0, 0, 0, 0}},
+    {"EC80", 2, 1, 0, 2, 1, {1, 2, 0, 0, 0}},
     // 15 comes before the reading.
-    {"EC80", 0, 2, 0, 2, 1, {15, 0, 0, 0}},
-    {"EC80", 1, 1, 0, 0, 1, {15, 0, 0, 0}},
-    {"0F80", 0, 2, 0, 2, 1, {15, 0, 0, 0}},
-    {"0F80", 0, 2, 0, 1, 1, {2, 0, 0, 0}},
-    {"EC80", 0, 0, 0, 0, 1, {15, 0, 0, 0}},
-    {"EC80", 0, 100, 0, 50, 1, {1, 0, 0, 0}},
-    {"EC80", 1, UINT64_MAX, 0, UINT64_MAX, 1, {1, 0, 0, 0}},
-    {"EC80", 0, 2, 0, UINT64_MAX, 1, {15, 0, 0, 0}},
+    {"EC80", 0, 2, 0, 2, 1, {15, 0, 0, 0, 0}},
+    {"EC80", 1, 1, 0, 0, 1, {15, 0, 0, 0, 0}},
+    {"0F80", 0, 2, 0, 2, 1, {15, 0, 0, 0, 0}},
+    {"0F80", 0, 2, 0, 1, 1, {2, 0, 0, 0, 0}},
+    {"EC80", 0, 0, 0, 0, 1, {15, 0, 0, 0, 0}},
+    {"EC80", 0, 100, 0, 50, 1, {1, 2, 0, 0, 0}},
+    {"EC80", 1, UINT64_MAX, 0, UINT64_MAX, 1, {1, 1, 0, 0, 0}},
+    {"EC80", 0, 2, 0, UINT64_MAX, 1, {15, 0, 0, 0, 0}},
     // Document 01's P9 to P12, and the order of 13 and the body.
-    {"B580", 0, 2, 0, 0, 1, {5, 0, 0, 0}},
-    {"446187", 0, 3, 0, 0, 1, {6, 0, 0, 0}},
-    {"45A383EDA080", 0, 6, 0, 0, 1, {7, 0, 0, 0}},
-    {"838900", 0, 3, 0, 0, 1, {4, 0, 0, 0}},
-    {"67C88445A3824142", 0, 7, 0, 0, 2, {3, 0, 0, 0}},
-    {"67C88445A38241", 0, 7, 0, 0, 2, {1, 0, 0, 0}},
-    {"1654AE6B82E080", 0, 7, SEGMENT, 6, 2, {0, 1, 0, 2}},
-    {"EC81", 0, 2, 0, 0, 0, {13, 0, 0, 0}},
+    {"B580", 0, 2, 0, 0, 1, {5, 0, 0, 0, 0}},
+    {"446187", 0, 3, 0, 0, 1, {6, 0, 0, 0, 0}},
+    {"45A383EDA080", 0, 6, 0, 0, 1, {7, 0, 0, 0, 0}},
+    {"838900", 0, 3, 0, 0, 1, {4, 0, 0, 0, 0}},
+    {"67C88445A3824142", 0, 7, 0, 0, 2, {3, 3, 0, 0, 0}},
+    {"67C88445A38241", 0, 7, 0, 0, 2, {1, 3, 0, 0, 0}},
+    {"1654AE6B82E080", 0, 7, SEGMENT, 6, 2, {0, 0, 1, 0, 2}},
+    {"EC81", 0, 2, 0, 0, 0, {13, 0, 0, 0, 0}},
     {"AEA0AE9EAE9CAE9AAE98AE96AE94AE92AE90AE8EAE8CAE8AAE88AE86AE84AE82AE80",
-     0, 34, 0, 0, 17, {12, 0, 0, 0}},
+     0, 34, 0, 0, 17, {12, 32, 0, 0, 0}},
+    // The address of each: the header that was being read, not its payload or its master.
+    {"AE81", 0, 2, 0, 0, 1, {1, 2, 0, 0, 0}},
+    {"45A381FF", 0, 4, 0, 0, 1, {7, 0, 0, 0, 0}},
+    {"EC80", 0, 2, 0, 0, 0, {13, 0, 0, 0, 0}},
+    {"EC80EC80", 0, 4, 0, 0, 1, {13, 2, 0, 0, 0}},
+    {"45B9A0B69EB69CB69AB698B696B694B692B690B68EB68CB68AB688B686B684B682B680",
+     0, 35, UZ_CHAPTERS, 0, 17, {12, 33, 0, 0, 0}},
+    {"67C886EC8045A3824142", 0, 9, 0, 0, 3, {3, 5, 0, 0, 0}},
+    // One behind the payload: AE passes its master's end, and what it holds is read first.
+    {"67C881AE830F8000", 0, 4, 0, 0, 3, {2, 5, 0, 0, 0}},
 };
 // clang-format on
 
@@ -704,7 +744,7 @@ static void test_longest(void) {
 
     recording from = {bytes, length};
     lent table = lend(small_tables, 2 * UZ_WIDTH, false);
-    uz_part due = {0, 0, 1, length - 7, 7, 2, 0};
+    uz_part due = {0, 0, 0, 1, length - 7, 7, 2, 0};
     about = "the longest recording: Tags at its end";
     uz_part said = uz_find_part(from.bytes, from.length, UZ_TAGS, table.table, table.numbers);
     check(is_part(said, due), "the reply");
@@ -713,7 +753,7 @@ static void test_longest(void) {
     uz_range range = uz_row_payload(from.bytes, from.length, table.table, table.numbers, 1);
     check(is_range(range, UZ_ACCEPTED, length - 2, 2), "the last payload");
     table = lend(small_tables, 2 * UZ_WIDTH, false);
-    uz_place owner = {0, 1, 1, 2};
+    uz_place owner = {0, 0, 1, 1, 2};
     check(same_place(whose_byte(from, length - 7, 7, UZ_UNDER_TAGS, length - 1, table), owner),
           "the last byte");
 

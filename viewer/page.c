@@ -8,16 +8,20 @@ int main(void) {
     // clang-format off
     puts("# Refusals\n\n"
          "Made from viewer/refusals.c by `viewer/check --store`; the gate holds the two together.\n\n"
-         "A refusal is one number for each broken rule of document 01 (docs/01-scope.md). A call that refuses\n"
-         "shows nothing else: the table that it was to write is all zeros. `rows`, `ask`, `stages` and the C face\n"
-         "give the same numbers. In C a number is called `UZ_` and its name, and `uz_refusal_words` tells a row of\n"
-         "this table.\n\n"
-         "| Number | Name | Given when | In plain words | What to do |\n|---|---|---|---|---|");
+         "A refusal is one number for each broken rule of document 01 (docs/01-scope.md), and the address where it\n"
+         "broke. A call that refuses shows nothing else: the table that it was to write is all zeros. `rows`, `ask`,\n"
+         "`stages` and the C face give the same numbers and addresses. In C a number is called `UZ_` and its name,\n"
+         "and `uz_refusal_words` tells a row of this table.\n\n"
+         "The address is that of the header of the element that was being read; where the header itself is at fault,\n"
+         "the address where it begins. It may lie past the end of the file, as where a seek entry leads there. 0 is\n"
+         "the address of the first byte too.\n\n"
+         "| Number | Name | Given when | In plain words | Where the address points | What to do |\n"
+         "|---|---|---|---|---|---|");
     // clang-format on
     for (uint64_t number = UZ_PAST_END; number <= UZ_OUTSIDE; number++) {
         uz_words words = uz_refusal_words(number);
-        printf("| %" PRIu64 " | %s | %s | %s | %s |\n", number, words.name, words.rule,
-               words.meaning, words.next);
+        printf("| %" PRIu64 " | %s | %s | %s | %s | %s |\n", number, words.name, words.rule,
+               words.meaning, words.where, words.next);
     }
     return ferror(stdout) || fflush(stdout) != 0;
 }

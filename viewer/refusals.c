@@ -9,29 +9,35 @@
     "anew with mkvmerge or mkvpropedit"
 
 static const uz_words table[] = {
-    [UZ_ACCEPTED] = {"ACCEPTED", "no refusal", "no refusal", "nothing"},
+    [UZ_ACCEPTED] = {"ACCEPTED", "no refusal", "no refusal", "nowhere: it is 0", "nothing"},
     [UZ_PAST_END] = {"PAST_END", "a byte needed lies beyond the recording",
                      "a byte needed lies beyond the end of the file",
+                     "where the header begins that is not there whole, or the header of the "
+                     "element whose body is cut off",
                      "copy the file again; of what is left, take the chapters out: mkvextract FILE "
                      "chapters C.xml; write the rest anew: mkvmerge -o NEW.mkv --no-chapters "
                      "--chapters C.xml FILE; where there is no C.xml, without --chapters"},
     [UZ_INVALID_ID] = {"INVALID_ID", "the id has more than four bytes",
-                       "an id has more than four bytes",
+                       "an id has more than four bytes", "where the header with that id begins",
                        "the bytes are damaged there: copy the file again, or " REMUX},
     [UZ_INVALID_SIZE] =
         {"INVALID_SIZE",
          "the size has more than eight bytes, an element is larger than what its master had left, "
          "or a child of the segment that is passed over is larger than what was left of it",
          "a size has more than eight bytes, or an element is larger than what holds it",
+         "where the header with that size begins: of the element that is too large, not of what "
+         "holds it",
          "the bytes are damaged there, or the recording is live: " REMUX},
     [UZ_INVALID_INTEGER] = {"INVALID_INTEGER", "an integer body has more than eight bytes",
-                            "an integer has more than eight bytes", REWRITE},
+                            "an integer has more than eight bytes", "the header of that integer",
+                            REWRITE},
     [UZ_INVALID_FLOAT] = {"INVALID_FLOAT", "a float body has other than 4 or 8 bytes",
-                          "a float has other than 4 or 8 bytes", REWRITE},
+                          "a float has other than 4 or 8 bytes", "the header of that float",
+                          REWRITE},
     [UZ_INVALID_DATE] = {"INVALID_DATE", "a date body has other than 8 bytes",
-                         "a date has other than 8 bytes", REWRITE},
+                         "a date has other than 8 bytes", "the header of that date", REWRITE},
     [UZ_NOT_UTF8] =
-        {"NOT_UTF8", "a text is not UTF-8", "a text is not UTF-8",
+        {"NOT_UTF8", "a text is not UTF-8", "a text is not UTF-8", "the header of that text",
          "the text was written in another encoding: write the chapter, tag or name anew "
          "in UTF-8"},
     [UZ_INVALID_SEEK_HEAD] =
@@ -39,26 +45,31 @@ static const uz_words table[] = {
          "the segment's start plus the position of an entry exceeds 2^64-1; the reply has the id "
          "of "
          "the entry",
-         "a seek entry has no usable position: it was never filled in, or is too large", REMUX},
+         "a seek entry has no usable position: it was never filled in, or is too large",
+         "the header of the last seek head that was read, which need not hold the entry", REMUX},
     [UZ_STALE_ENTRY] =
         {"STALE_ENTRY", "a sought address holds a header with another id: the entry is stale",
          "a seek entry is stale: another element stands at its address",
+         "the address that the entry leads to",
          "take chapters and tags out: mkvextract FILE --parse-fully chapters C.xml tags T.xml; "
          "write the recording anew: mkvmerge -o NEW.mkv --no-chapters --no-global-tags "
          "--no-track-tags --chapters C.xml --global-tags T.xml FILE; where there is no C.xml or no "
          "T.xml, without --chapters or --global-tags"},
     [UZ_HEAD_AGAIN] = {"HEAD_AGAIN", "a seek head is reached at an address already read as one",
-                       "seek heads lead back to one that was read", REMUX},
+                       "seek heads lead back to one that was read", "the header of that seek head",
+                       REMUX},
     [UZ_TOO_MANY_HEADS] = {"TOO_MANY_HEADS", "a 65th seek head would be read",
-                           "64 linked seek heads were read, and the last names one more", REMUX},
+                           "64 linked seek heads were read, and the last names one more",
+                           "where the 65th would stand, which is not looked at", REMUX},
     [UZ_TOO_DEEP] =
         {"TOO_DEEP",
          "an element would lie at depth 16; the direct elements of a payload have depth "
          "0",
-         "elements are nested more than 16 deep",
+         "elements are nested more than 16 deep", "the header of the first element too deep",
          "no recorder nests so deep: the part is damaged, or made to do harm"},
     [UZ_NO_FREE_ROW] = {"NO_FREE_ROW", "the table has no free row",
                         "the part has more elements than the table has rows, 4096 at most",
+                        "the header of the first element without a row",
                         "make the part smaller: fewer chapters or tags in one recording"},
     [UZ_BAD_ARGUMENT] =
         {"BAD_ARGUMENT",
@@ -69,14 +80,18 @@ static const uz_words table[] = {
          "or its range not in the recording; where a text is asked for, also if the row is no text "
          "row",
          "a length, part, start or row that the caller gave is out of bounds",
+         "nowhere: it is 0, since the fault is in what was asked",
          "the program that asked is at fault: hold its numbers to uzrafmed.h"},
     [UZ_OUTSIDE] = {"OUTSIDE",
                     "the address is outside the payload, or there is no k-th record or list member",
-                    "the address is outside the payload", "ask for an address inside the payload"},
+                    "the address is outside the payload",
+                    "nowhere: it is 0, since the fault is in what was asked",
+                    "ask for an address inside the payload"},
 };
 
 uz_words uz_refusal_words(uint64_t refused) {
     static const uz_words unknown = {"", "no rule: the number is none of 0 to 15",
-                                     "an unknown number", "ask with a number of 0 to 15"};
+                                     "an unknown number", "nowhere",
+                                     "ask with a number of 0 to 15"};
     return refused < sizeof table / sizeof *table ? table[refused] : unknown;
 }

@@ -22,6 +22,7 @@
 #define SEEK_ID UINT32_C(0x53AB)
 #define SEEK_POSITION UINT32_C(0x53AC)
 #define VOID UINT32_C(0xEC)
+#define DATE UINT32_C(0x4461) // the one id of its kind
 
 static const uint32_t parts[] = {UZ_TRACKS, UZ_ATTACHMENTS, UZ_CHAPTERS, UZ_TAGS};
 static const uint32_t parents[] = {UZ_UNDER_TRACKS, UZ_UNDER_ATTACHMENTS, UZ_UNDER_CHAPTERS,
@@ -122,6 +123,31 @@ static unsigned header(recording from, uint64_t at, uint64_t *id, uint64_t *size
     unsigned first = vint(from, at, 4, true, id);
     unsigned second = first != 0 ? vint(from, at + first, 8, false, size) : 0;
     return second != 0 ? first + second : 0;
+}
+
+// Why no id or size of at most `most` bytes is at an address: bytes are missing, or it is longer,
+// which is the refusal `longer`; 0 if one is there.
+static uint64_t vint_fault(recording from, uint64_t at, unsigned most, uint64_t longer) {
+    uint64_t byte = at;
+    while (byte < from.length && from.bytes[byte] == 0)
+        byte++;
+    if (byte >= from.length)
+        return UZ_PAST_END;
+    uint64_t zeros = (byte - at) * 8;
+    for (unsigned bits = from.bytes[byte]; bits < 0x80; bits <<= 1)
+        zeros++;
+    if (zeros >= most)
+        return longer;
+    return from.length - at > zeros ? UZ_ACCEPTED : UZ_PAST_END;
+}
+
+// Why no header is at an address: 1, 2 or 3; 0 if one is there.
+static uint64_t header_fault(recording from, uint64_t at) {
+    uint64_t id;
+    uint64_t fault = vint_fault(from, at, 4, UZ_INVALID_ID);
+    if (fault != UZ_ACCEPTED)
+        return fault;
+    return vint_fault(from, at + vint(from, at, 4, true, &id), 8, UZ_INVALID_SIZE);
 }
 
 static bool is_utf8(const uint8_t *text, uint64_t length) {
@@ -240,6 +266,43 @@ static bool follows_header(recording from, uint64_t at, uint64_t wanted, uint64_
     return false;
 }
 
+// Whether the fault that a refusal names is at its address, as far as the bytes there tell: not
+// what a master had left, how deep it lies, how many rows there are, or what a seek entry says.
+static bool is_broken(recording from, uint64_t refused, uint64_t at) {
+    if (refused >= UZ_BAD_ARGUMENT)
+        return at == 0;
+    // A 65th head is not looked at.
+    if (refused == UZ_TOO_MANY_HEADS)
+        return true;
+    uint64_t fault = header_fault(from, at);
+    if (fault != UZ_ACCEPTED)
+        return fault == refused;
+    uint64_t id = 0, size = 0;
+    uint64_t payload = at + header(from, at, &id, &size);
+    bool whole = size <= from.length - payload;
+    // These are masters or, below a part itself, plain bytes: no body of a kind.
+    bool body = id != SEGMENT && id != SEEK_HEAD && id != SEEK && id != UZ_TRACKS &&
+                id != UZ_ATTACHMENTS && id != UZ_CHAPTERS && id != UZ_TAGS;
+    switch (refused) {
+    case UZ_PAST_END:
+        return !whole;
+    case UZ_INVALID_ID:
+        return false;
+    case UZ_INVALID_INTEGER:
+        return body && size > 8;
+    case UZ_INVALID_FLOAT:
+        return body && size != 4 && size != 8;
+    case UZ_INVALID_DATE:
+        return id == DATE && size != 8;
+    case UZ_NOT_UTF8:
+        return body && whole && !is_utf8(from.bytes + payload, size);
+    case UZ_INVALID_SEEK_HEAD:
+    case UZ_HEAD_AGAIN:
+        return id == SEEK_HEAD;
+    }
+    return true;
+}
+
 // What holds of every reply of uz_find_part, and of the table after it.
 static void check_part(recording from, uint32_t part, lent to, uz_part said) {
     check(only_table(to), "find_part writes the table alone");
@@ -250,10 +313,12 @@ static void check_part(recording from, uint32_t part, lent to, uz_part said) {
               "the id comes with 8 alone");
         check((said.found | said.at | said.size | said.rows | said.heads) == 0,
               "a refused part is zeros");
+        check(is_broken(from, said.refused, said.refused_at), "a part is broken where it says");
         check(zeros_from(to, 0), "the table of a refused part is zeros");
         return;
     }
     check(said.id == 0 && said.heads <= UZ_MOST_HEADS, "an accepted part has no id, and 64 heads");
+    check(said.refused_at == 0, "an accepted part is broken nowhere");
     if (said.found == 0) {
         check((said.at | said.size | said.rows) == 0 && zeros_from(to, 0),
               "an absent part is zeros");
@@ -280,19 +345,20 @@ static unsigned owners(lent in, uint64_t rows, uint64_t address, uz_place *owner
         found++;
     }
     owner->refused = UZ_ACCEPTED;
+    owner->refused_at = 0;
     owner->rows = rows;
     return found;
 }
 
 static bool is_part(uz_part said, uz_part due) {
-    return said.refused == due.refused && said.id == due.id && said.found == due.found &&
-           said.at == due.at && said.size == due.size && said.rows == due.rows &&
-           said.heads == due.heads;
+    return said.refused == due.refused && said.id == due.id && said.refused_at == due.refused_at &&
+           said.found == due.found && said.at == due.at && said.size == due.size &&
+           said.rows == due.rows && said.heads == due.heads;
 }
 
 static bool same_place(uz_place one, uz_place other) {
-    return one.refused == other.refused && one.row == other.row &&
-           one.in_payload == other.in_payload && one.rows == other.rows;
+    return one.refused == other.refused && one.refused_at == other.refused_at &&
+           one.row == other.row && one.in_payload == other.in_payload && one.rows == other.rows;
 }
 
 // What holds of every reply of uz_whose_byte, and of the table after it.
@@ -305,12 +371,15 @@ static void check_place(recording from, uint64_t start, uint64_t size, uint64_t 
               "whose_byte gives 1 to 7 and 12 to 15");
         check((said.row | said.in_payload | said.rows) == 0, "a refused place is zeros");
         check(zeros_from(to, 0), "the table of a refused place is zeros");
+        check(is_broken(from, said.refused, said.refused_at), "a payload is broken where it says");
+        check(said.refused >= UZ_BAD_ARGUMENT || said.refused_at >= start,
+              "a payload is not broken before its start");
         return;
     }
     check(address >= start && address - start < size, "an accepted address is in the payload");
     check(are_rows(from, start, size, said.rows, to), "the rows are the payload's elements");
     check(lead_past(to, said.rows), "each row of a payload leads past what it holds");
-    uz_place owner = {0, 0, 0, 0};
+    uz_place owner = {0, 0, 0, 0, 0};
     check(owners(to, said.rows, address, &owner) == 1, "a byte has one owner");
     check(same_place(said, owner), "the row named owns the byte");
 }

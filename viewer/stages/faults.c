@@ -31,7 +31,8 @@ int tell_faults(const part all[PARTS], const remarks *odd) {
     int status = odd->count > 0;
     for (unsigned i = 0; odd->segment && i < PARTS; i++)
         if (all[i].reply.refused != UZ_ACCEPTED)
-            status = tell_refused(&all[i], all[i].reply.refused, all[i].reply.id);
+            status = tell_refused(&all[i], all[i].reply.refused, all[i].reply.id,
+                                  all[i].reply.refused_at);
     for (unsigned i = 0; i < odd->count; i++)
         fault(all->from->name, odd->all[i].words);
     tell_nexts(all, odd);

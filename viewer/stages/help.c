@@ -20,7 +20,7 @@ const char help_text[] =
     "A tag:    tag ADDRESS target NUMBER .., and below it ADDRESS \"NAME\" ADDRESS \"VALUE\"\n"
     "Times are h:mm:ss.mmm. What is not set is -. A control character is \\xNN.\n"
     "\n"
-    "What can't be shown is told on standard error, with what to do next.\n"
+    "What can't be shown is told on standard error: what broke, its address, and what to do next.\n"
     "Status 0: shown. 1: a part is refused or not shown, or the file can't be read, is no\n"
     "Matroska file, was not finished or is cut off. 2: wrong arguments.\n"
     "Files of up to 4294967295 bytes are taken.\n";

@@ -46,10 +46,13 @@ static bool begins(const recording *from, uint32_t id) {
     return same;
 }
 
-static void on_no_segment(const recording *from, remarks *to) {
+// The search for each part ends in the same place, where a header was to be read.
+static void on_no_segment(const recording *from, uint64_t end, remarks *to) {
     if (begins(from, EBML) || begins(from, SEGMENT))
         add(to, "copy the file again, or record again",
-            "it begins as a Matroska file, but has no segment: it was cut off, or never written");
+            "it begins as a Matroska file, but has no segment, and no header can be read at "
+            "%" PRIu64 "/0x%" PRIX64 ": it was cut off, or never written",
+            end, end);
     else
         add(to, "check that this is the right file",
             "this is no Matroska file: it begins neither with an EBML header nor with a segment");
@@ -199,7 +202,7 @@ void find_remarks(const recording *from, const part all[PARTS], remarks *to) {
     memset(to, 0, sizeof *to);
     to->segment = find_segment(from, &segment);
     if (!to->segment) {
-        on_no_segment(from, to);
+        on_no_segment(from, all->reply.refused_at, to);
         return;
     }
     bool astray = false;

@@ -58,7 +58,7 @@ static void tell_head_byte(const recording *from, const header *segment, const h
     }
     uz_place place = read_head(from, child, address, &head);
     if (place.refused != UZ_ACCEPTED) {
-        *status = tell_refused(&head, place.refused, 0);
+        *status = tell_refused(&head, place.refused, 0, place.refused_at);
         return;
     }
     tell_row(&head, place);

@@ -43,9 +43,14 @@ void show_word(FILE *out, const char *word) {
 }
 
 void show_address(uint64_t address) {
-    printf("%" PRIu64, address);
     if (addresses_in_hex)
-        printf("/0x%" PRIX64, address);
+        show_both(stdout, address);
+    else
+        printf("%" PRIu64, address);
+}
+
+void show_both(FILE *out, uint64_t address) {
+    fprintf(out, "%" PRIu64 "/0x%" PRIX64, address, address);
 }
 
 void show_time(uint64_t nanoseconds) {

@@ -24,6 +24,10 @@ void show_word(FILE *out, const char *word);
 // An address in decimal, and with --hex its hexadecimal form behind a slash.
 void show_address(uint64_t address);
 
+// An address in both forms, with --hex or without: where a recording is broken, one goes to the
+// byte with a hex viewer.
+void show_both(FILE *out, uint64_t address);
+
 // A time in nanoseconds as h:mm:ss.mmm, cut and not rounded.
 void show_time(uint64_t nanoseconds);
 

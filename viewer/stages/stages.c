@@ -11,6 +11,7 @@
 #include "show.h"
 #include "tags.h"
 #include "tracks.h"
+#include "unproved.h"
 #include "whose.h"
 
 #include <inttypes.h>
@@ -50,17 +51,36 @@ static void json_id(const char *key, uint64_t id) {
     json_word(key, digits);
 }
 
+// The number, where it broke, the id of the element that stands there, and the words. 14 and 15 are
+// about what was asked, and have no address.
+static void json_refusal(const part *of) {
+    uint64_t number = of->reply.refused;
+    uz_words words = uz_refusal_words(number);
+    header there;
+    json_number("refused", number);
+    if (number == UZ_INVALID_SEEK_HEAD)
+        json_id("entry", of->reply.id);
+    if (number < UZ_BAD_ARGUMENT)
+        json_number("refused_at", of->reply.refused_at);
+    else
+        json_null("refused_at");
+    if (number < UZ_BAD_ARGUMENT &&
+        read_header(of->from, of->reply.refused_at, &there) == UZ_ACCEPTED)
+        json_id("there", there.id);
+    else
+        json_null("there");
+    json_word("meaning", words.meaning);
+    json_word("where", words.where);
+    json_word("next", words.next);
+}
+
 static void json_part(const part *of, uint64_t stands) {
     json_open(NULL, '{', true);
     json_word("name", of->name);
     json_id("id", of->id);
     if (of->reply.refused != UZ_ACCEPTED) {
         json_word("state", "refused");
-        json_number("refused", of->reply.refused);
-        if (of->reply.refused == UZ_INVALID_SEEK_HEAD)
-            json_id("entry", of->reply.id);
-        json_word("meaning", uz_refusal_words(of->reply.refused).meaning);
-        json_word("next", uz_refusal_words(of->reply.refused).next);
+        json_refusal(of);
     } else {
         json_word("state", of->reply.found ? "found" : "absent");
         json_number("heads", of->reply.heads);

@@ -3,6 +3,7 @@
 
 #include "names.h"
 #include "show.h"
+#include "unproved.h"
 
 #include <inttypes.h>
 
@@ -28,12 +29,28 @@ void tell_row(const part *in, uz_place place) {
     putchar('\n');
 }
 
-int tell_refused(const part *of, uint64_t number, uint64_t id) {
+// The place that a refusal is about. What stands there is read once more, by the viewer itself.
+static void tell_broken(const recording *from, uint64_t at) {
+    header there;
+    uint64_t refused = read_header(from, at, &there);
+    fputs(" at ", stderr);
+    show_both(stderr, at);
+    if (at >= from->length)
+        fputs(", past the end of the file", stderr);
+    else if (refused != UZ_ACCEPTED)
+        fputs(", where no header can be read", stderr);
+    else
+        fprintf(stderr, ", where %" PRIX64 " %s stands", there.id, element_name(there.id));
+}
+
+int tell_refused(const part *of, uint64_t number, uint64_t id, uint64_t at) {
     fputs("stages: ", stderr);
     show_word(stderr, of->from->name);
     fprintf(stderr, ": %s: refused %" PRIu64, of->name, number);
     if (number == UZ_INVALID_SEEK_HEAD)
         fprintf(stderr, " %" PRIX64, id);
+    if (number < UZ_BAD_ARGUMENT)
+        tell_broken(of->from, at);
     fprintf(stderr, ": %s\n", uz_refusal_words(number).meaning);
     return 1;
 }

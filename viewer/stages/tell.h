@@ -11,9 +11,9 @@ void tell_place(const char *word, uint64_t at, uint64_t length);
 // kind, its two ranges, and the text if it is one.
 void tell_row(const part *in, uz_place place);
 
-// A line on standard error: the part, the number and its meaning; for 8 the id of the entry too.
-// Answers status 1.
-int tell_refused(const part *of, uint64_t number, uint64_t id);
+// A line on standard error: the part, the number, for 8 the id of the entry, the address where it
+// broke with what stands there, and the meaning. 14 and 15 have no address. Answers status 1.
+int tell_refused(const part *of, uint64_t number, uint64_t id, uint64_t at);
 
 // A line on standard error with what to do next.
 void tell_next(const recording *from, const char *next);

@@ -58,7 +58,7 @@ typedef struct {
     bool unknown;
 } header;
 
-// Reads the header at an address; the answer is 0 or the refusal's number.
+// Reads the header at any address; the answer is 0 or the refusal's number.
 uint64_t read_header(const recording *from, uint64_t at, header *to);
 
 // Finds the first segment; false if the elements before it lead to none.
