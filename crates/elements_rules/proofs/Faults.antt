@@ -9,7 +9,7 @@ use native.Mathlib.Omega.{arith}
 use lib.ListN.{length, drop}
 use lib.Dec.{leb, ltb, eqb}
 use borrow.Author.Tests.{eqb-true, eqb-false, ltb-true, ltb-false}
-use Rattle.refusals.specs.Refusals.{because, overrun, badArgument}
+use Rattle.refusals.specs.Refusals.{because, overrun, tooDeep, noFreeRow, badArgument}
 use Rattle.refusals.specs.Reply.{Reply, accepted, refusal}
 use Rattle.refusals.specs.declared.refusal.Cause.{Cause}
 use Rattle.refusals.specs.declared.refusal.Cause.the-variants as C
@@ -24,7 +24,7 @@ use Rattle.kinds.specs.Kinds.{kindUnder}
 use Rattle.kinds.specs.declared.kind.Kind.{Kind}
 use Rattle.kinds.specs.declared.kind.Kind.the-variants as K
 use Rattle.utf8.specs.Utf8.{utf8}
-use Rattle.bodies_rules.specs.Bodies.{Told, body, value, bodyOf, payload, number, ifThere, textOf}
+use Rattle.bodies_rules.specs.Bodies.{Told, body, value, master, bodyOf, payload, number, ifThere, textOf}
 use Rattle.bodies_rules.specs.Numbers.{signedOf, floatOf}
 use Rattle.bodies_rules.specs.Bodies.{refused as refusedBody}
 use Rattle.bodies_rules.specs.Promise.{bodyReply}
@@ -39,7 +39,7 @@ use Rattle.elements_rules.specs.Reading.{full, siblings, elementHeader, 
 use Rattle.elements_rules.specs.Rows.{width}
 use Rattle.elements_rules.specs.Promise.{keeping, allowed, filled, readOf, replyOf}
 use Rattle.elements_rules.specs.Faults.{Errand, toHeader, toBody, toElement, Standing, NoHeader, headerAlone}
-use Rattle.elements_rules.specs.Faults.{headerRead, NoBody, bodyRead, bodyNamed, largerRead, deeperRead}
+use Rattle.elements_rules.specs.Faults.{headerRead, NoBody, bodyRead, bodyNamed, largerRead, Deeper, deeperRead}
 use Rattle.elements_rules.specs.Faults.{rowlessRead, Fault, FaultThere, Honest, there, callers, Comes, here, past}
 use Rattle.elements_rules.specs.Faults.{into, HonestReading, HeaderHonest, BodyHonest, ReadHonest}
 use Rattle.elements_rules.specs.declared.row.Mode.{Mode}
@@ -129,3 +129,277 @@ module _ (s : List ℕ) (at from n : ℕ) (k : Kind) (x : Errand) where
           let v = Date (signedOf n (number s from n)) in
           tested (eqb n 8) (ifThere s from n (value v)) C.InvalidDate
           (λ z. told C.InvalidDate z (make C.InvalidDate)) (there-told v) r
+
+-- ---- the way to an element
+
+-- Either part of a test.
+of-test : {A : Type 0} (b : Bool) (r : Refusal) (o : Outcome) (e : Refusal) → refuseIf b r o ≡ refused e
+    → (b ≡ true → r ≡ e → A) → (b ≡ false → o ≡ refused e → A) → A
+unfolding refuseIf
+of-test true r o e q first other = first refl (cc)
+of-test false r o e q first other = other refl q
+
+-- Elements are no refusal.
+no-refusal : {A : Type 0} {f : Forest} {e : Refusal} → done f ≡ refused e → A
+no-refusal q = let z : _≡_ {A = ℕ} 0 1 = cc in let y : ⊥ = omega arith in absurd y
+
+module _ (s : List ℕ) (mode : Mode) (cap : ℕ) where
+  -- Of a payload's elements at a place, which have that depth: a fault that the reader comes to.
+  abbrev pub Found : (depth parent at size n : ℕ) → Refusal → Type 0
+  Found depth parent at size n e = FaultThere s (Comes s mode cap depth parent at size n) e
+
+  module _ (depth parent : ℕ) where
+    abbrev read : ℕ → ℕ → Outcome
+    read = element s mode cap (depths - depth) parent
+
+    -- The element at hand is at fault.
+    own : (at size n : ℕ) (c : Cause) → 0 < size → Fault s at (toElement mode cap parent depth n size) c
+        → Found depth parent at size n (because c at)
+    own at size n c l f = record {
+      errand = toElement mode cap parent depth n size;
+      reached = here depth parent at size n l;
+      fault = f;
+    }
+
+    -- An element that was read takes its header and its size.
+    takes : (levels at n : ℕ) (f : Forest) → element s mode cap levels parent at n ≡ done f
+        → Standing s at (λ h. span f ≡ h .length + h .size)
+    unfolding span
+    takes zero at n f q = no-depth s mode cap parent at n f q
+    takes (suc levels) at n f q =
+        let o = of-element s mode cap levels parent at n f q in
+        let h = o .header in
+        let i = ap span (o .is) in
+        (h, o .head, omega (arith, i))
+
+    -- What is known of the elements behind one.
+    abbrev Behind : ℕ → Type 0
+    Behind most =
+        (at left n : ℕ) (e : Refusal) → siblings read most at left n ≡ refused e → Found depth parent at left n e
+
+    -- One element after another: the first that is refused, or is larger than what was left.
+    siblings-found :
+        ((at size n : ℕ) (e : Refusal) → 0 < size → read at n ≡ refused e → Found depth parent at size n e)
+        → (most : ℕ) → Behind most
+    unfolding siblings
+    siblings-found each zero at left n e q = no-refusal q
+    siblings-found each (suc most) at left n e q =
+        by-left (eqb left 0) refl q (siblings-found each most)
+      where
+        rest : Forest → Outcome
+        rest f = siblings read most (at + span f) (left - span f) (n + count f)
+
+        turn : Outcome → Outcome
+        turn o = andThen o (λ f. refuseIf (ltb left (span f)) (overrun at) (prepend f (rest f)))
+
+        after : (f : Forest) → read at n ≡ done f → span f ≤ left
+            → Behind most
+            → (o : Outcome) → rest f ≡ o → prepend f o ≡ refused e → Found depth parent at left n e
+        after f k l fewer (done g) w r = no-refusal r
+        after f k l fewer (refused e′) w r =
+            let i : e′ ≡ e = cc in
+            let found = fewer (at + span f) (left - span f) (n + count f) e (w ∙ ap refused i) in
+            record {
+              errand = found .errand;
+              reached = past depth parent at left n (e .address) (found .errand) f k l (found .reached);
+              fault = found .fault;
+            }
+
+        by-read : 0 < left
+            → Behind most
+            → (o : Outcome) → read at n ≡ o → turn o ≡ refused e → Found depth parent at left n e
+        by-read l fewer (refused e′) k w =
+            let i : e′ ≡ e = cc in
+            each at left n e l (k ∙ ap refused i)
+        by-read l fewer (done f) k w =
+            of-test (ltb left (span f)) (overrun at) (prepend f (rest f)) e w
+            (λ b i.
+            let (h, j, m) = takes (depths - depth) at n f k in
+            let o = ltb-true left (span f) b in
+            subst (Found depth parent at left n) i
+            (own at left n C.Overrun l (largerRead mode cap parent depth n left (h, j, omega arith))))
+            (λ b r. after f k (ltb-false left (span f) b) fewer (rest f) refl r)
+
+        by-left : (b : Bool) → eqb left 0 ≡ b → cond b (done none) (turn (read at n)) ≡ refused e
+            → Behind most
+            → Found depth parent at left n e
+        by-left true k w fewer = no-refusal w
+        by-left false k w fewer =
+            let some = eqb-false left 0 k in
+            by-read (omega (arith, some)) fewer (read at n) refl w
+
+  -- A header that was not read, wherever one is read for an element.
+  unread : (depth parent at size n : ℕ) (e : Refusal) (c : Cause) → 0 < size → elementHeader s at ≡ refusedHeader c
+      → because c at ≡ e → Found depth parent at size n e
+  unread depth parent at size n e c l w i =
+      let x = toElement mode cap parent depth n size in
+      subst (Found depth parent at size n) i
+      (own depth parent at size n c l
+      (header-fault s at x (λ d v. headerRead mode cap parent depth n size v) c w))
+
+  -- What is known of elements with so many depths left.
+  abbrev Below : ℕ → Type 0
+  Below levels =
+      (depth parent at size n : ℕ) (e : Refusal) → depths - depth ≡ levels → depth ≤ depths → 0 < size
+      → element s mode cap levels parent at n ≡ refused e → Found depth parent at size n e
+
+  -- The element at a place: it is at fault itself, or one below it.
+  element-found : (levels : ℕ) → Below levels
+  unfolding element
+  element-found zero depth parent at size n e k d l q = by (elementHeader s at) refl q
+    where
+      by : (x : Heading) → elementHeader s at ≡ x → headed at x (λ h. refused (tooDeep at)) ≡ refused e
+          → Found depth parent at size n e
+      by (refusedHeader c) w r = unread depth parent at size n e c l w (cc)
+      by (heading h) w r =
+          let i : tooDeep at ≡ e = cc in
+          let z : depths ≡ depth = omega arith in
+          subst (Found depth parent at size n) i
+          (own depth parent at size n C.TooDeep l
+          (subst (λ (j : ℕ). Deeper s at (toElement mode cap parent j n size)) z
+          (deeperRead mode cap parent n size (h, w, tt))))
+  element-found (suc levels) depth parent at size n e k d l q =
+      by (elementHeader s at) refl q (element-found levels)
+    where
+      inner : Header → Outcome
+      inner h = siblings (element s mode cap levels (h .id)) (h .size) (at + h .length) (h .size) (n + 1)
+
+      goes-on : Header → Outcome
+      goes-on h =
+          above (elementOf parent h)
+          (held at (bodyOf s (at + h .length) (h .size) (kindUnder (h .id) parent)) (inner h))
+
+      -- below a master
+      by-inner : (h : Header) → elementHeader s at ≡ heading h → full mode cap n ≡ false
+          → bodyOf s (at + h .length) (h .size) (kindUnder (h .id) parent) ≡ master
+          → Below levels
+          → (o : Outcome) → inner h ≡ o → above (elementOf parent h) o ≡ refused e → Found depth parent at size n e
+      by-inner h w f m lower (done kids) u r = no-refusal r
+      by-inner h w f m lower (refused e′) u r =
+          let i : e′ ≡ e = cc in
+          let j : levels ≡ depths - (depth + 1) = omega arith in
+          let u′ = rw j at (u ∙ ap refused i) in
+          let found =
+          siblings-found (depth + 1) (h .id) (λ a z y x g v.
+          lower (depth + 1) (h .id) a z y x (sym j) (omega arith) g
+          (ap (λ (t : ℕ). element s mode cap t (h .id) a y) j ∙ v))
+          (h .size) (at + h .length) (h .size) (n + 1) e u′ in
+          record {
+            errand = found .errand;
+            reached =
+                into depth parent at size n (e .address) (found .errand) h l (omega arith) w f
+                (is-master s (at + h .length) (h .size) (kindUnder (h .id) parent) m) (found .reached);
+            fault = found .fault;
+          }
+
+      by-body : (h : Header) → elementHeader s at ≡ heading h → full mode cap n ≡ false
+          → Below levels
+          → (t : Told) → bodyOf s (at + h .length) (h .size) (kindUnder (h .id) parent) ≡ t
+          → above (elementOf parent h) (held at t (inner h)) ≡ refused e → Found depth parent at size n e
+      by-body h w f lower (body Master) m r = by-inner h w f m lower (inner h) refl r
+      by-body h w f lower (body (Value v)) m r = no-refusal r
+      by-body h w f lower (refusedBody c) m r =
+          let i : because c at ≡ e = cc in
+          let x = toElement mode cap parent depth n size in
+          subst (Found depth parent at size n) i
+          (own depth parent at size n c l
+          (body-fault s at (at + h .length) (h .size) (kindUnder (h .id) parent) x
+          (λ b v. bodyRead mode cap parent depth n size (h, w, v)) c m))
+
+      by : (x : Heading) → elementHeader s at ≡ x
+          → headed at x (λ h. refuseIf (full mode cap n) (noFreeRow at) (goes-on h)) ≡ refused e
+          → Below levels
+          → Found depth parent at size n e
+      by (refusedHeader c) w r lower = unread depth parent at size n e c l w (cc)
+      by (heading h) w r lower =
+          of-test (full mode cap n) (noFreeRow at) (goes-on h) e r
+          (λ b i.
+          subst (Found depth parent at size n) i
+          (own depth parent at size n C.NoFreeRow l (rowlessRead mode cap parent depth n size (h, w, b))))
+          (λ b v. by-body h w b lower (bodyOf s (at + h .length) (h .size) (kindUnder (h .id) parent)) refl v)
+
+  -- A master's payload that is refused.
+  pub body-found : (depth parent at size n : ℕ) (e : Refusal) → depth ≤ depths
+      → masterBody s mode cap depth parent at size n ≡ refused e → Found depth parent at size n e
+  unfolding masterBody
+  body-found depth parent at size n e d q =
+      siblings-found depth parent (λ a z m x l v. element-found (depths - depth) depth parent a z m x refl d l v)
+      size at size n e q
+
+-- ---- the public calls
+
+-- A refusal of a payload that is read with rows.
+pub filled-honest : (s : List ℕ) (start size parent numbers : ℕ) (e : Refusal)
+    → filled s start size parent numbers ≡ refused e → HonestReading s start size parent numbers e
+unfolding filled
+filled-honest s start size parent numbers e q =
+    there (body-found s keeping (numbers / width) 0 parent start size 0 e (omega arith) q)
+
+pub reading-honest : (s : List ℕ) (start size parent numbers : ℕ) (e : Refusal)
+    → readOf s start size parent numbers ≡ refused e → HonestReading s start size parent numbers e
+unfolding readOf
+reading-honest s start size parent numbers e q =
+    of-test (not (allowed s start numbers)) badArgument (filled s start size parent numbers) e q
+    (λ b i. subst (HonestReading s start size parent numbers) i (callers (inl refl) refl))
+    (λ b v. filled-honest s start size parent numbers e v)
+
+pub read-honest : ReadHonest
+read-honest s start size parent t e t′ p =
+    by (readOf s start size parent (length t)) refl (p .reply)
+  where
+    by : (o : Outcome) → readOf s start size parent (length t) ≡ o → refusal e ≡ replyOf o
+        → HonestReading s start size parent (length t) e
+    by (done f) k q = let z : _≡_ {A = ℕ} 0 1 = cc in absurd (let y : ⊥ = omega arith in y)
+    by (refused e′) k q =
+        let i : e′ ≡ e = cc in
+        reading-honest s start size parent (length t) e (k ∙ ap refused i)
+
+pub header-honest : HeaderHonest
+unfolding headerReply
+header-honest s at e p = by (leb (length s) mostBytes && leb at (length s)) (p .reply)
+  where
+    asked : ℕ → Errand → Type 0
+    asked a x = (a ≡ at) × (x ≡ toHeader)
+
+    by-heading : (x : Heading) → elementHeader s at ≡ x → refusal e ≡ headerTold at x → Honest s asked e
+    by-heading (heading h) w q = let z : _≡_ {A = ℕ} 0 1 = cc in absurd (let y : ⊥ = omega arith in y)
+    by-heading (refusedHeader c) w q =
+        let i : because c at ≡ e = cc in
+        subst (Honest s asked) i
+        (there (record {
+          errand = toHeader;
+          reached = (refl, refl);
+          fault = header-fault s at toHeader (λ d v. headerAlone v) c w;
+        }))
+
+    by : (b : Bool) → refusal e ≡ cond b (headerTold at (headerOf (drop at s))) (refusal badArgument)
+        → Honest s asked e
+    by true q = by-heading (headerOf (drop at s)) refl q
+    by false q = let i : badArgument ≡ e = cc in subst (Honest s asked) i (callers (inl refl) refl)
+
+pub body-honest : BodyHonest
+unfolding bodyReply
+body-honest s id parent at size address e p = by (leb (length s) mostBytes && leb at (length s)) (p .reply)
+  where
+    asked : ℕ → Errand → Type 0
+    asked a x = x ≡ toBody id parent at size address
+
+    by-body : (x : Told) → bodyOf s at size (kindUnder id parent) ≡ x → refusal e ≡ bodyTold address x
+        → Honest s asked e
+    by-body (body b) w q = let z : _≡_ {A = ℕ} 0 1 = cc in absurd (let y : ⊥ = omega arith in y)
+    by-body (refusedBody c) w q =
+        let i : because c address ≡ e = cc in
+        subst (Honest s asked) i
+        (there (record {
+          errand = toBody id parent at size address;
+          reached = refl;
+          fault =
+              body-fault s address at size (kindUnder id parent) (toBody id parent at size address)
+              (λ d v. bodyNamed id parent at size v) c w;
+        }))
+
+    by : (b : Bool)
+        → refusal e ≡ cond b (bodyTold address (bodyOf s at size (kindUnder id parent))) (refusal badArgument)
+        → Honest s asked e
+    by true q = by-body (bodyOf s at size (kindUnder id parent)) refl q
+    by false q = let i : badArgument ≡ e = cc in subst (Honest s asked) i (callers (inl refl) refl)
