@@ -1,12 +1,13 @@
--- Any two replies and tables that a promise permits to one question are equal, and its refusals are listed. Assumes
--- nothing.
+-- Any two replies and tables that a promise permits to one question are equal, and its refusals are listed and honest.
+-- Assumes nothing.
 use mathlib.Core.Path.{_≡_}
 use Rattle.refusals.proofs.Listed.{listed}
 use Rattle.fields_rules.proofs.Once.{content-once}
+use Rattle.locate_rules.proofs.Honest.{answer-honest}
 use Rattle.locate_rules.proofs.Unique.{one-reply}
 use Rattle.attachments.specs.Told.{attachmentValues, attachmentTold}
 use Rattle.attachments.specs.Promise.{attachmentAsked}
-use Rattle.attachments.specs.Theorems.{OneAttachment, AttachmentsRefuseListed}
+use Rattle.attachments.specs.Theorems.{OneAttachment, AttachmentsRefuseListed, AttachmentsHonest}
 use Rattle.attachments.specs.declared.attachment.Attachment.{Attachment}
 use Rattle.attachments.specs.declared.attachment.AttachmentReply.{AttachmentReply}
 use Rattle.attachments.specs.declared.attachment.AttachmentReply.the-variants.{Attachment as IsAttachment}
@@ -33,3 +34,8 @@ attachment-unique s start size k = one-reply _ (attachmentAsked s start size k) 
 
 pub attachments-refuse-listed : AttachmentsRefuseListed
 attachments-refuse-listed = record { attachment = λ s start size k t e t′ p. listed e }
+
+pub attachments-honest : AttachmentsHonest
+attachments-honest = record {
+  attachment = λ s start size k t e t′ p. answer-honest .of-record _ s start size _ _ _ e t′ p;
+}

@@ -2,7 +2,7 @@
 use Prim.Native.Nat.{ℕ}
 use mathlib.Core.List.{List}
 use Rattle.locate_rules.specs.Promise.{ofBelow}
-use Rattle.locate_rules.specs.Theorems.{OneReply, OnlyListed, Addressed}
+use Rattle.locate_rules.specs.Theorems.{OneReply, OnlyListed, OnlyHonest, Addressed}
 use Rattle.attachments.specs.Records.{attachmentOf}
 use Rattle.attachments.specs.Promise.{attachmentAsked, AttachmentPromise}
 use Rattle.attachments.specs.declared.attachment.AttachmentReply.the-variants.{Refused as NoAttachment}
@@ -15,6 +15,12 @@ OneAttachment = (s : List ℕ) (start size k : ℕ) → OneReply (AttachmentProm
 -- A refusal among the replies that a promise permits is one of document 01's list.
 pub record AttachmentsRefuseListed : Type 0 where
   pub attachment : (s : List ℕ) (start size k : ℕ) → OnlyListed NoAttachment (AttachmentPromise s start size k)
+
+-- Where it broke: the payload's refusals are honest, and 14 and 15 have address 0.
+pub record AttachmentsHonest : Type 0 where
+  pub attachment :
+      (s : List ℕ) (start size k : ℕ)
+      → OnlyHonest s start size 0x61A7 NoAttachment (AttachmentPromise s start size k)
 
 -- Every address in a record that is told is the payload's place of one of the rows that the table holds at exit.
 pub record AttachmentsAddressed : Type 0 where

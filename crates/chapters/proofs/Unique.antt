@@ -1,13 +1,14 @@
--- Any two replies and tables that a promise permits to one question are equal, and its refusals are listed. Assumes
--- nothing.
+-- Any two replies and tables that a promise permits to one question are equal, and its refusals are listed and honest.
+-- Assumes nothing.
 use mathlib.Core.Path.{_≡_}
 use Rattle.refusals.proofs.Listed.{listed}
 use Rattle.fields_rules.proofs.Once.{number-once, flag-once, content-once, language-once, count-once}
+use Rattle.locate_rules.proofs.Honest.{answer-honest}
 use Rattle.locate_rules.proofs.Unique.{one-reply}
 use Rattle.chapters.specs.Told.{editionValues, chapterValues, displayValues}
 use Rattle.chapters.specs.Told.{editionTold, chapterTold, displayTold}
 use Rattle.chapters.specs.Promise.{editionAsked, chapterAsked, displayAsked}
-use Rattle.chapters.specs.Theorems.{OneEdition, OneChapter, OneDisplay, ChaptersRefuseListed}
+use Rattle.chapters.specs.Theorems.{OneEdition, OneChapter, OneDisplay, ChaptersRefuseListed, ChaptersHonest}
 use Rattle.chapters.specs.declared.edition.ChapterEdition.{ChapterEdition}
 use Rattle.chapters.specs.declared.edition.EditionReply.{EditionReply}
 use Rattle.chapters.specs.declared.edition.EditionReply.the-variants.{Edition as IsEdition, Refused as NoEdition}
@@ -88,3 +89,10 @@ chapters-refuse-listed =
       chapter = λ s start size k i t e t′ p. listed e;
       display = λ s start size k i j t e t′ p. listed e;
     }
+
+pub chapters-honest : ChaptersHonest
+chapters-honest = record {
+  edition = λ s start size k t e t′ p. answer-honest .of-record _ s start size _ _ _ e t′ p;
+  chapter = λ s start size k i t e t′ p. answer-honest .of-record _ s start size _ _ _ e t′ p;
+  display = λ s start size k i j t e t′ p. answer-honest .of-record _ s start size _ _ _ e t′ p;
+}

@@ -10,7 +10,7 @@ use Rattle.fields_rules.specs.declared.field.Content.{Content}
 use Rattle.fields_rules.specs.declared.field.Content.the-variants.{Unset, At as SetAt}
 use Rattle.locate_rules.specs.Asked.{found}
 use Rattle.locate_rules.specs.Promise.{ofBelow}
-use Rattle.locate_rules.specs.Theorems.{OneReply, OnlyListed, Addressed}
+use Rattle.locate_rules.specs.Theorems.{OneReply, OnlyListed, OnlyHonest, Addressed}
 use Rattle.chapters.specs.Records.{editionOf, chapterOf, displayOf}
 use Rattle.chapters.specs.First.{firstString}
 use Rattle.chapters.specs.Promise.{editionAsked, chapterAsked, displayAsked}
@@ -39,6 +39,18 @@ pub record ChaptersRefuseListed : Type 0 where
   pub edition : (s : List ℕ) (start size k : ℕ) → OnlyListed NoEdition (EditionPromise s start size k)
   pub chapter : (s : List ℕ) (start size k i : ℕ) → OnlyListed NoChapter (ChapterPromise s start size k i)
   pub display : (s : List ℕ) (start size k i j : ℕ) → OnlyListed NoDisplay (DisplayPromise s start size k i j)
+
+-- Where it broke: the payload's refusals are honest, and 14 and 15 have address 0.
+pub record ChaptersHonest : Type 0 where
+  pub edition :
+      (s : List ℕ) (start size k : ℕ)
+      → OnlyHonest s start size 0x45B9 NoEdition (EditionPromise s start size k)
+  pub chapter :
+      (s : List ℕ) (start size k i : ℕ)
+      → OnlyHonest s start size 0x45B9 NoChapter (ChapterPromise s start size k i)
+  pub display :
+      (s : List ℕ) (start size k i j : ℕ)
+      → OnlyHonest s start size 0x45B9 NoDisplay (DisplayPromise s start size k i j)
 
 -- Every address in a record that is told is the payload's place of one of the rows that the table holds at exit.
 pub record ChaptersAddressed : Type 0 where

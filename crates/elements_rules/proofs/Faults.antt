@@ -133,7 +133,7 @@ module _ (s : List ℕ) (at from n : ℕ) (k : Kind) (x : Errand) where
 -- ---- the way to an element
 
 -- Either part of a test.
-of-test : {A : Type 0} (b : Bool) (r : Refusal) (o : Outcome) (e : Refusal) → refuseIf b r o ≡ refused e
+pub of-test : {A : Type 0} (b : Bool) (r : Refusal) (o : Outcome) (e : Refusal) → refuseIf b r o ≡ refused e
     → (b ≡ true → r ≡ e → A) → (b ≡ false → o ≡ refused e → A) → A
 unfolding refuseIf
 of-test true r o e q first other = first refl (cc)

@@ -3,6 +3,7 @@ use Prim.Native.Nat.{ℕ, _<_}
 use mathlib.Core.Path.{_≡_}
 use mathlib.Core.List.{List}
 use lib.ListN.{length}
+use Rattle.refusals.specs.Refusals.{badArgument}
 use Rattle.refusals.specs.Theorems.{Listed}
 use Rattle.refusals.specs.declared.refusal.Refusal.{Refusal}
 use Rattle.bodies_rules.specs.declared.body.Range.{Range}
@@ -39,6 +40,10 @@ OneLabel =
 -- A refusal among the replies that the promise permits is one of document 01's list.
 pub record LabelsRefuseListed : Type 0 where
   pub text : (s t : List ℕ) (row : ℕ) (e : Refusal) → TextPromise s t row (Refused e) → Listed e
+
+-- Where it broke: a text's range is refused with 14 alone, at 0.
+pub record LabelsHonest : Type 0 where
+  pub text : (s t : List ℕ) (row : ℕ) (e : Refusal) → TextPromise s t row (Refused e) → e ≡ badArgument
 
 -- The label of a string that a text row holds is that row's shown text, whatever the caller's own label is.
 abbrev pub LabelIsShown : Type 0

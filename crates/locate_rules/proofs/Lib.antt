@@ -7,3 +7,4 @@ pub mod Told
 pub mod Unique
 pub mod Addressed
 pub mod IsRead
+pub mod Honest

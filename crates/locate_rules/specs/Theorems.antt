@@ -7,6 +7,7 @@ use Rattle.refusals.specs.Theorems.{Listed}
 use Rattle.refusals.specs.declared.refusal.Refusal.{Refusal}
 use Rattle.elements_rules.specs.Rows.{rowsOf, nth}
 use Rattle.elements_rules.specs.Promise.{ReadPromise}
+use Rattle.elements_rules.specs.Faults.{HonestReading}
 use Rattle.elements_rules.specs.declared.row.Row.{Row}
 use Rattle.elements_rules.specs.declared.reply.ReadReply.the-variants.{Rows}
 use Rattle.fields_rules.specs.Values.{FieldValue, unset, number, flag, content, iso, ietf, text, binary, real, count}
@@ -14,7 +15,7 @@ use Rattle.fields_rules.specs.Contract.{Readable}
 use Rattle.fields_rules.specs.declared.child.Below.{Below}
 use Rattle.fields_rules.specs.declared.child.Child.{Child}
 use Rattle.locate_rules.specs.Asked.{Asked, found, asked, listed, tableAfter}
-use Rattle.locate_rules.specs.Told.{Answer, fields}
+use Rattle.locate_rules.specs.Told.{Answer, fields, refusal}
 use Rattle.locate_rules.specs.Contract.{Filled, Stands, FindMet}
 use Rattle.locate_rules.specs.Promise.{RecordPromise}
 use Rattle.locate_rules.specs.declared.steps.Way.{Way}
@@ -36,6 +37,27 @@ OneReply {R} Permits =
 -- A refusal among the replies that a promise permits is one of document 01's list.
 abbrev pub OnlyListed : {R : Type 0} → (Refusal → R) → (List ℕ → R → List ℕ → Type 0) → Type 0
 OnlyListed refused Permits = (t : List ℕ) (e : Refusal) (t′ : List ℕ) → Permits t (refused e) t′ → Listed e
+
+-- Where it broke (document 02, C-12): a payload under that parent id is refused as the public read refuses it, at the
+-- first element with a fault; 14 and 15 have address 0.
+abbrev pub OnlyHonest :
+    {R : Type 0} → List ℕ → (start size parent : ℕ) → (Refusal → R) → (List ℕ → R → List ℕ → Type 0) → Type 0
+OnlyHonest s start size parent refused Permits =
+    (t : List ℕ) (e : Refusal) (t′ : List ℕ) → Permits t (refused e) t′
+    → HonestReading s start size parent (length t) e
+
+-- The same of the answer to any record question, and to one for a list member.
+pub record AnswerHonest : Type 0 where
+  pub of-record :
+      (values : List Row → ℕ → List FieldValue) (s : List ℕ) (start size parent numbers : ℕ) (w : Way)
+      (e : Refusal) (t′ : List ℕ)
+      → RecordPromise values (asked s start size parent numbers w) numbers (refusal e) t′
+      → HonestReading s start size parent numbers e
+  pub of-member :
+      (values : List Row → ℕ → List FieldValue) (member : List Row → ℕ → Child) (s : List ℕ)
+      (start size parent numbers : ℕ) (w : Way) (e : Refusal) (t′ : List ℕ)
+      → RecordPromise values (listed (asked s start size parent numbers w) member) numbers (refusal e) t′
+      → HonestReading s start size parent numbers e
 
 -- ---- each thing that is named has its address
 

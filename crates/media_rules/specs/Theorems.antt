@@ -2,7 +2,7 @@
 use Prim.Native.Nat.{ℕ}
 use mathlib.Core.List.{List}
 use Rattle.locate_rules.specs.Promise.{ofBelow}
-use Rattle.locate_rules.specs.Theorems.{OneReply, OnlyListed, Addressed}
+use Rattle.locate_rules.specs.Theorems.{OneReply, OnlyListed, OnlyHonest, Addressed}
 use Rattle.media_rules.specs.Records.{audioOf}
 use Rattle.media_rules.specs.Promise.{audioAsked, AudioPromise}
 use Rattle.media_rules.specs.declared.audio.AudioReply.the-variants.{Refused as NoAudio}
@@ -15,6 +15,10 @@ OneAudio = (s : List ℕ) (start size k : ℕ) → OneReply (AudioPromise s star
 -- A refusal among the replies that the promise permits is one of document 01's list.
 pub record MediaRefuseListed : Type 0 where
   pub audio : (s : List ℕ) (start size k : ℕ) → OnlyListed NoAudio (AudioPromise s start size k)
+
+-- Where it broke: the payload's refusals are honest, and 14 and 15 have address 0.
+pub record MediaHonest : Type 0 where
+  pub audio : (s : List ℕ) (start size k : ℕ) → OnlyHonest s start size 0xE1 NoAudio (AudioPromise s start size k)
 
 -- Every address in a record that is told is the payload's place of one of the rows that the table holds at exit.
 pub record MediaAddressed : Type 0 where

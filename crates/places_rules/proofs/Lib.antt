@@ -5,3 +5,4 @@ pub mod Asked
 pub mod Unique
 pub mod Owners
 pub mod Accepted
+pub mod Honest

@@ -5,6 +5,7 @@ use mathlib.Core.List.{List}
 use mathlib.Core.Logic.{_⊎_}
 use mathlib.Core.Bool.{true, _||_}
 use lib.ListN.{length}
+use Rattle.refusals.specs.Refusals.{badArgument}
 use Rattle.refusals.specs.Theorems.{Listed}
 use Rattle.refusals.specs.declared.refusal.Refusal.{Refusal}
 use Rattle.elements_rules.specs.Forest.{Forest, count}
@@ -12,6 +13,7 @@ use Rattle.elements_rules.specs.Reading.{done}
 use Rattle.elements_rules.specs.Rows.{rowAt, rowsOf, nth}
 use Rattle.elements_rules.specs.Holds.{inHeader, inLeaf}
 use Rattle.elements_rules.specs.Promise.{ReadPromise}
+use Rattle.elements_rules.specs.Faults.{HonestReading}
 use Rattle.elements_rules.specs.declared.row.Row.{Row}
 use Rattle.elements_rules.specs.declared.reply.ReadReply.the-variants.{Rows}
 use Rattle.places_rules.specs.Payload.{range, payloadRange}
@@ -43,6 +45,14 @@ pub record PlacesRefuseListed : Type 0 where
   pub owner :
       (s : List ℕ) (start size parent x : ℕ) (t : List ℕ) (e : Refusal) (t′ : List ℕ)
       → WhosePromise s start size parent x t (Refused e) t′ → Listed e
+
+-- Where it broke (document 02, C-12): a range is refused with 14 alone, at 0; the payload of the address question is
+-- refused as the public read refuses it, at the first element with a fault.
+pub record PlacesHonest : Type 0 where
+  pub range : (s t : List ℕ) (row : ℕ) (e : Refusal) → RangePromise s t row (NoRange e) → e ≡ badArgument
+  pub owner :
+      (s : List ℕ) (start size parent x : ℕ) (t : List ℕ) (e : Refusal) (t′ : List ℕ)
+      → WhosePromise s start size parent x t (Refused e) t′ → HonestReading s start size parent (length t) e
 
 -- The owner of an address among rows: one of them holds it, by its header or by its leaf payload as the reply says, and
 -- no other row holds it.

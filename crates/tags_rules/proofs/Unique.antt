@@ -1,16 +1,17 @@
--- Any two replies and tables that a promise permits to one question are equal, and its refusals are listed. Assumes
--- nothing.
+-- Any two replies and tables that a promise permits to one question are equal, and its refusals are listed and honest.
+-- Assumes nothing.
 use Prim.Native.Nat.{ℕ}
 use mathlib.Core.Path.{_≡_, refl, ap}
 use mathlib.Core.List.{[], _∷_, _++_}
 use Rattle.fields_rules.specs.Values.{count}
 use Rattle.refusals.proofs.Listed.{listed}
 use Rattle.fields_rules.proofs.Once.{number-once, flag-once, content-once, language-once, value-once, count-once}
+use Rattle.locate_rules.proofs.Honest.{answer-honest}
 use Rattle.locate_rules.proofs.Unique.{one-reply}
 use Rattle.tags_rules.specs.Told.{targetValues, targetsValues, tagValues, simpleValues}
 use Rattle.tags_rules.specs.Told.{tagTold, uidTold, simpleTold}
 use Rattle.tags_rules.specs.Promise.{tagAsked, uidAsked, simpleAsked}
-use Rattle.tags_rules.specs.Theorems.{OneTag, OneUid, OneSimple, TagsRefuseListed}
+use Rattle.tags_rules.specs.Theorems.{OneTag, OneUid, OneSimple, TagsRefuseListed, TagsHonest}
 use Rattle.tags_rules.specs.declared.simple.SimpleTag.{SimpleTag}
 use Rattle.tags_rules.specs.declared.simple.SimpleReply.{SimpleReply}
 use Rattle.tags_rules.specs.declared.simple.SimpleReply.the-variants.{Simple as IsSimple, Refused as NoSimple}
@@ -95,3 +96,10 @@ tags-refuse-listed =
       uid = λ s start size k list i t e t′ p. listed e;
       simple = λ s start size k i t e t′ p. listed e;
     }
+
+pub tags-honest : TagsHonest
+tags-honest = record {
+  tag = λ s start size k t e t′ p. answer-honest .of-record _ s start size _ _ _ e t′ p;
+  uid = λ s start size k list i t e t′ p. answer-honest .of-member _ _ s start size _ _ _ e t′ p;
+  simple = λ s start size k i t e t′ p. answer-honest .of-record _ s start size _ _ _ e t′ p;
+}

@@ -2,7 +2,7 @@
 use Prim.Native.Nat.{ℕ}
 use mathlib.Core.List.{List}
 use Rattle.locate_rules.specs.Promise.{ofBelow}
-use Rattle.locate_rules.specs.Theorems.{OneReply, OnlyListed, Addressed}
+use Rattle.locate_rules.specs.Theorems.{OneReply, OnlyListed, OnlyHonest, Addressed}
 use Rattle.tags_rules.specs.Records.{tagOf, uidOf, simpleOf}
 use Rattle.tags_rules.specs.Promise.{tagAsked, uidAsked, simpleAsked}
 use Rattle.tags_rules.specs.Promise.{TagPromise, UidPromise, SimplePromise}
@@ -28,6 +28,16 @@ pub record TagsRefuseListed : Type 0 where
   pub uid :
       (s : List ℕ) (start size k : ℕ) (list : UidList) (i : ℕ) → OnlyListed NoUid (UidPromise s start size k list i)
   pub simple : (s : List ℕ) (start size k i : ℕ) → OnlyListed NoSimple (SimplePromise s start size k i)
+
+-- Where it broke: the payload's refusals are honest, and 14 and 15 have address 0.
+pub record TagsHonest : Type 0 where
+  pub tag : (s : List ℕ) (start size k : ℕ) → OnlyHonest s start size 0x7373 NoTag (TagPromise s start size k)
+  pub uid :
+      (s : List ℕ) (start size k : ℕ) (list : UidList) (i : ℕ)
+      → OnlyHonest s start size 0x7373 NoUid (UidPromise s start size k list i)
+  pub simple :
+      (s : List ℕ) (start size k i : ℕ)
+      → OnlyHonest s start size 0x7373 NoSimple (SimplePromise s start size k i)
 
 -- Every address in a record that is told is the payload's place of one of the rows that the table holds at exit.
 pub record TagsAddressed : Type 0 where

@@ -1,15 +1,16 @@
--- Any two replies and tables that the promise permits to one question are equal, and its refusals are listed. Assumes
--- nothing.
+-- Any two replies and tables that the promise permits to one question are equal, and its refusals are listed and
+-- honest. Assumes nothing.
 use mathlib.Core.Path.{_≡_, refl}
 use Rattle.refusals.proofs.Listed.{listed}
 use Rattle.codes.proofs.Unique.{type-once}
 use Rattle.fields_rules.proofs.Once.{number-once, flag-once, content-once, language-once}
 use Rattle.locate_rules.proofs.Lists.{told-at, told-from}
+use Rattle.locate_rules.proofs.Honest.{answer-honest}
 use Rattle.locate_rules.proofs.Unique.{one-reply}
 use Rattle.media_rules.proofs.Unique.{audio-once, video-once}
 use Rattle.tracks_rules.specs.Told.{typedTold, settingsValues, trackValues, trackTold}
 use Rattle.tracks_rules.specs.Promise.{trackAsked}
-use Rattle.tracks_rules.specs.Theorems.{OneTrack, TracksRefuseListed}
+use Rattle.tracks_rules.specs.Theorems.{OneTrack, TracksRefuseListed, TracksHonest}
 use Rattle.tracks_rules.specs.declared.typed.Typed.{Typed}
 use Rattle.tracks_rules.specs.declared.typed.Typed.the-variants.{Unset, Is}
 use Rattle.tracks_rules.specs.declared.settings.Settings.{Settings}
@@ -76,3 +77,8 @@ track-unique s start size k = one-reply _ (trackAsked s start size k) trackTold 
 
 pub tracks-refuse-listed : TracksRefuseListed
 tracks-refuse-listed = record { track = λ s start size k t e t′ p. listed e }
+
+pub tracks-honest : TracksHonest
+tracks-honest = record {
+  track = λ s start size k t e t′ p. answer-honest .of-record _ s start size _ _ _ e t′ p;
+}

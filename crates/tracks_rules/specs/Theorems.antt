@@ -8,7 +8,7 @@ use Rattle.kinds.specs.declared.kind.Kind.the-variants.{Master}
 use Rattle.elements_rules.specs.Rows.{nth}
 use Rattle.elements_rules.specs.declared.row.Row.{Row}
 use Rattle.fields_rules.specs.Children.{fits, children, lastOf}
-use Rattle.locate_rules.specs.Theorems.{OneReply, OnlyListed, Addressed}
+use Rattle.locate_rules.specs.Theorems.{OneReply, OnlyListed, OnlyHonest, Addressed}
 use Rattle.tracks_rules.specs.Settings.{decided}
 use Rattle.tracks_rules.specs.Records.{trackOf}
 use Rattle.tracks_rules.specs.Promise.{trackAsked, TrackPromise}
@@ -24,6 +24,10 @@ OneTrack = (s : List ℕ) (start size k : ℕ) → OneReply (TrackPromise s star
 -- A refusal among the replies that the promise permits is one of document 01's list.
 pub record TracksRefuseListed : Type 0 where
   pub track : (s : List ℕ) (start size k : ℕ) → OnlyListed NoTrack (TrackPromise s start size k)
+
+-- Where it broke: the payload's refusals are honest, and 14 and 15 have address 0.
+pub record TracksHonest : Type 0 where
+  pub track : (s : List ℕ) (start size k : ℕ) → OnlyHonest s start size 0xAE NoTrack (TrackPromise s start size k)
 
 -- Every address in a record that is told is the payload's place of one of the rows that the table holds at exit.
 abbrev pub TrackAddressed : Type 0
