@@ -4,4 +4,5 @@ pub mod Seen
 pub mod Sought
 pub mod Chains
 pub mod Leads
+pub mod Faults
 pub mod Lookups

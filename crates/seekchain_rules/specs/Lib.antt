@@ -5,3 +5,4 @@ pub mod Heads
 pub mod Lookup
 pub mod Contract
 pub mod Theorems
+pub mod Faults

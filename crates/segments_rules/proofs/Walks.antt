@@ -6,7 +6,7 @@ use mathlib.Core.Bool.{Bool, true, false, cond}
 use native.Mathlib.Omega.{arith}
 use lib.ListN.{length}
 use lib.Dec.{ltb, leb, eqb}
-use borrow.Author.Tests.{le-leb, leb-true, leb-false}
+use borrow.Author.Tests.{le-leb, leb-false}
 use Rattle.refusals.specs.Refusals.{pastEnd, overrun}
 use Rattle.refusals.specs.declared.refusal.Refusal.{Refusal}
 use Rattle.header.specs.Reads.{behind, headerAt}
@@ -20,6 +20,7 @@ use Rattle.seekchain_rules.specs.Lookup.{Lookup, found, absent, stopped, byHead
 use Rattle.seekchain_rules.specs.Contract.{placeTold}
 use Rattle.seekchain_rules.specs.declared.lookup.PartPlace.{PartPlace}
 use Rattle.seekchain_rules.specs.Step.{childAt, onChild}
+use Rattle.seekchain_rules.proofs.Faults.{step-ended}
 use Rattle.segments_rules.specs.Walk.{Visit, ends, over, onVisit, Walk, walk, walkFrom}
 use Rattle.segments_rules.specs.Segment.{seeking, segmentFrom, segmentOf, withinSegment, visit}
 use Rattle.segments_rules.specs.Segment.{searching, segmentChildrenFrom}
@@ -203,16 +204,6 @@ abbrev pub Ended : {A B : Type 0} → (B → Type 0) → Visit A B → Type 0
 Ended P (ends b) = P b
 Ended P (over a) = Unit
 
--- Where a walk is at its end.
-pub ended-at : (s : List ℕ) (end at : ℕ) → childAt s end at ≡ End → end ≤ at
-unfolding childAt
-ended-at s end at = by (leb end at) refl (headerAt s at)
-  where
-    by : (b : Bool) → leb end at ≡ b → (x : HeaderRead) → cond b End (onHeader x Refused Child) ≡ End → end ≤ at
-    by true q x w = leb-true end at q
-    by false q (Read e) w = let z : _≡_ {A = ℕ} 0 1 = cc in absurd (omega arith)
-    by false q (HeaderRefused r) w = let z : _≡_ {A = ℕ} 0 1 = cc in absurd (omega arith)
-
 module _ {A B : Type 0} (s : List ℕ) (end : ℕ) (w : Walk A B) (P : B → Type 0)
     (at-the-end : (at : ℕ) (a : A) → end ≤ at → P (w .ended at a))
     (refused : (at : ℕ) (e : Refusal) → childAt s end at ≡ Refused e → P (w .stop e))
@@ -234,7 +225,7 @@ module _ {A B : Type 0} (s : List ℕ) (end : ℕ) (w : Walk A B) (P : B → Typ
       by (Child e) q k =
           let t = stepped s end at e q in
           by-visit (behind e) (λ b. k (behind e) b (omega (arith, t .onward, t .before))) (w .visit a e) (each a at e t)
-      by End q k = at-the-end at a (ended-at s end at q)
+      by End q k = at-the-end at a (step-ended s end at q)
       by (Refused r) q k = refused at r q
 
   pub walk-holds : (at : ℕ) (a : A) → P (walkFrom s end w at a)
