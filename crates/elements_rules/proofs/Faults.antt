@@ -329,11 +329,12 @@ module _ (s : List ℕ) (mode : Mode) (cap : ℕ) where
 -- ---- the public calls
 
 -- A refusal of a payload that is read with rows.
-pub filled-honest : (s : List ℕ) (start size parent numbers : ℕ) (e : Refusal)
-    → filled s start size parent numbers ≡ refused e → HonestReading s start size parent numbers e
+pub filled-found : (s : List ℕ) (start size parent numbers : ℕ) (e : Refusal)
+    → filled s start size parent numbers ≡ refused e
+    → FaultThere s (Comes s keeping (numbers / width) 0 parent start size 0) e
 unfolding filled
-filled-honest s start size parent numbers e q =
-    there (body-found s keeping (numbers / width) 0 parent start size 0 e (omega arith) q)
+filled-found s start size parent numbers e q =
+    body-found s keeping (numbers / width) 0 parent start size 0 e (omega arith) q
 
 pub reading-honest : (s : List ℕ) (start size parent numbers : ℕ) (e : Refusal)
     → readOf s start size parent numbers ≡ refused e → HonestReading s start size parent numbers e
@@ -341,7 +342,7 @@ unfolding readOf
 reading-honest s start size parent numbers e q =
     of-test (not (allowed s start numbers)) badArgument (filled s start size parent numbers) e q
     (λ b i. subst (HonestReading s start size parent numbers) i (callers (inl refl) refl))
-    (λ b v. filled-honest s start size parent numbers e v)
+    (λ b v. there (filled-found s start size parent numbers e v))
 
 pub read-honest : ReadHonest
 read-honest s start size parent t e t′ p =

@@ -15,9 +15,9 @@ use Rattle.elements_rules.specs.Reading.{Outcome, done, refused}
 use Rattle.elements_rules.specs.Rows.{rowsAt, width, rowAt}
 use Rattle.elements_rules.specs.Holds.{within}
 use Rattle.elements_rules.specs.Promise.{allowed, filled}
-use Rattle.elements_rules.specs.Faults.{HonestReading, callers}
+use Rattle.elements_rules.specs.Faults.{HonestReading, there, callers}
 use Rattle.elements_rules.specs.declared.row.Row.{Row}
-use Rattle.elements_rules.proofs.Faults.{of-test, filled-honest}
+use Rattle.elements_rules.proofs.Faults.{of-test, filled-found}
 use Rattle.places_rules.specs.Payload.{PayloadRange, range, payloadRange}
 use Rattle.places_rules.specs.Payload.{refused as noRange}
 use Rattle.places_rules.specs.Whose.{Whose, named, holderIn, whoseIn, askedOf, whoseOf}
@@ -68,7 +68,7 @@ module _ (s : List ℕ) (start size parent x numbers : ℕ) where
       (λ b v.
       of-test (not (within start size x)) outside (filled s start size parent numbers) e v
       (λ c i. subst HonestHere i (callers (inr refl) refl))
-      (λ c w. filled-honest s start size parent numbers e w))
+      (λ c w. there (filled-found s start size parent numbers e w)))
 
   whose-honest : (o : Outcome) (e : Refusal) → askedOf s start size parent x numbers ≡ o
       → refusal e ≡ whoseOf start x o → HonestHere e

@@ -5,3 +5,4 @@ pub mod Unique
 pub mod Found
 pub mod Useless
 pub mod Cases
+pub mod Faults
