@@ -3,3 +3,4 @@ pub mod Crossing
 pub mod Unique
 pub mod Tells
 pub mod Named
+pub mod Where

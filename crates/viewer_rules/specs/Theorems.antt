@@ -1,10 +1,14 @@
 -- What is proved of the C face beside the contracts: the statements of the theorems.
-use Prim.Native.Nat.{ℕ, _≤_}
+use Prim.Native.Nat.{ℕ, _/_, _≤_}
 use mathlib.Core.Path.{_≡_}
 use mathlib.Core.List.{List}
 use lib.ListN.{length}
 use Rattle.refusals.specs.Causes.{causeNumber, causeId}
 use Rattle.refusals.specs.Reply.{Reply, accepted, refusal}
+use Rattle.refusals.specs.declared.refusal.Refusal.{Refusal}
+use Rattle.elements_rules.specs.Rows.{width}
+use Rattle.elements_rules.specs.Promise.{keeping}
+use Rattle.elements_rules.specs.Faults.{Errand, Honest, Comes}
 use Rattle.places_rules.specs.Payload.{payloadRange}
 use Rattle.places_rules.specs.Promise.{valuesOf, RangePromise, WhosePromise}
 use Rattle.places_rules.specs.Whose.{askedOf, whoseOf}
@@ -13,6 +17,7 @@ use Rattle.places_rules.specs.declared.payload.RangeReply.the-variants.{Range, 
 use Rattle.places_rules.specs.declared.whose.WhoseReply.{WhoseReply}
 use Rattle.places_rules.specs.declared.whose.WhoseReply.the-variants.{Header, Payload, Refused as NoRow}
 use Rattle.search_rules.specs.Part.{searchOf, replyOf, PartPromise}
+use Rattle.search_rules.specs.Faults.{SearchComes}
 use Rattle.search_rules.specs.declared.part.PartReply.{PartReply}
 use Rattle.search_rules.specs.declared.part.PartReply.the-variants.{Found, Absent, Refused as NoPart}
 use Rattle.viewer_rules.specs.Promise.{UzPartPromise, UzRangePromise, UzPlacePromise}
@@ -71,6 +76,33 @@ abbrev pub IdAlone : Type 0
 IdAlone =
     (s : List ℕ) (part : ℕ) (t : List ℕ) (r : UzPart) (t′ : List ℕ)
     → UzPartPromise s part t r t′ → (r .id ≡ 0 → ⊥) → r .refused ≡ 8
+
+-- ---- where it broke (document 02, C-12)
+
+-- The number and the address of a refusal cross together, and it is honest: the fault is there, or it is 14 or 15 and
+-- the address is 0.
+pub record Broke (s : List ℕ) (Reached : ℕ → Errand → Type 0) (refused at : ℕ) : Type 0 where
+  pub cause : Refusal
+  pub number : refused ≡ causeNumber (cause .cause)
+  pub address : at ≡ cause .address
+  pub honest : Honest s Reached cause
+
+-- With a refusal that holds, and without one the address is 0. It shuts out a face that leaves the address of an
+-- earlier refusal, or tells that of the part.
+pub record TellsWhere (s : List ℕ) (Reached : ℕ → Errand → Type 0) (refused at : ℕ) : Type 0 where
+  pub broke : (refused ≡ 0 → ⊥) → Broke s Reached refused at
+  pub fine : refused ≡ 0 → at ≡ 0
+
+abbrev pub PartTellsWhere : Type 0
+PartTellsWhere =
+    (s : List ℕ) (part : ℕ) (t : List ℕ) (r : UzPart) (t′ : List ℕ)
+    → UzPartPromise s part t r t′ → TellsWhere s (SearchComes s part (length t)) (r .refused) (r .«refused_at»)
+
+abbrev pub PlaceTellsWhere : Type 0
+PlaceTellsWhere =
+    (s : List ℕ) (start size parent x : ℕ) (t : List ℕ) (r : UzPlace) (t′ : List ℕ)
+    → UzPlacePromise s start size parent x t r t′
+    → TellsWhere s (Comes s keeping (length t / width) 0 parent start size 0) (r .refused) (r .«refused_at»)
 
 -- ---- each number crosses under its own name
 

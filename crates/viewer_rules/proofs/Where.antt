@@ -1,0 +1,65 @@
+-- Number and address of a refusal cross together, and it is honest (`PartTellsWhere`, `PlaceTellsWhere`). Assumes
+-- nothing.
+use Prim.Native.Nat.{ℕ, _/_}
+use mathlib.Core.Path.{_≡_, refl, sym, subst}
+use mathlib.Core.List.{List}
+use native.Mathlib.Omega.{arith}
+use lib.ListN.{length}
+use Rattle.refusals.specs.Causes.{causeNumber}
+use Rattle.refusals.specs.Reply.{Reply, accepted, refusal}
+use Rattle.refusals.specs.declared.refusal.Refusal.{Refusal}
+use Rattle.refusals.proofs.Listed.{listed}
+use Rattle.elements_rules.specs.Rows.{width}
+use Rattle.elements_rules.specs.Promise.{keeping}
+use Rattle.elements_rules.specs.Faults.{Errand, Honest, Comes}
+use Rattle.places_rules.specs.Whose.{Whose, byHeader, byPayload, askedOf, whoseOf}
+use Rattle.places_rules.proofs.Honest.{places-honest}
+use Rattle.search_rules.specs.Part.{PartTold, foundPart, absentPart, searchOf, replyOf}
+use Rattle.search_rules.specs.Faults.{SearchComes}
+use Rattle.search_rules.proofs.Faults.{search-honest}
+use Rattle.viewer_rules.specs.Faces.{partFace, placeFace}
+use Rattle.viewer_rules.specs.Theorems.{TellsWhere, PartTellsWhere, PlaceTellsWhere}
+use Rattle.viewer_rules.specs.declared.part.UzPart.{UzPart}
+use Rattle.viewer_rules.specs.declared.whose.UzPlace.{UzPlace}
+
+module _ (s : List ℕ) (Reached : ℕ → Errand → Type 0) where
+  -- Without a refusal both are 0.
+  fine : TellsWhere s Reached 0 0
+  fine = record { broke = λ some. absurd (some refl); fine = λ z. refl }
+
+  -- No refusal has the number 0.
+  broke : (e : Refusal) → Honest s Reached e → TellsWhere s Reached (causeNumber (e .cause)) (e .address)
+  broke e h = record {
+    broke = λ some. record { cause = e; number = refl; address = refl; honest = h };
+    fine = λ z. let l = listed e .least in absurd (let y : ⊥ = omega arith in y);
+  }
+
+pub part-tells-where : PartTellsWhere
+part-tells-where s part t r t′ p =
+    subst (λ (x : UzPart). TellsWhere s Here (x .refused) (x .«refused_at»)) (sym (p .reply))
+    (by (replyOf (searchOf s part (length t))) refl)
+  where
+    Here : ℕ → Errand → Type 0
+    Here = SearchComes s part (length t)
+
+    by : (x : Reply PartTold) → replyOf (searchOf s part (length t)) ≡ x
+        → TellsWhere s Here (partFace x .refused) (partFace x .«refused_at»)
+    by (accepted (foundPart at size rows heads)) k = fine s Here
+    by (accepted (absentPart heads)) k = fine s Here
+    by (refusal e) k = broke s Here e (search-honest s part t e t′ (record { reply = sym k; table = p .table }))
+
+pub place-tells-where : PlaceTellsWhere
+place-tells-where s start size parent x t r t′ p =
+    subst (λ (z : UzPlace). TellsWhere s Here (z .refused) (z .«refused_at»)) (sym (p .reply))
+    (by (whoseOf start x (askedOf s start size parent x (length t))) refl)
+  where
+    Here : ℕ → Errand → Type 0
+    Here = Comes s keeping (length t / width) 0 parent start size 0
+
+    by : (z : Reply Whose) → whoseOf start x (askedOf s start size parent x (length t)) ≡ z
+        → TellsWhere s Here (placeFace z .refused) (placeFace z .«refused_at»)
+    by (accepted (byHeader row rows)) k = fine s Here
+    by (accepted (byPayload row rows)) k = fine s Here
+    by (refusal e) k =
+        broke s Here e
+        (places-honest .owner s start size parent x t e t′ (record { reply = sym k; table = p .table }))
