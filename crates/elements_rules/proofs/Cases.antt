@@ -1,4 +1,4 @@
--- Document 01's cases P1 to P12 hold. Assumes nothing.
+-- Document 01's cases P1 to P12 hold, and the small reads that are refused. Assumes nothing.
 use mathlib.Core.Path.{refl}
 use lib.ListN.{drop}
 use Rattle.header.specs.Vint.{octetBits, bits, oneMore, widthOf, bigEndianFrom, bigEndian, ofWidth, vintOf}
@@ -21,6 +21,8 @@ unfolding octetBits bits oneMore widthOf bigEndianFrom bigEndian ofWidth vintOf 
     elements kindIn member keeps demoted kindUnder behind utf8Char anyOf goesOn utf8 signedOf bodyOf bodyReply
     span count join refuseIf full siblings element masterBody rows flat flatten isTable allowed filled readOf tableOf
 cases-hold =
-    let read-cases : Hold (drop 16 cases) = ((refl, refl), ((refl, refl), ((refl, refl), tt))) in
+    let broken : Hold (drop 19 cases) =
+    (refl, (refl, (refl, (refl, (refl, (refl, (refl, (refl, (refl, (refl, (refl, tt))))))))))) in
+    let read-cases : Hold (drop 16 cases) = ((refl, refl), ((refl, refl), ((refl, refl), broken))) in
     let body-cases : Hold (drop 10 cases) = (refl, (refl, (refl, (refl, (refl, (refl, read-cases)))))) in
     (refl, (refl, (refl, (refl, (refl, (refl, (refl, (refl, (refl, (refl, body-cases))))))))))

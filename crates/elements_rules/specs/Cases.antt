@@ -1,8 +1,9 @@
 -- Document 01's cases that are to be proved, as one table (Cases, P1 to P12): what is asked of the bytes, and the
--- reply.
-use Prim.Native.Nat.{ℕ, _^_, _-_, _*_}
+-- reply. And small reads that are refused, each at an address of its own sort (document 02, C-12).
+use Prim.Native.Nat.{ℕ, zero, suc, _+_, _^_, _-_, _*_}
 use mathlib.Core.Path.{_≡_}
 use mathlib.Core.List.{List, [], _∷_}
+use lib.ListN.{length}
 use lib.IntN.{pos, negsuc}
 use Rattle.refusals.specs.Refusals.{because}
 use Rattle.refusals.specs.Reply.{Reply, refusal, ByNumber, given, refused, byNumber}
@@ -25,6 +26,8 @@ pub data Case : Type 0 where
   body : (name : ℕ) → List ℕ → ByNumber Body → Case
   -- the elements of a payload at 0, of a size and under a parent id, into a table of two rows: the reply, and the table
   read : (name : ℕ) → List ℕ → (size parent : ℕ) → ByNumber ℕ → List ℕ → Case
+  -- the elements of a whole list of bytes under no parent, into a table of so many rows, refused: number and address
+  breaks : List ℕ → (rows : ℕ) → (number address : ℕ) → Case
 
 -- Two rows.
 abbrev pub numbers : ℕ
@@ -33,6 +36,11 @@ numbers = 2 * width
 -- A header with that id, size and length.
 abbrev is : (id size length : ℕ) → ByNumber Header
 is id size length = given (record { id = id; size = size; length = length })
+
+-- So many empty masters, each in the one before, in front of bytes; n is how many these are.
+abbrev nested : (count n : ℕ) → List ℕ → List ℕ
+nested zero n s = s
+nested (suc count) n s = nested count (n + 2) (0xB6 ∷ (0x80 + n) ∷ s)
 
 abbrev pub cases : List Case
 cases =
@@ -57,6 +65,21 @@ cases =
     ∷ read 11 (0x67 ∷ 0xC8 ∷ 0x84 ∷ 0x45 ∷ 0xA3 ∷ 0x82 ∷ 0x41 ∷ []) 7 0 (refused 1 0 3) (zeros numbers)
     ∷ read 12 (0x16 ∷ 0x54 ∷ 0xAE ∷ 0x6B ∷ 0x82 ∷ 0xE0 ∷ 0x80 ∷ []) 7 0x18538067 (given 2)
     (0x1654AE6B ∷ 0 ∷ 0 ∷ 5 ∷ 2 ∷ 1 ∷ 0 ∷ 2 ∷ 0xE0 ∷ 1 ∷ 5 ∷ 2 ∷ 0 ∷ 6 ∷ 1 ∷ 2 ∷ [])
+    -- A header that is not there: where it would begin, and not its master's address.
+    ∷ breaks (0xAE ∷ 0x81 ∷ []) 2 1 2
+    -- A bad id and a bad size: where that header begins.
+    ∷ breaks (0xEC ∷ 0x80 ∷ 0x0F ∷ 0x80 ∷ []) 2 2 2
+    ∷ breaks (0xEC ∷ 0x80 ∷ 0xAE ∷ 0x00 ∷ 0x01 ∷ []) 2 3 2
+    -- Bodies: the header's address, and not the payload's.
+    ∷ breaks (0xEC ∷ 0x80 ∷ 0xD7 ∷ 0x89 ∷ []) 2 4 2
+    ∷ breaks (0xEC ∷ 0x80 ∷ 0xB5 ∷ 0x80 ∷ []) 2 5 2
+    ∷ breaks (0xEC ∷ 0x80 ∷ 0x44 ∷ 0x61 ∷ 0x87 ∷ []) 2 6 2
+    ∷ breaks (0x45 ∷ 0xA3 ∷ 0x81 ∷ 0xFF ∷ []) 1 7 0
+    ∷ breaks (0xEC ∷ 0x80 ∷ 0xEC ∷ 0x81 ∷ []) 2 1 2
+    -- The element whose header was read: depth 16 in an edition of 35 bytes, and no row free.
+    ∷ breaks (0x45 ∷ 0xB9 ∷ 0xA0 ∷ nested 16 0 []) 17 12 33
+    ∷ breaks (0xEC ∷ 0x80 ∷ []) 0 13 0
+    ∷ breaks (0xEC ∷ 0x80 ∷ 0xEC ∷ 0x80 ∷ []) 1 13 2
     ∷ []
 
 -- The body behind a header that was read at 0.
@@ -70,6 +93,8 @@ Holds (body name s reply) = byNumber (bodyBehind s (headerOf s)) ≡ reply
 Holds (read name s size parent reply table) =
     (byNumber (replyOf (readOf s 0 size parent numbers)) ≡ reply)
     × (tableOf 0 numbers (readOf s 0 size parent numbers) ≡ table)
+Holds (breaks s rows number address) =
+    byNumber (replyOf (readOf s 0 (length s) 0 (rows * width))) ≡ refused number 0 address
 
 -- The one statement: each case's question has the case's reply.
 abbrev pub Hold : List Case → Type 0
