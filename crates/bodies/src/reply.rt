@@ -38,7 +38,7 @@ pub fn body_at(
         });
     }
     let kind = kind_of(id, parent);
-    // The caller names the payload, so that no byte is a header's.
+    // The caller names the payload, and says where the header is; no byte of that is looked at.
     let element = Headed {
         place: Cursor { at: address },
         payload: Cursor { at },

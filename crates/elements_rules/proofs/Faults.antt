@@ -1,6 +1,6 @@
 -- Refusals are honest (`HeaderHonest`, `BodyHonest`, `ReadHonest`): the fault is at the address, and the reader came
 -- there. Assumes nothing.
-use Prim.Native.Nat.{ℕ, zero, suc, _+_, _-_, _*_, _/_, _≤_, _<_}
+use Prim.Native.Nat.{ℕ, zero, suc, _+_, _-_, _/_, _≤_, _<_}
 use mathlib.Core.Path.{_≡_, refl, sym, ap, _∙_, subst}
 use mathlib.Core.List.{List}
 use mathlib.Core.Logic.{_⊎_, inl, inr}
@@ -8,9 +8,9 @@ use mathlib.Core.Bool.{Bool, true, false, cond, _&&_, _||_, not}
 use native.Mathlib.Omega.{arith}
 use lib.ListN.{length, drop}
 use lib.Dec.{leb, ltb, eqb}
-use borrow.Author.Tests.{eqb-true, eqb-false, ltb-true, ltb-false}
+use borrow.Author.Tests.{eqb-false, ltb-true, ltb-false}
 use Rattle.refusals.specs.Refusals.{because, overrun, tooDeep, noFreeRow, badArgument}
-use Rattle.refusals.specs.Reply.{Reply, accepted, refusal}
+use Rattle.refusals.specs.Reply.{refusal}
 use Rattle.refusals.specs.declared.refusal.Cause.{Cause}
 use Rattle.refusals.specs.declared.refusal.Cause.the-variants as C
 use Rattle.refusals.specs.declared.refusal.Refusal.{Refusal}
@@ -29,21 +29,20 @@ use Rattle.bodies_rules.specs.Numbers.{signedOf, floatOf}
 use Rattle.bodies_rules.specs.Bodies.{refused as refusedBody}
 use Rattle.bodies_rules.specs.Promise.{bodyReply}
 use Rattle.bodies_rules.specs.Promise.{replyOf as bodyTold}
-use Rattle.bodies_rules.specs.declared.body.Body.{Body}
 use Rattle.bodies_rules.specs.declared.body.Body.the-variants.{Value, Master}
 use Rattle.bodies_rules.specs.declared.body.Value.{Value as ValueType}
 use Rattle.bodies_rules.specs.declared.body.Value.the-variants.{Integer, Unsigned, Float, Date, Text, Bytes}
-use Rattle.elements_rules.specs.Forest.{Forest, none, node, span, count}
+use Rattle.elements_rules.specs.Forest.{Forest, none, span, count}
 use Rattle.elements_rules.specs.Reading.{Outcome, done, refused, andThen, prepend, above, refuseIf, headed, held}
 use Rattle.elements_rules.specs.Reading.{full, siblings, elementHeader, elementOf, depths, element, masterBody}
 use Rattle.elements_rules.specs.Rows.{width}
 use Rattle.elements_rules.specs.Promise.{keeping, allowed, filled, readOf, replyOf}
-use Rattle.elements_rules.specs.Faults.{Errand, toHeader, toBody, toElement, Standing, NoHeader, headerAlone}
-use Rattle.elements_rules.specs.Faults.{headerRead, NoBody, bodyRead, bodyNamed, largerRead, Deeper, deeperRead}
-use Rattle.elements_rules.specs.Faults.{rowlessRead, Fault, FaultThere, Honest, there, callers, Comes, here, past}
+use Rattle.elements_rules.specs.Faults.{Errand, toHeader, toBody, toElement, NoHeader, headerAlone}
+use Rattle.elements_rules.specs.Faults.{headerOfElement, NoBody, bodyOfElement, bodyNamed, largerElement}
+use Rattle.elements_rules.specs.Faults.{Deeper, deeperElement, fullElement, Fault, FaultThere, Honest, there}
+use Rattle.elements_rules.specs.Faults.{callers, Comes, here, past}
 use Rattle.elements_rules.specs.Faults.{into, HonestReading, HeaderHonest, BodyHonest, ReadHonest}
 use Rattle.elements_rules.specs.declared.row.Mode.{Mode}
-use Rattle.elements_rules.proofs.Parts.{no-depth, of-element}
 use Rattle.elements_rules.proofs.Standing.{is-master}
 
 -- ---- which causes a header and a body have
@@ -161,17 +160,6 @@ module _ (s : List ℕ) (mode : Mode) (cap : ℕ) where
       fault = f;
     }
 
-    -- An element that was read takes its header and its size.
-    takes : (levels at n : ℕ) (f : Forest) → element s mode cap levels parent at n ≡ done f
-        → Standing s at (λ h. span f ≡ h .length + h .size)
-    unfolding span
-    takes zero at n f q = no-depth s mode cap parent at n f q
-    takes (suc levels) at n f q =
-        let o = of-element s mode cap levels parent at n f q in
-        let h = o .header in
-        let i = ap span (o .is) in
-        (h, o .head, omega (arith, i))
-
     -- What is known of the elements behind one.
     abbrev Behind : ℕ → Type 0
     Behind most =
@@ -214,10 +202,9 @@ module _ (s : List ℕ) (mode : Mode) (cap : ℕ) where
         by-read l fewer (done f) k w =
             of-test (ltb left (span f)) (overrun at) (prepend f (rest f)) e w
             (λ b i.
-            let (h, j, m) = takes (depths - depth) at n f k in
-            let o = ltb-true left (span f) b in
             subst (Found depth parent at left n) i
-            (own at left n C.Overrun l (largerRead mode cap parent depth n left (h, j, omega arith))))
+            (own at left n C.Overrun l
+            (largerElement mode cap parent depth n left f k (ltb-true left (span f) b))))
             (λ b r. after f k (ltb-false left (span f) b) fewer (rest f) refl r)
 
         by-left : (b : Bool) → eqb left 0 ≡ b → cond b (done none) (turn (read at n)) ≡ refused e
@@ -235,7 +222,7 @@ module _ (s : List ℕ) (mode : Mode) (cap : ℕ) where
       let x = toElement mode cap parent depth n size in
       subst (Found depth parent at size n) i
       (own depth parent at size n c l
-      (header-fault s at x (λ d v. headerRead mode cap parent depth n size v) c w))
+      (header-fault s at x (λ d v. headerOfElement mode cap parent depth n size v) c w))
 
   -- What is known of elements with so many depths left.
   abbrev Below : ℕ → Type 0
@@ -257,7 +244,7 @@ module _ (s : List ℕ) (mode : Mode) (cap : ℕ) where
           subst (Found depth parent at size n) i
           (own depth parent at size n C.TooDeep l
           (subst (λ (j : ℕ). Deeper s at (toElement mode cap parent j n size)) z
-          (deeperRead mode cap parent n size (h, w, tt))))
+          (deeperElement mode cap parent n size (h, w, tt))))
   element-found (suc levels) depth parent at size n e k d l q =
       by (elementHeader s at) refl q (element-found levels)
     where
@@ -304,7 +291,7 @@ module _ (s : List ℕ) (mode : Mode) (cap : ℕ) where
           subst (Found depth parent at size n) i
           (own depth parent at size n c l
           (body-fault s at (at + h .length) (h .size) (kindUnder (h .id) parent) x
-          (λ b v. bodyRead mode cap parent depth n size (h, w, v)) c m))
+          (λ b v. bodyOfElement mode cap parent depth n size (omega arith) f (h, w, v)) c m))
 
       by : (x : Heading) → elementHeader s at ≡ x
           → headed at x (λ h. refuseIf (full mode cap n) (noFreeRow at) (goes-on h)) ≡ refused e
@@ -315,7 +302,7 @@ module _ (s : List ℕ) (mode : Mode) (cap : ℕ) where
           of-test (full mode cap n) (noFreeRow at) (goes-on h) e r
           (λ b i.
           subst (Found depth parent at size n) i
-          (own depth parent at size n C.NoFreeRow l (rowlessRead mode cap parent depth n size (h, w, b))))
+          (own depth parent at size n C.NoFreeRow l (fullElement mode cap parent depth n size (omega arith) (h, w, b))))
           (λ b v. by-body h w b lower (bodyOf s (at + h .length) (h .size) (kindUnder (h .id) parent)) refl v)
 
   -- A master's payload that is refused.
@@ -383,7 +370,7 @@ unfolding bodyReply
 body-honest s id parent at size address e p = by (leb (length s) mostBytes && leb at (length s)) (p .reply)
   where
     asked : ℕ → Errand → Type 0
-    asked a x = x ≡ toBody id parent at size address
+    asked a x = (a ≡ address) × (x ≡ toBody id parent at size address)
 
     by-body : (x : Told) → bodyOf s at size (kindUnder id parent) ≡ x → refusal e ≡ bodyTold address x
         → Honest s asked e
@@ -393,7 +380,7 @@ body-honest s id parent at size address e p = by (leb (length s) mostBytes && le
         subst (Honest s asked) i
         (there (record {
           errand = toBody id parent at size address;
-          reached = refl;
+          reached = (refl, refl);
           fault =
               body-fault s address at size (kindUnder id parent) (toBody id parent at size address)
               (λ d v. bodyNamed id parent at size v) c w;

@@ -41,13 +41,15 @@ pub data Errand : Type 0 where
   -- To read an element: with so many rows in the table, under a parent id, at a depth, with so many rows taken, and so
   -- many bytes left in its master.
   toElement : Mode → (cap parent depth rows left : ℕ) → Errand
-  -- To pass over an element of the file or of the segment, with so many bytes left there.
-  toPass : (left : ℕ) → Errand
-  -- To find an element of that id, which an entry names.
+  -- To go over a child of the segment, with so many bytes left there, unless its id is one of these.
+  toPass : (stops : List ℕ) (left : ℕ) → Errand
+  -- To find an element of that id at the address that an entry names.
   toFind : (id : ℕ) → Errand
-  -- To follow an entry for that id, with a position counted from the segment's start, behind the heads that were read
-  -- at these addresses.
-  toFollow : (id start position : ℕ) (heads : List ℕ) → Errand
+  -- To follow an entry for a further seek head, with a position counted from the segment's start, behind the heads that
+  -- were read at these addresses.
+  toFollow : (start position : ℕ) (heads : List ℕ) → Errand
+  -- To look up the last entry for that id, likewise, when all heads were read.
+  toLookUp : (id start position : ℕ) (heads : List ℕ) → Errand
 
 -- ---- the faults
 
@@ -58,62 +60,73 @@ Standing s at P = (h : Header) × (elementHeader s at ≡ heading h) × P h
 -- The header there is refused.
 pub data NoHeader (s : List ℕ) (at : ℕ) (c : Cause) : Errand → Type 0 where
   headerAlone : elementHeader s at ≡ refusedHeader c → NoHeader s at c toHeader
-  headerRead :
+  headerOfElement :
       (mode : Mode) (cap parent depth rows left : ℕ) → elementHeader s at ≡ refusedHeader c
       → NoHeader s at c (toElement mode cap parent depth rows left)
-  headerPassed : (left : ℕ) → elementHeader s at ≡ refusedHeader c → NoHeader s at c (toPass left)
+  headerPassed :
+      (stops : List ℕ) (left : ℕ) → elementHeader s at ≡ refusedHeader c → NoHeader s at c (toPass stops left)
   headerFound : (id : ℕ) → elementHeader s at ≡ refusedHeader c → NoHeader s at c (toFind id)
 
--- A header stands there, and its body is refused. Of a body that the caller names the address is what he gave.
+-- A header stands there, and its body is refused: it is not too deep, and has a row. Of a body that the caller names
+-- the address is the one that was given.
 pub data NoBody (s : List ℕ) (at : ℕ) (c : Cause) : Errand → Type 0 where
-  bodyRead :
-      (mode : Mode) (cap parent depth rows left : ℕ)
+  bodyOfElement :
+      (mode : Mode) (cap parent depth rows left : ℕ) → depth < depths → full mode cap rows ≡ false
       → Standing s at (λ h. bodyOf s (at + h .length) (h .size) (kindUnder (h .id) parent) ≡ refusedBody c)
       → NoBody s at c (toElement mode cap parent depth rows left)
   bodyNamed :
       (id parent from size : ℕ) → bodyOf s from size (kindUnder id parent) ≡ refusedBody c
       → NoBody s at c (toBody id parent from size at)
 
--- It is larger than what was left.
+-- It is larger than what was left: an element that was read whole, or a child that is passed over.
 pub data Larger (s : List ℕ) (at : ℕ) : Errand → Type 0 where
-  largerRead :
-      (mode : Mode) (cap parent depth rows left : ℕ) → Standing s at (λ h. left < h .length + h .size)
+  largerElement :
+      (mode : Mode) (cap parent depth rows left : ℕ) (f : Forest)
+      → element s mode cap (depths - depth) parent at rows ≡ done f → left < span f
       → Larger s at (toElement mode cap parent depth rows left)
-  largerPassed : (left : ℕ) → Standing s at (λ h. left < h .length + h .size) → Larger s at (toPass left)
+  largerPassed :
+      (stops : List ℕ) (left : ℕ)
+      → Standing s at (λ h. (member (h .id) stops ≡ false) × (left < h .length + h .size))
+      → Larger s at (toPass stops left)
 
 -- It stands one depth too deep: the deepest row has depth 15.
 pub data Deeper (s : List ℕ) (at : ℕ) : Errand → Type 0 where
-  deeperRead :
+  deeperElement :
       (mode : Mode) (cap parent rows left : ℕ) → Standing s at (λ h. Unit)
       → Deeper s at (toElement mode cap parent depths rows left)
 
--- It finds the table full.
-pub data NoRow (s : List ℕ) (at : ℕ) : Errand → Type 0 where
-  rowlessRead :
-      (mode : Mode) (cap parent depth rows left : ℕ) → Standing s at (λ h. full mode cap rows ≡ true)
-      → NoRow s at (toElement mode cap parent depth rows left)
+-- It finds the table full, and is not too deep.
+pub data Full (s : List ℕ) (at : ℕ) : Errand → Type 0 where
+  fullElement :
+      (mode : Mode) (cap parent depth rows left : ℕ) → depth < depths
+      → Standing s at (λ h. full mode cap rows ≡ true)
+      → Full s at (toElement mode cap parent depth rows left)
 
 -- It has another id than the one that is sought.
 pub data Other (s : List ℕ) (at : ℕ) : Errand → Type 0 where
   otherFound : (id : ℕ) → Standing s at (λ h. h .id ≡ id → ⊥) → Other s at (toFind id)
 
--- The entry's address exceeds 2^64-1; the last head that was read is there.
-pub data Far (at id : ℕ) : Errand → Type 0 where
+-- The entry's address exceeds 2^64-1; the last head that was read is there. A further head's id is SeekHead's.
+pub data Far (at : ℕ) : ℕ → Errand → Type 0 where
   farFollowed :
       (start position : ℕ) (before : List ℕ) → 2 ^ 64 ≤ start + position
-      → Far at id (toFollow id start position (before ++ (at ∷ [])))
+      → Far at 0x114D9B74 (toFollow start position (before ++ (at ∷ [])))
+  farLookedUp :
+      (id start position : ℕ) (before : List ℕ) → 2 ^ 64 ≤ start + position
+      → Far at id (toLookUp id start position (before ++ (at ∷ [])))
 
--- The entry leads there, where one of the heads that were read is.
+-- The entry for a head leads there, where one of the heads that were read is.
 pub data Again (at : ℕ) : Errand → Type 0 where
   againFollowed :
-      (id start position : ℕ) (heads : List ℕ) → start + position ≡ at → member at heads ≡ true
-      → Again at (toFollow id start position heads)
+      (start position : ℕ) (heads : List ℕ) → start + position ≡ at → at < 2 ^ 64 → member at heads ≡ true
+      → Again at (toFollow start position heads)
 
--- The entry leads there, where none of the heads that were read is; and 64 were read.
+-- The entry for a head leads there, where none of the heads that were read is; and 64 were read.
 pub data Many (at : ℕ) : Errand → Type 0 where
   manyFollowed :
-      (id start position : ℕ) (heads : List ℕ) → start + position ≡ at → member at heads ≡ false → length heads ≡ 64
-      → Many at (toFollow id start position heads)
+      (start position : ℕ) (heads : List ℕ)
+      → start + position ≡ at → at < 2 ^ 64 → member at heads ≡ false → length heads ≡ 64
+      → Many at (toFollow start position heads)
 
 -- The fault that a refusal names, by its cause.
 abbrev pub Fault : List ℕ → ℕ → Errand → Cause → Type 0
@@ -130,7 +143,7 @@ Fault s at x StaleEntry = Other s at x
 Fault s at x HeadAgain = Again at x
 Fault s at x TooManyHeads = Many at x
 Fault s at x TooDeep = Deeper s at x
-Fault s at x NoFreeRow = NoRow s at x
+Fault s at x NoFreeRow = Full s at x
 Fault s at x BadArgument = ⊥
 Fault s at x Outside = ⊥
 
@@ -160,7 +173,7 @@ abbrev pub BodyHonest : Type 0
 BodyHonest =
     (s : List ℕ) (id parent at size address : ℕ) (e : Refusal)
     → BodyPromise s id parent at size address (NoBodyReply e)
-    → Honest s (λ (a : ℕ) (x : Errand). x ≡ toBody id parent at size address) e
+    → Honest s (λ (a : ℕ) (x : Errand). (a ≡ address) × (x ≡ toBody id parent at size address)) e
 
 -- ---- the way to an element
 

@@ -8,7 +8,7 @@ use native.Mathlib.Omega.{arith}
 use lib.ListN.{length}
 use lib.Dec.{leb, ltb}
 use Rattle.refusals.specs.Refusals.{badArgument, outside}
-use Rattle.refusals.specs.Reply.{Reply, accepted, refusal}
+use Rattle.refusals.specs.Reply.{refusal}
 use Rattle.refusals.specs.declared.refusal.Refusal.{Refusal}
 use Rattle.elements_rules.specs.Forest.{count}
 use Rattle.elements_rules.specs.Reading.{Outcome, done, refused}
@@ -20,7 +20,7 @@ use Rattle.elements_rules.specs.declared.row.Row.{Row}
 use Rattle.elements_rules.proofs.Faults.{of-test, filled-found}
 use Rattle.places_rules.specs.Payload.{PayloadRange, range, payloadRange}
 use Rattle.places_rules.specs.Payload.{refused as noRange}
-use Rattle.places_rules.specs.Whose.{Whose, named, holderIn, whoseIn, askedOf, whoseOf}
+use Rattle.places_rules.specs.Whose.{named, holderIn, whoseIn, askedOf, whoseOf}
 use Rattle.places_rules.specs.Promise.{valuesOf}
 use Rattle.places_rules.specs.Theorems.{PlacesHonest}
 use Rattle.places_rules.specs.declared.whose.Holder.{Holder}

@@ -1,4 +1,4 @@
--- Refusals by the names of their causes, each at its address (document 02, C-12). There is no other way to make one.
+-- Refusals by the names of their causes, each at its address (document 02, C-12). The definitions make none otherwise.
 use Prim.Native.Nat.{ℕ}
 use Rattle.refusals.specs.declared.refusal.Cause.{Cause}
 use Rattle.refusals.specs.declared.refusal.Cause.the-variants.{PastEnd, Overrun}

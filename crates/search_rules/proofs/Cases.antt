@@ -14,7 +14,7 @@ use Rattle.elements_rules.specs.Reading.{refuseIf, full, siblings, element, mas
 use Rattle.elements_rules.specs.Promise.{isTable, allowed, filled}
 use Rattle.seekhead_rules.specs.Seeks.{lastFour, withMembers, entryOf, entries}
 use Rattle.seekhead_rules.specs.Table.{later, latestFrom}
-use Rattle.seekchain_rules.specs.Heads.{sought, lastOf, nextHead, chain}
+use Rattle.seekchain_rules.specs.Heads.{sought, lastHead, nextHead, chain}
 use Rattle.seekchain_rules.specs.Lookup.{partAt, byHeads}
 use Rattle.seekchain_rules.specs.Step.{childAt}
 use Rattle.segments_rules.specs.Walk.{walk}
@@ -26,7 +26,7 @@ pub cases-hold : Hold cases
 unfolding octetBits bits oneMore widthOf bigEndianFrom bigEndian ofWidth vintOf sized named headerOf headerRead headerAt
     elements kindIn keeps demoted kindUnder utf8Char behind anyOf goesOn utf8 bodyOf
     span count join refuseIf full siblings element masterBody isTable allowed filled
-    lastFour withMembers entryOf entries later latestFrom member sought lastOf nextHead chain partAt byHeads
+    lastFour withMembers entryOf entries later latestFrom member sought lastHead nextHead chain partAt byHeads
     childAt walk segmentOf visit segmentChildren lookupOf parentOf searchOf
 cases-hold =
     let rest : Hold (drop 12 cases) = (refl, (refl, (refl, (refl, (refl, (refl, (refl, (refl, tt)))))))) in

@@ -1,15 +1,15 @@
 -- A search is refused for a fault that it comes to, at its address (`SearchHonest`). Assumes nothing.
-use Prim.Native.Nat.{ℕ, zero, suc, _+_, _-_, _/_, _≤_, _<_}
+use Prim.Native.Nat.{ℕ, zero, suc, _-_, _≤_, _<_}
 use mathlib.Core.Path.{_≡_, refl, sym, ap, _∙_, subst}
-use mathlib.Core.List.{List, []}
+use mathlib.Core.List.{List, [], _∷_}
 use mathlib.Core.Logic.{inl}
 use mathlib.Core.Bool.{Bool, true, false, cond, not}
 use native.Mathlib.Omega.{arith}
 use lib.ListN.{length}
 use lib.Dec.{ltb, eqb}
 use borrow.Author.Tests.{eqb-true, eqb-false, ltb-true, ltb-false}
-use Rattle.refusals.specs.Refusals.{because, pastEnd, overrun, badArgument}
-use Rattle.refusals.specs.Reply.{Reply, accepted, refusal}
+use Rattle.refusals.specs.Refusals.{because, overrun, badArgument}
+use Rattle.refusals.specs.Reply.{refusal}
 use Rattle.refusals.specs.declared.refusal.Cause.{Cause}
 use Rattle.refusals.specs.declared.refusal.Cause.the-variants as C
 use Rattle.refusals.specs.declared.refusal.Refusal.{Refusal}
@@ -19,30 +19,29 @@ use Rattle.header.specs.declared.cursor.Headed.{Headed}
 use Rattle.header.specs.declared.cursor.HeaderRead.{HeaderRead}
 use Rattle.header.specs.declared.cursor.HeaderRead.the-variants.{Read, Refused as HeaderRefused}
 use Rattle.header.proofs.Inside.{header-there}
-use Rattle.elements_rules.specs.Forest.{Forest}
+use Rattle.kinds.specs.Kinds.{member}
 use Rattle.elements_rules.specs.Reading.{Outcome, done, elementHeader}
 use Rattle.elements_rules.specs.Reading.{refused as refusedReading}
 use Rattle.elements_rules.specs.Promise.{allowed, filled}
-use Rattle.elements_rules.specs.Faults.{Errand, toPass, headerPassed, largerPassed, Fault, FaultThere, Honest, there}
-use Rattle.elements_rules.specs.Faults.{callers}
+use Rattle.elements_rules.specs.Faults.{Errand, toHeader, toPass, headerAlone, headerPassed, largerPassed, Fault}
+use Rattle.elements_rules.specs.Faults.{FaultThere, Honest, there, callers}
 use Rattle.elements_rules.proofs.Faults.{header-fault, filled-found}
 use Rattle.seekhead_rules.specs.Seeks.{segmentId, seekHeadId}
 use Rattle.seekchain_rules.specs.Answers.{onHeader, onOutcome}
 use Rattle.seekchain_rules.specs.Step.{childAt, onChild}
 use Rattle.seekchain_rules.specs.Lookup.{Lookup, stopped}
-use Rattle.seekchain_rules.specs.Lookup.{found as foundAt, absent as absentAt, byHeads as byHeadsOf}
+use Rattle.seekchain_rules.specs.Lookup.{found as foundAt, absent as absentAt, byHeads}
 use Rattle.seekchain_rules.specs.declared.step.ChildRead.{ChildRead}
 use Rattle.seekchain_rules.specs.declared.step.ChildRead.the-variants.{Child, End, Refused as ChildRefused}
 use Rattle.seekchain_rules.proofs.Sought.{child-is}
 use Rattle.seekchain_rules.proofs.Faults.{past-end, step-ended, step-refused, heads-honest}
-use Rattle.segments_rules.specs.Walk.{Visit, ends, onVisit, Walk, walk, walkFrom}
-use Rattle.segments_rules.specs.Walk.{over as passedOver}
+use Rattle.segments_rules.specs.Walk.{Visit, ends, over, onVisit, Walk, walk, walkFrom}
 use Rattle.segments_rules.specs.Segment.{seeking, segmentOf, withinSegment, visit, searching, segmentChildren, lookupOf}
 use Rattle.segments_rules.proofs.Walks.{Stepped, stepped}
 use Rattle.search_rules.specs.Part.{Search, found, absent, refused, onParent, onLookup, parentOf, searchOf}
 use Rattle.search_rules.specs.Part.{replyOf}
-use Rattle.search_rules.specs.Faults.{Walks, begun, over, ToSegment, Passed, InSegment, SearchComes, inFile}
-use Rattle.search_rules.specs.Faults.{inSegment, byHeads, inPart, SearchHonest}
+use Rattle.search_rules.specs.Faults.{Walks, begun, passing, ToSegment, Passed, InSegment, SearchComes, inFile}
+use Rattle.search_rules.specs.Faults.{inSegment, fromHeads, inPart, SearchHonest}
 use Rattle.search_rules.specs.declared.part.Parent.{Parent}
 use Rattle.search_rules.specs.declared.part.Parent.the-variants.{Id, NoPart}
 
@@ -51,7 +50,7 @@ use Rattle.search_rules.specs.declared.part.Parent.the-variants.{Id, NoP
 -- What a visit has to give: what is to hold of an answer that ends the walk, or that the element is passed over.
 abbrev Went : {A B : Type 0} → (B → Type 0) → Type 0 → Visit A B → Type 0
 Went P Q (ends b) = P b
-Went P Q (passedOver a) = Q
+Went P Q (over a) = Q
 
 module _ {A B : Type 0} (s : List ℕ) (end : ℕ) (w : Walk A B) (Over : Headed → Type 0) (from : ℕ) (P : B → Type 0)
     (at-the-end : (at : ℕ) (a : A) → Walks s end Over from at → end ≤ at → P (w .ended at a))
@@ -70,10 +69,10 @@ module _ {A B : Type 0} (s : List ℕ) (end : ℕ) (w : Walk A B) (Over : Headed
       by-visit : (e : Headed) → childAt s end at ≡ Child e → Onward → (v : Visit A B) → Went P (Over e) v
           → P (onVisit v (λ b. b) (walk s end w n (behind e)))
       by-visit e k on (ends b) p = p
-      by-visit e k on (passedOver b) p =
+      by-visit e k on (over b) p =
           let t = stepped s end at e k in
           on (behind e) b (omega (arith, t .onward, t .before))
-          (over at e g (t .before) (child-is s end at e k) p)
+          (passing at e g (t .before) (child-is s end at e k) p)
 
       by : (x : ChildRead) → childAt s end at ≡ x → Onward
           → P (onChild x (w .ended at a) (w .stop) (λ e. onVisit (w .visit a e) (λ b. b) (walk s end w n (behind e))))
@@ -88,13 +87,9 @@ module _ (s : List ℕ) (part numbers : ℕ) where
   abbrev Here : Refusal → Type 0
   Here e = FaultThere s (SearchComes s part numbers) e
 
-  -- An element that was to be passed over is at fault.
-  pass : (a left : ℕ) (c : Cause) → SearchComes s part numbers a (toPass left) → Fault s a (toPass left) c
-      → Here (because c a)
-  pass a left c r f = record { errand = toPass left; reached = r; fault = f }
-
-  no-header : (a left : ℕ) (c : Cause) → elementHeader s a ≡ refusedHeader c → Fault s a (toPass left) c
-  no-header a left c q = header-fault s a (toPass left) (λ d v. headerPassed left v) c q
+  -- What a walk comes to is at fault.
+  at-fault : (a : ℕ) (x : Errand) (c : Cause) → SearchComes s part numbers a x → Fault s a x c → Here (because c a)
+  at-fault a x c r f = record { errand = x; reached = r; fault = f }
 
   -- ---- before the segment
 
@@ -106,15 +101,16 @@ module _ (s : List ℕ) (part numbers : ℕ) where
   unfolding segmentOf
   file-fault =
       the-walk s (length s) seeking (λ e. e .header .id ≡ segmentId → ⊥) 0 OfFile
-      (λ at a g l.
-      pass at (length s - at) C.PastEnd (inFile at g) (no-header at (length s - at) C.PastEnd (past-end s at l)))
-      (λ at e g k.
-      let (l, h, i) = step-refused s (length s) at e k in
-      subst Here i (pass at (length s - at) (e .cause) (inFile at g) (no-header at (length s - at) (e .cause) h)))
+      (λ at a g l. unread at C.PastEnd g (past-end s at l))
+      (λ at e g k. let (l, h, i) = step-refused s (length s) at e k in subst Here i (unread at (e .cause) g h))
       (λ a at e g k. by e (eqb (e .header .id) segmentId) refl) tt
     where
+      unread : (at : ℕ) (c : Cause) → ToSegment s at → elementHeader s at ≡ refusedHeader c → Here (because c at)
+      unread at c g h =
+          at-fault at toHeader c (inFile at g) (header-fault s at toHeader (λ d v. headerAlone v) c h)
+
       by : (e : Headed) (b : Bool) → eqb (e .header .id) segmentId ≡ b
-          → Went {A = Unit} OfFile (e .header .id ≡ segmentId → ⊥) (cond b (ends (Read e)) (passedOver tt))
+          → Went {A = Unit} OfFile (e .header .id ≡ segmentId → ⊥) (cond b (ends (Read e)) (over tt))
       by e true q = tt
       by e false q = eqb-false (e .header .id) segmentId q
 
@@ -126,13 +122,14 @@ module _ (s : List ℕ) (part numbers : ℕ) where
   OfPlace (stopped e) = Here e
 
   module _ (segment : Headed) (is : segmentOf s ≡ Read segment) where
-    abbrev left : ℕ → ℕ
-    left a = behind segment - a
+    -- The errand at a child.
+    abbrev child : ℕ → Errand
+    child a = toPass (seekHeadId ∷ part ∷ []) (behind segment - a)
 
     visited : (at : ℕ) (e : Headed) → InSegment s part segment at → childAt s (behind segment) at ≡ Child e
         → Went {A = Unit} OfPlace (Passed part segment e)
         (withinSegment segment (searching s part segment) .visit tt e)
-    unfolding visit
+    unfolding visit member
     visited at e g k =
         by (eqb (e .header .id) seekHeadId) refl (eqb (e .header .id) part) refl (ltb (behind segment) (behind e)) refl
       where
@@ -145,7 +142,11 @@ module _ (s : List ℕ) (part numbers : ℕ) where
         begins : e .place .at ≡ at
         begins = header-there s at e read .begins
 
-        led : (p : Lookup) → byHeadsOf s part (segment .payload .at) e ≡ p → eqb (e .header .id) seekHeadId ≡ true
+        other-id : eqb (e .header .id) seekHeadId ≡ false → eqb (e .header .id) part ≡ false
+            → member (e .header .id) (seekHeadId ∷ part ∷ []) ≡ false
+        other-id q m = rw (q, m) refl
+
+        led : (p : Lookup) → byHeads s part (segment .payload .at) e ≡ p → eqb (e .header .id) seekHeadId ≡ true
             → OfPlace p
         led (foundAt x heads) q b = tt
         led (absentAt heads) q b = tt
@@ -154,7 +155,7 @@ module _ (s : List ℕ) (part numbers : ℕ) where
             record {
               errand = found .errand;
               reached =
-                  byHeads segment e (r .address) (found .errand) is
+                  fromHeads segment e (r .address) (found .errand) is
                   (subst (InSegment s part segment) (sym begins) g)
                   (subst (λ (x : ℕ). x < behind segment) (sym begins) (t .before))
                   (record { head = t .there; named = eqb-true (e .header .id) seekHeadId b })
@@ -166,16 +167,17 @@ module _ (s : List ℕ) (part numbers : ℕ) where
             → (d : Bool) → ltb (behind segment) (behind e) ≡ d
             → Went {A = Unit} OfPlace (Passed part segment e)
             (onVisit
-            (cond b (ends (byHeadsOf s part (segment .payload .at) e)) (cond c (ends (foundAt e [])) (passedOver tt)))
-            ends (λ more. cond d (ends (stopped (overrun (e .place .at)))) (passedOver more)))
-        by true q c m d n = led (byHeadsOf s part (segment .payload .at) e) refl q
+            (cond b (ends (byHeads s part (segment .payload .at) e)) (cond c (ends (foundAt e [])) (over tt)))
+            ends (λ more. cond d (ends (stopped (overrun (e .place .at)))) (over more)))
+        by true q c m d n = led (byHeads s part (segment .payload .at) e) refl q
         by false q true m d n = tt
         by false q false m true n =
             let h = header-there s at e read in
             let l = ltb-true (behind segment) (behind e) n in
             subst (λ (x : ℕ). Here (overrun x)) (sym begins)
-            (pass at (left at) C.Overrun (inSegment segment at is g (t .before))
-            (largerPassed (left at) (e .header, h .head, omega (arith, t .headed))))
+            (at-fault at (child at) C.Overrun (inSegment segment at is g (t .before))
+            (largerPassed (seekHeadId ∷ part ∷ []) (behind segment - at)
+            (e .header, h .head, (other-id q m, omega (arith, t .headed)))))
         by false q false m false n =
             record {
               head = eqb-false (e .header .id) seekHeadId q;
@@ -191,7 +193,9 @@ module _ (s : List ℕ) (part numbers : ℕ) where
         (λ at e g k.
         let (l, h, i) = step-refused s (behind segment) at e k in
         subst Here i
-        (pass at (left at) (e .cause) (inSegment segment at is g l) (no-header at (left at) (e .cause) h)))
+        (at-fault at (child at) (e .cause) (inSegment segment at is g l)
+        (header-fault s at (child at)
+        (λ d v. headerPassed (seekHeadId ∷ part ∷ []) (behind segment - at) v) (e .cause) h)))
         (λ a at e g k. visited at e g k) tt
 
   place-fault : (e : Refusal) → lookupOf s part ≡ stopped e → Here e

@@ -1,7 +1,7 @@
 -- How a search for a part comes to the address that its refusal names (document 02, C-12), and that the fault is there.
 use Prim.Native.Nat.{ℕ, _-_, _/_, _≤_, _<_}
 use mathlib.Core.Path.{_≡_}
-use mathlib.Core.List.{List}
+use mathlib.Core.List.{List, [], _∷_}
 use lib.ListN.{length}
 use Rattle.refusals.specs.declared.refusal.Refusal.{Refusal}
 use Rattle.header.specs.Reads.{behind, headerAt}
@@ -9,7 +9,7 @@ use Rattle.header.specs.declared.cursor.Headed.{Headed}
 use Rattle.header.specs.declared.cursor.HeaderRead.the-variants.{Read}
 use Rattle.elements_rules.specs.Rows.{width}
 use Rattle.elements_rules.specs.Promise.{keeping}
-use Rattle.elements_rules.specs.Faults.{Errand, toPass, Honest, Comes}
+use Rattle.elements_rules.specs.Faults.{Errand, toHeader, toPass, Honest, Comes}
 use Rattle.seekhead_rules.specs.Seeks.{segmentId, seekHeadId}
 use Rattle.seekchain_rules.specs.Lookup.{found}
 use Rattle.seekchain_rules.specs.Theorems.{IsAt}
@@ -22,7 +22,7 @@ use Rattle.search_rules.specs.declared.part.PartReply.the-variants.{Refu
 -- A walk from a place on, up to an end, comes to a place: over elements that are there and are passed over.
 pub data Walks (s : List ℕ) (end : ℕ) (Over : Headed → Type 0) (from : ℕ) : ℕ → Type 0 where
   begun : Walks s end Over from from
-  over :
+  passing :
       (to : ℕ) (e : Headed) → Walks s end Over from to → to < end → headerAt s to ≡ Read e → Over e
       → Walks s end Over from (behind e)
 
@@ -40,14 +40,15 @@ pub record Passed (part : ℕ) (segment e : Headed) : Type 0 where
 abbrev pub InSegment : List ℕ → (part : ℕ) → Headed → ℕ → Type 0
 InSegment s part segment a = Walks s (behind segment) (Passed part segment) (segment .payload .at) a
 
--- What a search comes to: an element of the file, before the segment or where none is left; a child of the segment;
--- what the seek heads lead to, from the first on, which is such a child; an element of the part that was found.
+-- What a search comes to: the header of an element of the file, before the segment or where none is left; a child of
+-- the segment; what the seek heads lead to, from the first on, which is such a child; an element of the part that was
+-- found.
 pub data SearchComes (s : List ℕ) (part numbers : ℕ) : ℕ → Errand → Type 0 where
-  inFile : (a : ℕ) → ToSegment s a → SearchComes s part numbers a (toPass (length s - a))
+  inFile : (a : ℕ) → ToSegment s a → SearchComes s part numbers a toHeader
   inSegment :
       (segment : Headed) (a : ℕ) → segmentOf s ≡ Read segment → InSegment s part segment a → a < behind segment
-      → SearchComes s part numbers a (toPass (behind segment - a))
-  byHeads :
+      → SearchComes s part numbers a (toPass (seekHeadId ∷ part ∷ []) (behind segment - a))
+  fromHeads :
       (segment first : Headed) (a : ℕ) (x : Errand) → segmentOf s ≡ Read segment
       → InSegment s part segment (first .place .at) → first .place .at < behind segment
       → IsAt s seekHeadId (first .place .at) first → HeadsCome s part (segment .payload .at) first a x

@@ -5,7 +5,7 @@ ghost use lib.ListN.{length, take};
 ghost use lib.Dec.{ltb};
 ghost use Rattle.seekhead_rules.specs.Contract.{Readable};
 ghost use Rattle.kinds.specs.Kinds.{member};
-ghost use Rattle.seekchain_rules.specs.Heads.{lastAddress, lastOf, sought as soughtAt, nextHead, linkedHeads};
+ghost use Rattle.seekchain_rules.specs.Heads.{lastAddress, lastHead, sought as soughtAt, nextHead, linkedHeads};
 ghost use Rattle.seekchain_rules.specs.Contract.{headsTold};
 use crate::step::child_at;
 use header::Cursor;
@@ -86,7 +86,7 @@ fn next_head(
     link: Latest,
 ) -> NextHead
     requires { ⌜ read ≤ length (now seen) ⌝ }
-    requires { ⌜ last ≡ lastOf (take read (now seen)) ⌝ }
+    requires { ⌜ last ≡ lastHead (take read (now seen)) ⌝ }
     ensures { λ r. ⌜ r ≡ nextHead (now (recording .entry)) start (take read (now (seen .entry))) link ⌝ }
 {
     match link {

@@ -23,7 +23,7 @@ use Rattle.seekhead_rules.proofs.Positions.{positions-append, positions-none}
 use Rattle.seekhead_rules.proofs.Levels.{told-read, told-stopped}
 use Rattle.seekhead_rules.proofs.Members.{children, children-law}
 use Rattle.seekchain_rules.specs.Heads.{Heads, Chain, chained, broken, withHead, mostHeads, nextHead, onNext}
-use Rattle.seekchain_rules.specs.Heads.{lastOf, chain, linkedHeads}
+use Rattle.seekchain_rules.specs.Heads.{lastHead, chain, linkedHeads}
 use Rattle.seekchain_rules.specs.Contract.{headsTold}
 use Rattle.seekchain_rules.specs.Answers.{onOutcome}
 use Rattle.seekchain_rules.specs.Theorems.{headsFrom, ChainUnfolds}
@@ -95,7 +95,7 @@ module _ (s : List ℕ) (wanted : Wanted) (start : ℕ) (first : Headed) where
     seen-long = length-set seen n (head .place .at) ∙ g .long
 
     -- This head is the last of them.
-    pub chaining-last : head .place .at ≡ lastOf (take (n + 1) seen-now)
+    pub chaining-last : head .place .at ≡ lastHead (take (n + 1) seen-now)
     chaining-last = last-noted seen n (head .place .at) (omega (arith, g .few, g .long))
 
     module _ (found : Seektable) (q : HeadIs found ≡ headTold s wanted parts head) where

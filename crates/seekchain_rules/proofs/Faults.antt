@@ -4,15 +4,15 @@ use mathlib.Core.Path.{_≡_, refl, sym, ap, _∙_, subst}
 use mathlib.Core.List.{List, [], _∷_, _++_}
 use mathlib.Core.Bool.{Bool, true, false, cond}
 use native.Mathlib.Omega.{arith}
-use lib.ListN.{length, drop, length-append, drop-of-length-le}
-use lib.Dec.{leb, ltb, eqb}
-use borrow.Author.Tests.{leb-true, leb-false, ltb-true, eqb-false}
+use lib.ListN.{length, length-append, drop-of-length-le}
+use lib.Dec.{leb, eqb}
+use borrow.Author.Tests.{leb-true, leb-false, ltb-true, ltb-false, eqb-false}
 use Rattle.refusals.specs.Refusals.{because, pastEnd, invalidSeekHead, staleEntry, headAgain, tooManyHeads}
 use Rattle.refusals.specs.declared.refusal.Cause.{Cause}
 use Rattle.refusals.specs.declared.refusal.Cause.the-variants as C
 use Rattle.refusals.specs.declared.refusal.Refusal.{Refusal}
-use Rattle.header.specs.Vint.{octetBits, bits, widthOf, ofWidth, vintOf}
-use Rattle.header.specs.Header.{heading, named, headerOf}
+use Rattle.header.specs.Vint.{bits, widthOf, ofWidth, vintOf}
+use Rattle.header.specs.Header.{named, headerOf}
 use Rattle.header.specs.Header.{refused as refusedHeader}
 use Rattle.header.specs.Reads.{headerAt}
 use Rattle.header.specs.declared.cursor.Headed.{Headed}
@@ -21,9 +21,9 @@ use Rattle.header.specs.declared.cursor.HeaderRead.the-variants.{Read, Refused 
 use Rattle.header.proofs.Inside.{header-there, header-refused}
 use Rattle.kinds.specs.Kinds.{member}
 use Rattle.elements_rules.specs.Forest.{Forest}
-use Rattle.elements_rules.specs.Reading.{Outcome, done, refused, elementHeader, depths, masterBody}
-use Rattle.elements_rules.specs.Faults.{Errand, toFind, toFollow, headerFound, otherFound, Far, farFollowed}
-use Rattle.elements_rules.specs.Faults.{againFollowed, manyFollowed, Fault, FaultThere, Comes}
+use Rattle.elements_rules.specs.Reading.{Outcome, done, refused, elementHeader}
+use Rattle.elements_rules.specs.Faults.{Errand, toFind, toFollow, toLookUp, headerFound, otherFound, Far, farFollowed}
+use Rattle.elements_rules.specs.Faults.{farLookedUp, againFollowed, manyFollowed, Fault, FaultThere}
 use Rattle.elements_rules.proofs.Faults.{header-fault, body-found}
 use Rattle.seekhead_rules.specs.Seeks.{segmentId, seekHeadId, withoutRows, headOf, entries}
 use Rattle.seekhead_rules.specs.Table.{latest}
@@ -33,8 +33,8 @@ use Rattle.seekhead_rules.specs.declared.head.Latest.the-variants.{Nowhere, At}
 use Rattle.seekchain_rules.specs.Answers.{onHeader, onOutcome}
 use Rattle.seekchain_rules.specs.Step.{childAt, onChild}
 use Rattle.seekchain_rules.specs.Heads.{Heads, noHeads, withHead, Chain, chained, broken, mostHeads, lastAddress}
-use Rattle.seekchain_rules.specs.Heads.{tooFar, lastOf, sought, nextHead, onNext, chain, linkedHeads}
-use Rattle.seekchain_rules.specs.Lookup.{Lookup, found, absent, stopped, onChain, partAt, byHeads}
+use Rattle.seekchain_rules.specs.Heads.{tooFar, lastHead, sought, nextHead, onNext, chain, linkedHeads}
+use Rattle.seekchain_rules.specs.Lookup.{found, stopped, onChain, partAt, byHeads}
 use Rattle.seekchain_rules.specs.Faults.{Followed, one, more, ReadNext, initial, linked, HeadsCome, inHead}
 use Rattle.seekchain_rules.specs.Faults.{byLink, toHead, byEntry, toPart, HeadsHonest}
 use Rattle.seekchain_rules.specs.declared.heads.NextHead.{NextHead}
@@ -120,11 +120,19 @@ sought-fault s address id Reached r e q = by (childAt s (length s) address) refl
 too-far : (start position : ℕ) → tooFar start position ≡ true → 2 ^ 64 ≤ start + position
 too-far start position q = let l = ltb-true lastAddress (start + position) q in omega arith
 
+near : (start position : ℕ) → tooFar start position ≡ false → start + position < 2 ^ 64
+near start position q = let l = ltb-false lastAddress (start + position) q in omega arith
+
 -- 8 is at the last of the heads.
-far-last : (id start position : ℕ) (before : List ℕ) (last : ℕ) → tooFar start position ≡ true
-    → Far (lastOf (before ++ (last ∷ []))) id (toFollow id start position (before ++ (last ∷ [])))
-far-last id start position before last q =
+far-head : (start position : ℕ) (before : List ℕ) (last : ℕ) → tooFar start position ≡ true
+    → Far (lastHead (before ++ (last ∷ []))) seekHeadId (toFollow start position (before ++ (last ∷ [])))
+far-head start position before last q =
     rw (last-joined before last) (farFollowed start position before (too-far start position q))
+
+far-part : (id start position : ℕ) (before : List ℕ) (last : ℕ) → tooFar start position ≡ true
+    → Far (lastHead (before ++ (last ∷ []))) id (toLookUp id start position (before ++ (last ∷ [])))
+far-part id start position before last q =
+    rw (last-joined before last) (farLookedUp id start position before (too-far start position q))
 
 -- ---- the chain
 
@@ -153,7 +161,7 @@ module _ (s : List ℕ) (wanted start : ℕ) (first : Headed) where
       seen = before ++ (last ∷ [])
 
       entry : (position : ℕ) → Errand
-      entry position = toFollow seekHeadId start position seen
+      entry position = toFollow start position seen
 
       here : (position : ℕ) (c : Cause) (at : ℕ) → latest seekHeadId own ≡ At position
           → Fault s at (entry position) c → because c at ≡ e → Here e
@@ -173,25 +181,27 @@ module _ (s : List ℕ) (wanted start : ℕ) (first : Headed) where
       by-tests : (position : ℕ) → latest seekHeadId own ≡ At position
           → (b : Bool) → tooFar start position ≡ b → (c : Bool) → member (start + position) seen ≡ c
           → (d : Bool) → leb mostHeads (length seen) ≡ d
-          → cond b (Refused (invalidSeekHead seekHeadId (lastOf seen)))
+          → cond b (Refused (invalidSeekHead seekHeadId (lastHead seen)))
           (cond c (Refused (headAgain (start + position)))
           (cond d (Refused (tooManyHeads (start + position)))
           (onHeader (sought s (start + position) seekHeadId) Refused Next)))
           ≡ Refused e
           → Here e
       by-tests position k true f c m d n r =
-          let i : invalidSeekHead seekHeadId (lastOf seen) ≡ e = cc in
-          here position (C.InvalidSeekHead seekHeadId) (lastOf seen) k
-          (far-last seekHeadId start position before last f) i
+          let i : invalidSeekHead seekHeadId (lastHead seen) ≡ e = cc in
+          here position (C.InvalidSeekHead seekHeadId) (lastHead seen) k
+          (far-head start position before last f) i
       by-tests position k false f true m d n r =
           let i : headAgain (start + position) ≡ e = cc in
-          here position C.HeadAgain (start + position) k (againFollowed seekHeadId start position seen refl m) i
+          here position C.HeadAgain (start + position) k
+          (againFollowed start position seen refl (near start position f) m) i
       by-tests position k false f false m true n r =
           let i : tooManyHeads (start + position) ≡ e = cc in
           let j = leb-true mostHeads (length seen) n in
           let o = length-append before (last ∷ []) in
           let t : length seen ≡ 64 = omega arith in
-          here position C.TooManyHeads (start + position) k (manyFollowed seekHeadId start position seen refl m t) i
+          here position C.TooManyHeads (start + position) k
+          (manyFollowed start position seen refl (near start position f) m t) i
       by-tests position k false f false m false n r =
           by-sought position k f m n (sought s (start + position) seekHeadId) refl r
 
@@ -275,7 +285,7 @@ module _ (s : List ℕ) (wanted start : ℕ) (first : Headed) where
       by (tooFar start p) (member (start + p) seen) (leb mostHeads (length seen)) (sought s (start + p) seekHeadId) q
     where
       by : (a b c : Bool) (x : HeaderRead)
-          → cond a (Refused (invalidSeekHead seekHeadId (lastOf seen)))
+          → cond a (Refused (invalidSeekHead seekHeadId (lastHead seen)))
           (cond b (Refused (headAgain (start + p)))
           (cond c (Refused (tooManyHeads (start + p))) (onHeader x Refused Next)))
           ≡ Last
@@ -349,20 +359,20 @@ module _ (s : List ℕ) (wanted start : ℕ) (first : Headed) where
 
       by-far : (position : ℕ) → latest wanted (heads .entries) ≡ At position
           → (b : Bool) → tooFar start position ≡ b
-          → cond b (stopped (invalidSeekHead wanted (lastOf (heads .addresses))))
+          → cond b (stopped (invalidSeekHead wanted (lastHead (heads .addresses))))
           (onHeader (sought s (start + position) wanted) stopped (λ part. found part (heads .addresses)))
           ≡ stopped e
           → Here e
       by-far position k true f r =
-          let at = lastOf (heads .addresses) in
+          let at = lastHead (heads .addresses) in
           let i : invalidSeekHead wanted at ≡ e = cc in
           subst Here i
           (record {
-            errand = toFollow wanted start position (heads .addresses);
+            errand = toLookUp wanted start position (heads .addresses);
             reached = byEntry heads (g .own) position at (g .followed) (g .none) k;
             fault =
-                subst (λ (z : List ℕ). Far (lastOf z) wanted (toFollow wanted start position z)) (sym (g .joined))
-                (far-last wanted start position (g .before) (g .last) f);
+                subst (λ (z : List ℕ). Far (lastHead z) wanted (toLookUp wanted start position z)) (sym (g .joined))
+                (far-part wanted start position (g .before) (g .last) f);
           })
       by-far position k false f r = by-sought position k f (sought s (start + position) wanted) refl r
 

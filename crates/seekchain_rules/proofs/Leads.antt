@@ -21,7 +21,7 @@ use Rattle.seekhead_rules.specs.declared.head.Latest.{Latest}
 use Rattle.seekhead_rules.specs.declared.head.Latest.the-variants.{Nowhere, At}
 use Rattle.seekchain_rules.specs.Answers.{onHeader, onOutcome}
 use Rattle.seekchain_rules.specs.Heads.{Heads, noHeads, withHead, Chain, chained, broken, mostHeads, nextHead}
-use Rattle.seekchain_rules.specs.Heads.{tooFar, lastOf, sought, onNext, chain, linkedHeads}
+use Rattle.seekchain_rules.specs.Heads.{tooFar, lastHead, sought, onNext, chain, linkedHeads}
 use Rattle.seekchain_rules.specs.Lookup.{found, stopped, onChain, partAt, byHeads}
 use Rattle.seekchain_rules.specs.Theorems.{IsAt, IsHead, AreHeads, NotAmong, Distinct, GoodHeads, ByHeads}
 use Rattle.seekchain_rules.specs.Theorems.{HeadsLead}
@@ -130,7 +130,7 @@ module _ (s : List ℕ) (wanted start : ℕ) (first : Headed) (heads : Heads)
 
   by-far : (position : ℕ) → latest wanted (heads .entries) ≡ At position → (b : Bool)
       → ByHeads s wanted start first
-      (cond b (stopped (invalidSeekHead wanted (lastOf (heads .addresses))))
+      (cond b (stopped (invalidSeekHead wanted (lastHead (heads .addresses))))
       (onHeader (sought s (start + position) wanted) stopped (λ part. found part (heads .addresses))))
   by-far position l true = tt
   by-far position l false = by-header position l (sought s (start + position) wanted) refl

@@ -8,7 +8,7 @@ use Rattle.refusals.specs.declared.refusal.Refusal.{Refusal}
 use Rattle.header.specs.declared.cursor.Headed.{Headed}
 use Rattle.seekhead_rules.specs.Table.{latest, only, positionsFrom, positions}
 use Rattle.seekhead_rules.specs.declared.head.Positions.{Positions}
-use Rattle.seekchain_rules.specs.Heads.{Chain, chained, broken, lastOf, linkedHeads}
+use Rattle.seekchain_rules.specs.Heads.{Chain, chained, broken, lastHead, linkedHeads}
 use Rattle.seekchain_rules.specs.Lookup.{onChain, partAt, byHeads}
 use Rattle.seekchain_rules.specs.Contract.{headsTold, placeTold, PartMet}
 use Rattle.seekchain_rules.specs.declared.heads.HeadsRead.the-variants.{Read as HeadsAre, Refused as HeadsRefused}
@@ -36,7 +36,7 @@ module _ (s : List ℕ) (wanted start : ℕ) (first : Headed) where
   read-off (chained heads) parts n last q r m =
       let p : parts ≡ positions (only wanted) (heads .entries) = cc in
       let l : n ≡ length (heads .addresses) = cc in
-      let z : last ≡ lastOf (heads .addresses) = cc in
+      let z : last ≡ lastHead (heads .addresses) = cc in
       let f : parts .first ≡ latest wanted (heads .entries) = ap (λ (x : Positions). x .first) p in
       m (heads .addresses) (sym l) (sym z) ∙ ap (λ x. placeTold (partAt s wanted start (heads .addresses) x)) f
   read-off (broken e) parts n last q r m = let z : _≡_ {A = ℕ} 0 1 = cc in absurd (omega arith)

@@ -8,7 +8,7 @@ use lib.ListN.{length, take, drop, set, getD, drop-of-length-le}
 use lib.Seq.{drop-cons, take-suc-set}
 use borrow.Author.Tests.{eq-eqb, ne-eqb}
 use Rattle.kinds.specs.Kinds.{member}
-use Rattle.seekchain_rules.specs.Heads.{lastOf}
+use Rattle.seekchain_rules.specs.Heads.{lastHead}
 
 module _ (x : ℕ) (ys : List ℕ) (i : ℕ) where
   pub member-here : i < length ys → getD ys i 0 ≡ x → member x (drop i ys) ≡ true
@@ -28,11 +28,11 @@ pub noted-address : (l : List ℕ) (n x : ℕ) → n < length l → take (n + 1)
 noted-address l n x h = rw (add-one n, take-suc-set l n x h)
 
 -- The last of addresses is the one that was joined last.
-pub last-joined : (l : List ℕ) (x : ℕ) → lastOf (l ++ (x ∷ [])) ≡ x
-unfolding lastOf
+pub last-joined : (l : List ℕ) (x : ℕ) → lastHead (l ++ (x ∷ [])) ≡ x
+unfolding lastHead
 last-joined [] x = refl
 last-joined (a ∷ []) x = refl
 last-joined (a ∷ b ∷ rest) x = last-joined (b ∷ rest) x
 
-pub last-noted : (l : List ℕ) (n x : ℕ) → n < length l → x ≡ lastOf (take (n + 1) (set l n x))
+pub last-noted : (l : List ℕ) (n x : ℕ) → n < length l → x ≡ lastHead (take (n + 1) (set l n x))
 last-noted l n x h = rw (noted-address l n x h, last-joined (take n l) x) refl

@@ -6,7 +6,7 @@ use lib.ListN.{length}
 use Rattle.seekhead_rules.specs.Table.{positions}
 use Rattle.seekhead_rules.specs.declared.head.Wanted.{Wanted}
 use Rattle.seekhead_rules.specs.declared.head.Latest.{Latest}
-use Rattle.seekchain_rules.specs.Heads.{Chain, chained, broken, lastOf}
+use Rattle.seekchain_rules.specs.Heads.{Chain, chained, broken, lastHead}
 use Rattle.seekchain_rules.specs.Lookup.{Lookup, found, absent, stopped, partAt}
 use Rattle.seekchain_rules.specs.declared.heads.HeadsRead.{HeadsRead}
 use Rattle.seekchain_rules.specs.declared.heads.HeadsRead.the-variants.{Read as HeadsAre, Refused as HeadsRefused}
@@ -17,7 +17,7 @@ use Rattle.seekchain_rules.specs.declared.lookup.PartPlace.the-variants.
 -- and which is the last.
 abbrev pub headsTold : Wanted → Chain → HeadsRead
 headsTold wanted (chained heads) =
-    HeadsAre (positions wanted (heads .entries)) (length (heads .addresses)) (lastOf (heads .addresses))
+    HeadsAre (positions wanted (heads .entries)) (length (heads .addresses)) (lastHead (heads .addresses))
 headsTold wanted (broken e) = HeadsRefused e
 
 -- How `part_at` and `by_heads` tell where a part is.
@@ -29,5 +29,5 @@ placeTold (stopped e) = Refused e
 -- What `part_at` answers where so many heads were read: it needs their count and the last one alone.
 abbrev pub PartMet : List ℕ → (wanted start n last : ℕ) → Latest → PartPlace → Type 0
 PartMet s wanted start n last link r =
-    (heads : List ℕ) → length heads ≡ n → lastOf heads ≡ last
+    (heads : List ℕ) → length heads ≡ n → lastHead heads ≡ last
     → r ≡ placeTold (partAt s wanted start heads link)

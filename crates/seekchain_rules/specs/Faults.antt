@@ -10,7 +10,7 @@ use Rattle.header.specs.declared.cursor.Headed.{Headed}
 use Rattle.kinds.specs.Kinds.{member}
 use Rattle.elements_rules.specs.Forest.{Forest}
 use Rattle.elements_rules.specs.Reading.{done}
-use Rattle.elements_rules.specs.Faults.{Errand, toFind, toFollow, FaultThere, Comes}
+use Rattle.elements_rules.specs.Faults.{Errand, toFind, toFollow, toLookUp, FaultThere, Comes}
 use Rattle.seekhead_rules.specs.Seeks.{segmentId, seekHeadId, withoutRows, headOf, entries}
 use Rattle.seekhead_rules.specs.Table.{latest}
 use Rattle.seekhead_rules.specs.declared.seek.Seek.{Seek}
@@ -41,7 +41,7 @@ pub data ReadNext (s : List ℕ) (start : ℕ) (first : Headed) : Heads → Head
 
 -- What a search for a part comes to from the first head on: an element of a head that it reads; an entry for a further
 -- head, among the last head's own, and the address that it names; and when there is none, the last entry for the part
--- among those of all heads, and the address that it names.
+-- among those of all heads, and the address that it names. Which address an entry's own refusal has is said by `Fault`.
 pub data HeadsCome (s : List ℕ) (wanted start : ℕ) (first : Headed) : ℕ → Errand → Type 0 where
   inHead :
       (heads : Heads) (head : Headed) (a : ℕ) (x : Errand) → ReadNext s start first heads head
@@ -50,7 +50,7 @@ pub data HeadsCome (s : List ℕ) (wanted start : ℕ) (first : Headed) : ℕ �
   byLink :
       (heads : Heads) (own : List Seek) (position a : ℕ) → Followed s start first heads own
       → latest seekHeadId own ≡ At position
-      → HeadsCome s wanted start first a (toFollow seekHeadId start position (heads .addresses))
+      → HeadsCome s wanted start first a (toFollow start position (heads .addresses))
   toHead :
       (heads : Heads) (own : List Seek) (position : ℕ) → Followed s start first heads own
       → latest seekHeadId own ≡ At position → tooFar start position ≡ false
@@ -59,7 +59,7 @@ pub data HeadsCome (s : List ℕ) (wanted start : ℕ) (first : Headed) : ℕ �
   byEntry :
       (heads : Heads) (own : List Seek) (position a : ℕ) → Followed s start first heads own
       → latest seekHeadId own ≡ Nowhere → latest wanted (heads .entries) ≡ At position
-      → HeadsCome s wanted start first a (toFollow wanted start position (heads .addresses))
+      → HeadsCome s wanted start first a (toLookUp wanted start position (heads .addresses))
   toPart :
       (heads : Heads) (own : List Seek) (position : ℕ) → Followed s start first heads own
       → latest seekHeadId own ≡ Nowhere → latest wanted (heads .entries) ≡ At position

@@ -45,17 +45,17 @@ abbrev pub mostHeads : ℕ
 mostHeads = 64
 
 -- The last of the heads that were read; there is always one where it is asked for.
-unfoldable pub lastOf : List ℕ → ℕ
-lastOf [] = 0
-lastOf (a ∷ []) = a
-lastOf (a ∷ b ∷ rest) = lastOf (b ∷ rest)
+unfoldable pub lastHead : List ℕ → ℕ
+lastHead [] = 0
+lastHead (a ∷ []) = a
+lastHead (a ∷ b ∷ rest) = lastHead (b ∷ rest)
 
 -- The head that a head's entry for one leads to, where the heads at some addresses were read: 8, 10, 11, header, 9.
 -- Without such an entry there is none. 8 is at the last head that was read, 10 and 11 at the one that is not.
 unfoldable pub nextHead : List ℕ → (start : ℕ) (seen : List ℕ) (link : Latest) → NextHead
 nextHead s start seen link =
     onLatest link Last (λ position.
-    cond (tooFar start position) (Refused (invalidSeekHead seekHeadId (lastOf seen)))
+    cond (tooFar start position) (Refused (invalidSeekHead seekHeadId (lastHead seen)))
     (cond (member (start + position) seen) (Refused (headAgain (start + position)))
     (cond (leb mostHeads (length seen)) (Refused (tooManyHeads (start + position)))
     (onHeader (sought s (start + position) seekHeadId) Refused Next))))

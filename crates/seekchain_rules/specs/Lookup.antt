@@ -8,7 +8,7 @@ use Rattle.header.specs.declared.cursor.Headed.{Headed}
 use Rattle.seekhead_rules.specs.Table.{onLatest, latest}
 use Rattle.seekhead_rules.specs.declared.head.Latest.{Latest}
 use Rattle.seekchain_rules.specs.Answers.{onHeader}
-use Rattle.seekchain_rules.specs.Heads.{Heads, Chain, chained, broken, tooFar, lastOf, sought, linkedHeads}
+use Rattle.seekchain_rules.specs.Heads.{Heads, Chain, chained, broken, tooFar, lastHead, sought, linkedHeads}
 
 -- Where a part is: the part, or that it is absent, with the addresses of the heads that were read; or why the search
 -- stopped.
@@ -26,7 +26,7 @@ onChain (broken e) next = stopped e
 unfoldable pub partAt : List ℕ → (wanted start : ℕ) (heads : List ℕ) (link : Latest) → Lookup
 partAt s wanted start heads link =
     onLatest link (absent heads) (λ position.
-    cond (tooFar start position) (stopped (invalidSeekHead wanted (lastOf heads)))
+    cond (tooFar start position) (stopped (invalidSeekHead wanted (lastHead heads)))
     (onHeader (sought s (start + position) wanted) stopped (λ part. found part heads)))
 
 -- When all linked heads were read, the wanted id is looked up. It is never that of a seek head, whose entries were

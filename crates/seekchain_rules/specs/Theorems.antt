@@ -20,7 +20,7 @@ use Rattle.seekhead_rules.specs.declared.head.Latest.{Latest}
 use Rattle.seekhead_rules.specs.declared.head.Latest.the-variants.{Nowhere, At}
 use Rattle.seekchain_rules.specs.Answers.{onHeader, onOutcome}
 use Rattle.seekchain_rules.specs.Heads.{Heads, Chain, chained, broken, withHead, mostHeads, nextHead, onNext}
-use Rattle.seekchain_rules.specs.Heads.{tooFar, lastOf, sought, chain, linkedHeads}
+use Rattle.seekchain_rules.specs.Heads.{tooFar, lastHead, sought, chain, linkedHeads}
 use Rattle.seekchain_rules.specs.Lookup.{Lookup, found, absent, stopped, byHeads}
 use Rattle.seekchain_rules.specs.declared.heads.NextHead.the-variants.{Next, Last, Refused}
 
@@ -37,7 +37,7 @@ pub record NextOrder (s : List ℕ) (start : ℕ) (seen : List ℕ) : Type 0 whe
   pub none : nextHead s start seen Nowhere ≡ Last
   pub eight :
       (p : ℕ) → tooFar start p ≡ true
-      → nextHead s start seen (At p) ≡ Refused (invalidSeekHead seekHeadId (lastOf seen))
+      → nextHead s start seen (At p) ≡ Refused (invalidSeekHead seekHeadId (lastHead seen))
   pub ten :
       (p : ℕ) → tooFar start p ≡ false → member (start + p) seen ≡ true
       → nextHead s start seen (At p) ≡ Refused (headAgain (start + p))

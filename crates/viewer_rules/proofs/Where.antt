@@ -30,7 +30,7 @@ module _ (s : List ℕ) (Reached : ℕ → Errand → Type 0) where
   -- No refusal has the number 0.
   broke : (e : Refusal) → Honest s Reached e → TellsWhere s Reached (causeNumber (e .cause)) (e .address)
   broke e h = record {
-    broke = λ some. record { cause = e; number = refl; address = refl; honest = h };
+    broke = λ some. record { told = e; number = refl; address = refl; honest = h };
     fine = λ z. let l = listed e .least in absurd (let y : ⊥ = omega arith in y);
   }
 
@@ -46,7 +46,7 @@ part-tells-where s part t r t′ p =
         → TellsWhere s Here (partFace x .refused) (partFace x .«refused_at»)
     by (accepted (foundPart at size rows heads)) k = fine s Here
     by (accepted (absentPart heads)) k = fine s Here
-    by (refusal e) k = broke s Here e (search-honest s part t e t′ (record { reply = sym k; table = p .table }))
+    by (refusal e) k = broke s Here e (search-honest s part t e _ (record { reply = sym k; table = refl }))
 
 pub place-tells-where : PlaceTellsWhere
 place-tells-where s start size parent x t r t′ p =
@@ -62,4 +62,4 @@ place-tells-where s start size parent x t r t′ p =
     by (accepted (byPayload row rows)) k = fine s Here
     by (refusal e) k =
         broke s Here e
-        (places-honest .owner s start size parent x t e t′ (record { reply = sym k; table = p .table }))
+        (places-honest .owner s start size parent x t e _ (record { reply = sym k; table = refl }))

@@ -82,10 +82,10 @@ IdAlone =
 -- The number and the address of a refusal cross together, and it is honest: the fault is there, or it is 14 or 15 and
 -- the address is 0.
 pub record Broke (s : List ℕ) (Reached : ℕ → Errand → Type 0) (refused at : ℕ) : Type 0 where
-  pub cause : Refusal
-  pub number : refused ≡ causeNumber (cause .cause)
-  pub address : at ≡ cause .address
-  pub honest : Honest s Reached cause
+  pub told : Refusal
+  pub number : refused ≡ causeNumber (told .cause)
+  pub address : at ≡ told .address
+  pub honest : Honest s Reached told
 
 -- With a refusal that holds, and without one the address is 0. It shuts out a face that leaves the address of an
 -- earlier refusal, or tells that of the part.
