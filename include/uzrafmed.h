@@ -73,11 +73,12 @@ int main(int count, char **words) {
   0 to UZ_MOST_ROWS rows, so its count of numbers is a multiple of UZ_WIDTH and at most UZ_MOST_NUMBERS.
 
   Where it broke. A refusal comes with an address, `refused_at`: the header of the element that was being read. Where
-  the header itself is at fault, or was to be read and is not there, it is the address where that header begins. For 14
-  and 15, whose fault lies in what was asked and not in the recording, it is 0. But 0 is also the address of the first
-  byte, so it is the number of the refusal that tells whether there is an address. The address may lie past the
-  recording's end, up to 2^64-1: compare it with `length` before a byte is read there. What it is for each number
-  stands in the lists of the calls below. uz_row_payload refuses with 14 alone, and its reply has no address.
+  the header itself is at fault, or was to be read and is not there, it is the address where that header begins. For 8
+  it is the last seek head that was read, for 10 and 11 the seek head that was not. For 14 and 15, whose fault lies in
+  what was asked and not in the recording, it is 0. But 0 is also the address of the first byte, so it is the number of
+  the refusal that tells whether there is an address. The address may lie past the recording's end, up to 2^64-1:
+  compare it with `length` before a byte is read there. What it is for each number stands in the lists of the calls
+  below. uz_row_payload refuses with 14 alone, and its reply has no address.
 
   Rows below a row. The last number of row R, A = T[R * UZ_WIDTH + UZ_AFTER], is the first row after it that does not
   lie in its element, or the count of rows where there is none. It is a row's number as it is, without the plus 1 of
@@ -253,8 +254,8 @@ typedef struct uz_place {
         of the four
 
   What `refused_at` is, by the number:
-     1  where the header begins that was not there whole; for the body of an element, that element's header; with no
-        segment, where the next header would begin; for an entry that leads past the end, where it leads
+     1  where the header begins that was not there whole; for a number, a text or bytes that are cut off, the header of
+        these; with no segment, where the next header would begin; for an entry that leads past the end, where it leads
      2  where that header begins
      3  where that header begins; for an element that is too large its own header, not its master's or the segment's
      4, 5, 6, 7  the header of that integer, float, date or text

@@ -13,8 +13,9 @@ int main(void) {
          "`stages` and the C face give the same numbers and addresses. In C a number is called `UZ_` and its name,\n"
          "and `uz_refusal_words` tells a row of this table.\n\n"
          "The address is that of the header of the element that was being read; where the header itself is at fault,\n"
-         "the address where it begins. It may lie past the end of the file, as where a seek entry leads there. 0 is\n"
-         "the address of the first byte too.\n\n"
+         "the address where it begins; for 8 the last seek head that was read, for 10 and 11 the one that was not. It\n"
+         "may lie past the end of the file, as where a seek entry leads there. 0 is the address of the first byte\n"
+         "too. The line `refused 14` of `rows` has none.\n\n"
          "| Number | Name | Given when | In plain words | Where the address points | What to do |\n"
          "|---|---|---|---|---|---|");
     // clang-format on

@@ -13,7 +13,7 @@ static const uz_words table[] = {
     [UZ_PAST_END] = {"PAST_END", "a byte needed lies beyond the recording",
                      "a byte needed lies beyond the end of the file",
                      "where the header begins that is not there whole, or the header of the "
-                     "element whose body is cut off",
+                     "number, text or bytes that are cut off",
                      "copy the file again; of what is left, take the chapters out: mkvextract FILE "
                      "chapters C.xml; write the rest anew: mkvmerge -o NEW.mkv --no-chapters "
                      "--chapters C.xml FILE; where there is no C.xml, without --chapters"},
