@@ -176,6 +176,10 @@ class Comparison(Against):
                 lines.append('part %X at %d size %d rows %d' % (ident, part.at, part.size, len(part.rows)))
                 lines += ['%d %d %d %d %s %X' % (r.at, r.header, r.payload, r.depth, KIND[r.kind], r.id)
                           for r in part.rows]
+            elif part.refused == 13:
+                # In a table of 1,024 rows another element is the first without one.
+                fewer = Part(self.asker('part %X %d %s' % (ident, 1024 * WIDTH, self.digits)))
+                lines.append('part %X refused %d %d' % (ident, fewer.refused, fewer.refused_at))
             else:
                 lines.append('part %X %s' % (ident, 'absent' if part.refused is None else
                                              'refused %d %d' % (part.refused, part.refused_at)))
