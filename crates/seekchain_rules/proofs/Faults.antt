@@ -216,58 +216,6 @@ module _ (s : List ℕ) (wanted start : ℕ) (first : Headed) where
   few heads head initial = omega arith
   few heads head (linked hs own h p n) = next-is s start (hs .addresses) h (latest seekHeadId own) n .few
 
-  -- One head after another, where one is refused.
-  chain-fault : (left : ℕ) (heads : Heads) (head : Headed) (e : Refusal) → ReadNext s start first heads head
-      → length (heads .addresses) + left ≡ mostHeads → chain s start left heads head ≡ broken e → Here e
-  unfolding chain
-  chain-fault zero heads head e n l q =
-      let f = few heads head n in absurd (let y : ⊥ = omega arith in y)
-  chain-fault (suc left) heads head e n l q = by (headOf s head) refl q (chain-fault left)
-    where
-      Onward : Type 0
-      Onward = (all : Heads) (next : Headed) (e′ : Refusal) → ReadNext s start first all next
-          → length (all .addresses) + left ≡ mostHeads → chain s start left all next ≡ broken e′ → Here e′
-
-      own : Forest → List Seek
-      own f = entries s (head .payload .at) f
-
-      by-next : (f : Forest) → headOf s head ≡ done f → Onward → (x : NextHead)
-          → nextHead s start (heads .addresses ++ (head .place .at ∷ [])) (latest seekHeadId (own f)) ≡ x
-          → onNext x (chained (withHead heads head (own f))) broken (chain s start left (withHead heads head (own f)))
-          ≡ broken e
-          → Here e
-      by-next f k on (Next next) w r =
-          let all = withHead heads head (own f) in
-          let m = length-append (heads .addresses) (head .place .at ∷ []) in
-          on all next e (linked all (own f) next (read-on heads head f n k) w) (omega arith) r
-      by-next f k on Last w r = let z : _≡_ {A = ℕ} 0 1 = cc in absurd (let y : ⊥ = omega arith in y)
-      by-next f k on (Refused e′) w r =
-          let i : e′ ≡ e = cc in
-          next-fault (heads .addresses) (head .place .at) (heads .entries ++ own f) (own f) e
-          (read-on heads head f n k) (omega arith) (w ∙ ap Refused i)
-
-      by : (o : Outcome) → headOf s head ≡ o
-          → onOutcome o broken (λ f.
-          onNext (nextHead s start (heads .addresses ++ (head .place .at ∷ [])) (latest seekHeadId (own f)))
-          (chained (withHead heads head (own f))) broken (chain s start left (withHead heads head (own f))))
-          ≡ broken e
-          → Onward → Here e
-      by (done f) k r on =
-          by-next f k on
-          (nextHead s start (heads .addresses ++ (head .place .at ∷ [])) (latest seekHeadId (own f))) refl r
-      by (refused e′) k r on =
-          let i : e′ ≡ e = cc in
-          let found =
-          body-found s withoutRows 0 0 segmentId (head .payload .at) (head .header .size) 0 e (omega arith)
-          (k ∙ ap refused i) in
-          record {
-            errand = found .errand;
-            reached = inHead heads head (e .address) (found .errand) n (found .reached);
-            fault = found .fault;
-          }
-
-  -- ---- the part
-
   -- The heads that were read to their end: the last has no entry for a further one.
   record Ends (all : Heads) : Type 0 where
     own : List Seek
@@ -296,51 +244,63 @@ module _ (s : List ℕ) (wanted start : ℕ) (first : Headed) where
       by false false false (Read h) r = let z : _≡_ {A = ℕ} 0 1 = cc in absurd (let y : ⊥ = omega arith in y)
       by false false false (HeaderRefused e) r = let z : _≡_ {A = ℕ} 0 1 = cc in absurd (let y : ⊥ = omega arith in y)
 
-  chain-ends : (left : ℕ) (heads : Heads) (head : Headed) (all : Heads) → ReadNext s start first heads head
-      → chain s start left heads head ≡ chained all → Ends all
+  -- What the chain comes to.
+  abbrev Came : Chain → Type 0
+  Came (chained all) = Ends all
+  Came (broken e) = Here e
+
+  -- One head after another.
+  chain-came : (left : ℕ) (heads : Heads) (head : Headed) → ReadNext s start first heads head
+      → length (heads .addresses) + left ≡ mostHeads → Came (chain s start left heads head)
   unfolding chain
-  chain-ends zero heads head all n q = let z : _≡_ {A = ℕ} 0 1 = cc in absurd (let y : ⊥ = omega arith in y)
-  chain-ends (suc left) heads head all n q = by (headOf s head) refl q (chain-ends left)
+  chain-came zero heads head n l = let f = few heads head n in absurd (let y : ⊥ = omega arith in y)
+  chain-came (suc left) heads head n l = by (headOf s head) refl (chain-came left)
     where
       Onward : Type 0
-      Onward = (so-far : Heads) (next : Headed) (all′ : Heads) → ReadNext s start first so-far next
-          → chain s start left so-far next ≡ chained all′ → Ends all′
+      Onward = (all : Heads) (next : Headed) → ReadNext s start first all next
+          → length (all .addresses) + left ≡ mostHeads → Came (chain s start left all next)
 
-      ours : Forest → List Seek
-      ours f = entries s (head .payload .at) f
+      own : Forest → List Seek
+      own f = entries s (head .payload .at) f
 
       by-next : (f : Forest) → headOf s head ≡ done f → Onward → (x : NextHead)
-          → nextHead s start (heads .addresses ++ (head .place .at ∷ [])) (latest seekHeadId (ours f)) ≡ x
-          → onNext x (chained (withHead heads head (ours f))) broken (chain s start left (withHead heads head (ours f)))
-          ≡ chained all
-          → Ends all
-      by-next f k on (Next next) w r =
-          let now = withHead heads head (ours f) in
-          on now next all (linked now (ours f) next (read-on heads head f n k) w) r
-      by-next f k on Last w r =
-          let now = withHead heads head (ours f) in
-          let i : now ≡ all = cc in
-          subst Ends i
-          (record {
-            own = ours f;
+          → nextHead s start (heads .addresses ++ (head .place .at ∷ [])) (latest seekHeadId (own f)) ≡ x
+          → Came (onNext x (chained (withHead heads head (own f))) broken
+          (chain s start left (withHead heads head (own f))))
+      by-next f k on (Next next) w =
+          let all = withHead heads head (own f) in
+          let m = length-append (heads .addresses) (head .place .at ∷ []) in
+          on all next (linked all (own f) next (read-on heads head f n k) w) (omega arith)
+      by-next f k on Last w =
+          record {
+            own = own f;
             followed = read-on heads head f n k;
-            none = last-none (now .addresses) (latest seekHeadId (ours f)) w;
+            none = last-none (heads .addresses ++ (head .place .at ∷ [])) (latest seekHeadId (own f)) w;
             before = heads .addresses;
             last = head .place .at;
             joined = refl;
-          })
-      by-next f k on (Refused e) w r = let z : _≡_ {A = ℕ} 0 1 = cc in absurd (let y : ⊥ = omega arith in y)
+          }
+      by-next f k on (Refused e) w =
+          next-fault (heads .addresses) (head .place .at) (heads .entries ++ own f) (own f) e
+          (read-on heads head f n k) (omega arith) w
 
-      by : (o : Outcome) → headOf s head ≡ o
-          → onOutcome o broken (λ f.
-          onNext (nextHead s start (heads .addresses ++ (head .place .at ∷ [])) (latest seekHeadId (ours f)))
-          (chained (withHead heads head (ours f))) broken (chain s start left (withHead heads head (ours f))))
-          ≡ chained all
-          → Onward → Ends all
-      by (done f) k r on =
+      by : (o : Outcome) → headOf s head ≡ o → Onward
+          → Came (onOutcome o broken (λ f.
+          onNext (nextHead s start (heads .addresses ++ (head .place .at ∷ [])) (latest seekHeadId (own f)))
+          (chained (withHead heads head (own f))) broken (chain s start left (withHead heads head (own f)))))
+      by (done f) k on =
           by-next f k on
-          (nextHead s start (heads .addresses ++ (head .place .at ∷ [])) (latest seekHeadId (ours f))) refl r
-      by (refused e) k r on = let z : _≡_ {A = ℕ} 0 1 = cc in absurd (let y : ⊥ = omega arith in y)
+          (nextHead s start (heads .addresses ++ (head .place .at ∷ [])) (latest seekHeadId (own f))) refl
+      by (refused e) k on =
+          let found =
+          body-found s withoutRows 0 0 segmentId (head .payload .at) (head .header .size) 0 e (omega arith) k in
+          record {
+            errand = found .errand;
+            reached = inHead heads head (e .address) (found .errand) n (found .reached);
+            fault = found .fault;
+          }
+
+  -- ---- the part
 
   part-fault : (heads : Heads) → Ends heads → (e : Refusal)
       → partAt s wanted start (heads .addresses) (latest wanted (heads .entries)) ≡ stopped e → Here e
@@ -383,14 +343,11 @@ module _ (s : List ℕ) (wanted start : ℕ) (first : Headed) where
 
 pub heads-honest : HeadsHonest
 unfolding byHeads
-heads-honest s wanted start first e q = by (linkedHeads s start first) refl q
+heads-honest s wanted start first e q =
+    by (linkedHeads s start first) (chain-came s wanted start first mostHeads noHeads first initial refl) q
   where
-    by : (c : Chain) → linkedHeads s start first ≡ c
+    by : (c : Chain) → Came s wanted start first c
         → onChain c (λ heads. partAt s wanted start (heads .addresses) (latest wanted (heads .entries))) ≡ stopped e
         → FaultThere s (HeadsCome s wanted start first) e
-    by (chained heads) k r =
-        part-fault s wanted start first heads (chain-ends s wanted start first mostHeads noHeads first heads initial k)
-        e r
-    by (broken e′) k r =
-        let i : e′ ≡ e = cc in
-        chain-fault s wanted start first mostHeads noHeads first e initial refl (k ∙ ap broken i)
+    by (chained heads) g r = part-fault s wanted start first heads g e r
+    by (broken e′) h r = let i : e′ ≡ e = cc in subst (FaultThere s (HeadsCome s wanted start first)) i h
