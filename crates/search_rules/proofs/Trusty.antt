@@ -82,7 +82,7 @@ module _ (s : List ℕ) (wanted : ℕ) (segment : Headed) where
   unfolding segmentChildren
   children-trusty =
       walk-holds s (behind segment) (withinSegment segment (searching s wanted segment)) (Trusty s wanted start)
-      (λ at known l. none-read s) (λ at e k. tt)
+      (λ at known. none-read s) (λ e. tt)
       (λ known at e t.
       kept (visit s wanted segment e) (ltb (behind segment) (behind e)) (overrun (e .place .at)) (visited e (t .there)))
       start tt

@@ -20,7 +20,6 @@ use Rattle.seekchain_rules.specs.Lookup.{Lookup, found, absent, stopped, byHead
 use Rattle.seekchain_rules.specs.Contract.{placeTold}
 use Rattle.seekchain_rules.specs.declared.lookup.PartPlace.{PartPlace}
 use Rattle.seekchain_rules.specs.Step.{childAt, onChild}
-use Rattle.seekchain_rules.proofs.Faults.{step-ended}
 use Rattle.segments_rules.specs.Walk.{Visit, ends, over, onVisit, Walk, walk, walkFrom}
 use Rattle.segments_rules.specs.Segment.{seeking, segmentFrom, segmentOf, withinSegment, visit}
 use Rattle.segments_rules.specs.Segment.{searching, segmentChildrenFrom}
@@ -205,31 +204,27 @@ Ended P (ends b) = P b
 Ended P (over a) = Unit
 
 module _ {A B : Type 0} (s : List ℕ) (end : ℕ) (w : Walk A B) (P : B → Type 0)
-    (at-the-end : (at : ℕ) (a : A) → end ≤ at → P (w .ended at a))
-    (refused : (at : ℕ) (e : Refusal) → childAt s end at ≡ Refused e → P (w .stop e))
+    (at-the-end : (at : ℕ) (a : A) → P (w .ended at a)) (refused : (e : Refusal) → P (w .stop e))
     (each : (a : A) (at : ℕ) (e : Headed) → Stepped s end at e → Ended P (w .visit a e)) where
   -- It holds of the whole walk if it holds of each visit, of the end and of refusals.
-  bounded : (n at : ℕ) (a : A) → end - at ≤ n → P (walk s end w n at a)
+  bounded : (n at : ℕ) (a : A) → P (walk s end w n at a)
   unfolding walk
-  bounded zero at a l = at-the-end at a (omega arith)
-  bounded (suc n) at a l = by (childAt s end at) refl (bounded n)
+  bounded zero at a = at-the-end at a
+  bounded (suc n) at a = by (childAt s end at) refl (bounded n)
     where
       by-visit : (next : ℕ) → ((b : A) → P (walk s end w n next b)) → (v : Visit A B) → Ended P v
           → P (onVisit v (λ b. b) (walk s end w n next))
       by-visit next k (ends b) p = p
       by-visit next k (over b) p = k b
 
-      by : (x : ChildRead) → childAt s end at ≡ x
-          → ((next : ℕ) (b : A) → end - next ≤ n → P (walk s end w n next b))
+      by : (x : ChildRead) → childAt s end at ≡ x → ((next : ℕ) (b : A) → P (walk s end w n next b))
           → P (onChild x (w .ended at a) (w .stop) (λ e. onVisit (w .visit a e) (λ b. b) (walk s end w n (behind e))))
-      by (Child e) q k =
-          let t = stepped s end at e q in
-          by-visit (behind e) (λ b. k (behind e) b (omega (arith, t .onward, t .before))) (w .visit a e) (each a at e t)
-      by End q k = at-the-end at a (step-ended s end at q)
-      by (Refused r) q k = refused at r q
+      by (Child e) q k = by-visit (behind e) (k (behind e)) (w .visit a e) (each a at e (stepped s end at e q))
+      by End q k = at-the-end at a
+      by (Refused r) q k = refused r
 
   pub walk-holds : (at : ℕ) (a : A) → P (walkFrom s end w at a)
-  walk-holds at a = bounded (end - at) at a (omega arith)
+  walk-holds at a = bounded (end - at) at a
 
 -- The segment is an element that was read.
 abbrev WasRead : List ℕ → HeaderRead → Type 0
@@ -239,7 +234,7 @@ WasRead s (HeaderRefused r) = Unit
 pub segment-there : (s : List ℕ) (e : Headed) → segmentOf s ≡ Read e → headerAt s (e .place .at) ≡ Read e
 unfolding segmentOf
 segment-there s e q =
-    subst (WasRead s) q (walk-holds s (length s) seeking (WasRead s) (λ at a l. tt) (λ at r k. tt)
+    subst (WasRead s) q (walk-holds s (length s) seeking (WasRead s) (λ at a. tt) (λ r. tt)
     (λ a at x t. by x t (eqb (x .header .id) segmentId)) 0 tt)
   where
     by : (x : Headed) {at : ℕ} → Stepped s (length s) at x → (b : Bool)
