@@ -1,8 +1,9 @@
 -- A display's string comes from a text row, whose shown text is the label (`StageIsShown`, `FirstIsShown`). Assumes
 -- nothing.
 use Prim.Native.Nat.{ℕ, _+_, _-_, _*_, _<_}
-use mathlib.Core.Path.{_≡_, refl, sym, ap, _∙_, subst}
+use mathlib.Core.Path.{_≡_, refl, sym, ap, ap₂, _∙_, subst}
 use mathlib.Core.List.{List}
+use mathlib.Core.Bool.{true}
 use native.Mathlib.Omega.{arith}
 use lib.ListN.{length}
 use Rattle.bodies_rules.specs.declared.body.Range.{Range}
@@ -13,7 +14,7 @@ use Rattle.elements_rules.specs.declared.row.Row.{Row}
 use Rattle.elements_rules.specs.declared.reply.ReadReply.the-variants.{Rows}
 use Rattle.elements_rules.proofs.Numbered.{row-of}
 use Rattle.elements_rules.proofs.Readback.{rows-back}
-use Rattle.places_rules.specs.Payload.{range, payloadRange}
+use Rattle.places_rules.specs.Payload.{range, bytesOf}
 use Rattle.places_rules.proofs.Accepted.{rows-have-ranges}
 use Rattle.fields_rules.specs.Children.{subtree, children, lastOf}
 use Rattle.fields_rules.specs.Values.{content, contentIn}
@@ -35,7 +36,9 @@ use Rattle.chapters.specs.declared.display.ChapterDisplay.{ChapterDisplay}
 use Rattle.chapters.specs.declared.display.DisplayReply.{DisplayReply}
 use Rattle.chapters.specs.declared.display.DisplayReply.the-variants.{Display, Refused}
 use Rattle.chapters.proofs.Displays.{first-of-displays}
-use Rattle.labels.specs.Shown.{isText, textRange}
+use Rattle.shown_rules.specs.Shown.{isText, textRange}
+use Rattle.shown_rules.specs.Promise.{ShownPromise}
+use Rattle.shown_rules.proofs.Accepted.{accepted-shown}
 use Rattle.labels.specs.Theorems.{StageIsShown, ShownBy, FirstIsShown}
 use Rattle.labels.proofs.Stages.{label-is-shown}
 
@@ -45,23 +48,15 @@ from-child : (c : Child) (g : Range) → content (g .at) (g .length) ≡ content
 from-child NoChild g q = let z : _≡_ {A = ℕ} 0 1 = cc in absurd (omega arith)
 from-child (ChildAt n r) g q = (n, r, refl, cc, cc)
 
--- A row whose kind is UTF-8 has its payload as text.
-as-text : (s t : List ℕ) (k : ℕ) → rowAt t k .kind ≡ 5 → textRange s t k ≡ payloadRange s t k
-unfolding textRange isText
-as-text s t k e = rw e
+-- A row whose kind is UTF-8 is a text row.
+utf8-is-text : (kind : ℕ) → kind ≡ 5 → isText kind ≡ true
+unfolding isText
+utf8-is-text kind e = rw e
 
-module _
-    (s : List ℕ) (start size parent : ℕ) (t : List ℕ) (rs : List Row) (t′ : List ℕ)
-    (p : ReadPromise s start size parent t (Rows (length rs)) t′) (w : rowsOf t′ (length rs) ≡ rs) where
-  -- The range of a row of the read that is a text.
-  text-row : (n : ℕ) (r : Row) → n < length rs → nth rs n ≡ r → r .kind ≡ 5
-      → textRange s t′ n ≡ range (r .address + r .header) (r .payload)
-  text-row n r l q k =
-      let e : rowAt t′ n ≡ r
-      = sym (row-of t′ (length rs) n l) ∙ ap (λ (x : List Row). nth x n) w ∙ q in
-      as-text s t′ n (ap (λ (x : Row). x .kind) e ∙ k)
-      ∙ rows-have-ranges s start size parent t (length rs) t′ p n l
-      ∙ ap (λ (x : Row). range (x .address + x .header) (x .payload)) e
+-- A row of a read is a row of the table that the read leaves.
+held-row : (t′ : List ℕ) (rs : List Row) (n : ℕ) (r : Row) → rowsOf t′ (length rs) ≡ rs → n < length rs → nth rs n ≡ r
+    → rowAt t′ n ≡ r
+held-row t′ rs n r w l q = sym (row-of t′ (length rs) n l) ∙ ap (λ (x : List Row). nth x n) w ∙ q
 
 -- The question was not refused, and the string is the display's first field.
 string-from : (s : List ℕ) (a : Asked) (numbers : ℕ) (d : ChapterDisplay) (rows : ℕ) (g : Range)
@@ -85,14 +80,22 @@ stage-is-shown s start size k i j t d rows t′ g p w =
     let u = p .table ∙ ap (tableAfter (length t)) a in
     let read = subst (ReadPromise s start size 0x45B9 t (Rows (length rs))) (sym u)
     (record-is-read s start size 0x45B9 t _ rs master a) in
-    let held = ap (λ (x : List ℕ). rowsOf x (length rs)) u ∙ rows-back rs (zeros (length t - length rs * width)) in
-    let place = text-row s start size 0x45B9 t rs t′ read held n r there row kind
-    ∙ ap (λ (x : ℕ). range x (r .payload)) at ∙ ap (range (g .at)) long in
+    let held = held-row t′ rs n r
+    (ap (λ (x : List ℕ). rowsOf x (length rs)) u ∙ rows-back rs (zeros (length t - length rs * width))) there row in
+    let is-text = utf8-is-text (rowAt t′ n .kind) (ap (λ (x : Row). x .kind) held ∙ kind) in
+    let first = ap (λ (x : Row). x .address + x .header) held ∙ at in
+    let many = ap (λ (x : Row). x .payload) held ∙ long in
+    let place = rows-have-ranges s start size 0x45B9 t (length rs) t′ read n there ∙ ap₂ range first many in
+    let shown : ShownPromise s t′ n (bytesOf s (textRange s t′ n)) = record { reply = refl } in
+    let shows = accepted-shown s start size 0x45B9 t (length rs) t′ read n there is-text _ shown in
     record {
       row = n;
       there = subst (λ (x : ℕ). n < x) (sym m) there;
       place = place;
-      shown = label-is-shown s t′ n (g .at) (g .length) place;
+      text = bytesOf s (textRange s t′ n);
+      shown = shown;
+      shows = rw (first, many) at shows;
+      label = label-is-shown s t′ n g is-text place _ shown;
     }
 
 pub first-is-shown : FirstIsShown

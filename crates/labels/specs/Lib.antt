@@ -1,4 +1,5 @@
 -- The definitions that the contracts of `labels` cite, and the statements of its theorems.
-pub mod Shown
+pub mod Labels
 pub mod Promise
 pub mod Theorems
+pub mod Cases

@@ -1,9 +1,10 @@
 // The stage label: the shown text of a chapter's first display with a set string, or the caller's own label.
 ghost use Rattle.labels.specs.Promise.{LabelPromise};
 use fields_rules::Content;
+use shown::shown_length;
 
-// The part of the recording that the string's range names; the caller's own label where the range is unset or not in
-// the recording. Nothing is copied, and nothing refused.
+// What is shown of the part of the recording that the string's range names; the caller's own label where nothing is
+// shown, or the range is unset or not in the recording. Nothing is copied, and nothing refused.
 pub fn stage_label<'a>(recording: &'a [u8], string: Content, own: &'a [u8]) -> &'a [u8]
     ensures { λ r. ⌜ LabelPromise (now (recording .entry)) string (now (own .entry)) (now r) ⌝ }
 {
@@ -23,7 +24,12 @@ pub fn stage_label<'a>(recording: &'a [u8], string: Content, own: &'a [u8]) -> &
             let past = at + length;
             let first = at as usize;
             let last = past as usize;
-            &recording[first..last]
+            let shown = shown_length(&recording[first..last]);
+            if shown == 0 {
+                return own;
+            }
+            let behind = first + shown;
+            &recording[first..behind]
         }
     }
 }

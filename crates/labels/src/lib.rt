@@ -1,8 +1,4 @@
-// What a trainee is shown (document 01, Records): the text of a row, by the public calls `text_range` and `shown_text`,
-// and the label of a boot stage, by `stage_label`.
+// The label of a boot stage (document 01, Records; document 02, C-13), by the public call `stage_label`.
 mod label;
-mod shown;
 
 pub use label::stage_label;
-pub use shown::shown_text;
-pub use shown::text_range;

@@ -27,5 +27,5 @@ pub fn shown(read: ReadReply, text: RangeReply) -> Told {
 
 // The text itself.
 pub fn shown_bytes<'a>(asked: Asked, recording: &'a [u8], table: &[u64]) -> &'a [u8] {
-    labels::shown_text(recording, table, asked.row)
+    shown::shown_text(recording, table, asked.row)
 }

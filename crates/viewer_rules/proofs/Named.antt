@@ -1,4 +1,5 @@
--- Each number of a reply crosses to C under its own name (`PartNamed`, `RangeNamed`, `PlaceNamed`). Assumes nothing.
+-- Each number of a reply crosses to C under its own name (`PartNamed`, `RangeNamed`, `TextNamed`, `PlaceNamed`).
+-- Assumes nothing.
 use mathlib.Core.Path.{_≡_, refl, ap, sym, _∙_}
 use Rattle.places_rules.specs.Promise.{rangeTold, whoseTold}
 use Rattle.places_rules.specs.declared.payload.RangeReply.{RangeReply}
@@ -9,7 +10,8 @@ use Rattle.search_rules.specs.Part.{partTold}
 use Rattle.search_rules.specs.declared.part.PartReply.{PartReply}
 use Rattle.search_rules.specs.declared.part.PartReply.the-variants.{Found, Absent, Refused as NoPart}
 use Rattle.viewer_rules.specs.Faces.{partFace, rangeFace, placeFace}
-use Rattle.viewer_rules.specs.Theorems.{partNamed, rangeNamed, placeNamed, PartNamed, RangeNamed, PlaceNamed}
+use Rattle.viewer_rules.specs.Theorems.{partNamed, rangeNamed, placeNamed, PartNamed, RangeNamed, TextNamed}
+use Rattle.viewer_rules.specs.Theorems.{PlaceNamed}
 
 part-face : (q : PartReply) → partFace (partTold q) ≡ partNamed q
 part-face (Found at size rows heads) = refl
@@ -30,6 +32,9 @@ part-named s part t q r t′ u′ p u = u .reply ∙ ap partFace (sym (p .reply)
 
 pub range-named : RangeNamed
 range-named s t row q r p u = u .reply ∙ ap rangeFace (sym (p .reply)) ∙ range-face q
+
+pub text-named : TextNamed
+text-named s t row q r p u = u .reply ∙ ap rangeFace (sym (p .reply)) ∙ range-face q
 
 pub place-named : PlaceNamed
 place-named s start size parent x t q r t′ u′ p u = u .reply ∙ ap placeFace (sym (p .reply)) ∙ place-face q

@@ -1,5 +1,5 @@
 -- `refused` is 0 for an accepted reply alone, and else one of document 01's numbers (`PartTells`, `RangeTells`,
--- `PlaceTells`); an id crosses with 8 alone (`IdAlone`). Assumes nothing.
+-- `TextTells`, `PlaceTells`); an id crosses with 8 alone (`IdAlone`). Assumes nothing.
 use Prim.Native.Nat.{ℕ}
 use mathlib.Core.Path.{_≡_, refl, ap, sym, _∙_, subst}
 use native.Mathlib.Omega.{arith}
@@ -12,8 +12,9 @@ use Rattle.places_rules.specs.Payload.{payloadRange}
 use Rattle.places_rules.specs.Promise.{valuesOf}
 use Rattle.places_rules.specs.Whose.{Whose, byHeader, byPayload, askedOf, whoseOf}
 use Rattle.search_rules.specs.Part.{PartTold, foundPart, absentPart, searchOf, replyOf}
+use Rattle.shown_rules.specs.Shown.{textRange}
 use Rattle.viewer_rules.specs.Faces.{partFace, rangeFace, placeFace}
-use Rattle.viewer_rules.specs.Theorems.{Tells, PartTells, RangeTells, PlaceTells, IdAlone}
+use Rattle.viewer_rules.specs.Theorems.{Tells, PartTells, RangeTells, TextTells, PlaceTells, IdAlone}
 use Rattle.viewer_rules.specs.declared.part.UzPart.{UzPart}
 use Rattle.viewer_rules.specs.declared.payload.UzRange.{UzRange}
 use Rattle.viewer_rules.specs.declared.whose.UzPlace.{UzPlace}
@@ -48,10 +49,16 @@ part-tells s part t r t′ p =
     let reply = replyOf (searchOf s part (length t)) in
     subst (Tells reply) (part-crossed reply ∙ ap (λ (x : UzPart). x .refused) (sym (p .reply))) (tells reply)
 
+-- Of a range, whichever call it is of.
+range-said : (reply : Reply Range) (r : UzRange) → r ≡ rangeFace reply → Tells reply (r .refused)
+range-said reply r e =
+    subst (Tells reply) (range-crossed reply ∙ ap (λ (x : UzRange). x .refused) (sym e)) (tells reply)
+
 pub range-tells : RangeTells
-range-tells s t row r p =
-    let reply = valuesOf (payloadRange s t row) in
-    subst (Tells reply) (range-crossed reply ∙ ap (λ (x : UzRange). x .refused) (sym (p .reply))) (tells reply)
+range-tells s t row r p = range-said (valuesOf (payloadRange s t row)) r (p .reply)
+
+pub text-tells : TextTells
+text-tells s t row r p = range-said (valuesOf (textRange s t row)) r (p .reply)
 
 pub place-tells : PlaceTells
 place-tells s start size parent x t r t′ p =

@@ -1,12 +1,12 @@
--- Any two answers that a promise of the C face permits are equal (`OneUzPart`, `OneUzRange`, `OneUzPlace`). Assumes
--- nothing.
+-- Any two answers that a promise of the C face permits are equal (`OneUzPart`, `OneUzRange`, `OneUzText`,
+-- `OneUzPlace`). Assumes nothing.
 use Prim.Native.Nat.{ℕ}
 use mathlib.Core.Path.{sym, ap, _∙_}
 use Rattle.elements_rules.specs.Promise.{tableOf as readTable}
 use Rattle.places_rules.specs.Whose.{askedOf, whoseOf}
 use Rattle.search_rules.specs.Part.{searchOf, replyOf, tableOf}
 use Rattle.viewer_rules.specs.Faces.{partFace, placeFace}
-use Rattle.viewer_rules.specs.Theorems.{OneUzPart, OneUzRange, OneUzPlace}
+use Rattle.viewer_rules.specs.Theorems.{OneUzPart, OneUzRange, OneUzText, OneUzPlace}
 
 pub part-unique : OneUzPart
 part-unique s part t u r r′ t′ u′ l p q = (
@@ -16,6 +16,9 @@ part-unique s part t u r r′ t′ u′ l p q = (
 
 pub range-unique : OneUzRange
 range-unique s t row r r′ p q = p .reply ∙ sym (q .reply)
+
+pub text-unique : OneUzText
+text-unique s t row r r′ p q = p .reply ∙ sym (q .reply)
 
 pub place-unique : OneUzPlace
 place-unique s start size parent x t u r r′ t′ u′ l p q = (

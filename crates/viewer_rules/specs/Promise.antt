@@ -9,6 +9,7 @@ use Rattle.places_rules.specs.Payload.{payloadRange}
 use Rattle.places_rules.specs.Promise.{valuesOf}
 use Rattle.places_rules.specs.Whose.{askedOf, whoseOf}
 use Rattle.search_rules.specs.Part.{searchOf, replyOf, tableOf}
+use Rattle.shown_rules.specs.Shown.{textRange}
 use Rattle.viewer_rules.specs.Faces.{partFace, rangeFace, placeFace}
 use Rattle.viewer_rules.specs.declared.part.UzPart.{UzPart}
 use Rattle.viewer_rules.specs.declared.payload.UzRange.{UzRange}
@@ -20,6 +21,9 @@ pub record UzPartPromise (s : List ℕ) (part : ℕ) (t : List ℕ) (r : UzPart)
 
 pub record UzRangePromise (s t : List ℕ) (row : ℕ) (r : UzRange) : Type 0 where
   pub reply : r ≡ rangeFace (valuesOf (payloadRange s t row))
+
+pub record UzTextPromise (s t : List ℕ) (row : ℕ) (r : UzRange) : Type 0 where
+  pub reply : r ≡ rangeFace (valuesOf (textRange s t row))
 
 pub record UzPlacePromise
     (s : List ℕ) (start size parent x : ℕ) (t : List ℕ) (r : UzPlace) (t′ : List ℕ) : Type 0 where

@@ -20,7 +20,9 @@ use Rattle.search_rules.specs.Part.{searchOf, replyOf, PartPromise}
 use Rattle.search_rules.specs.Faults.{SearchComes}
 use Rattle.search_rules.specs.declared.part.PartReply.{PartReply}
 use Rattle.search_rules.specs.declared.part.PartReply.the-variants.{Found, Absent, Refused as NoPart}
-use Rattle.viewer_rules.specs.Promise.{UzPartPromise, UzRangePromise, UzPlacePromise}
+use Rattle.shown_rules.specs.Shown.{textRange}
+use Rattle.shown_rules.specs.Promise.{TextPromise}
+use Rattle.viewer_rules.specs.Promise.{UzPartPromise, UzRangePromise, UzTextPromise, UzPlacePromise}
 use Rattle.viewer_rules.specs.declared.part.UzPart.{UzPart}
 use Rattle.viewer_rules.specs.declared.payload.UzRange.{UzRange}
 use Rattle.viewer_rules.specs.declared.whose.UzPlace.{UzPlace}
@@ -35,6 +37,10 @@ OneUzPart =
 abbrev pub OneUzRange : Type 0
 OneUzRange =
     (s t : List ℕ) (row : ℕ) (r r′ : UzRange) → UzRangePromise s t row r → UzRangePromise s t row r′ → r ≡ r′
+
+abbrev pub OneUzText : Type 0
+OneUzText =
+    (s t : List ℕ) (row : ℕ) (r r′ : UzRange) → UzTextPromise s t row r → UzTextPromise s t row r′ → r ≡ r′
 
 abbrev pub OneUzPlace : Type 0
 OneUzPlace =
@@ -64,6 +70,11 @@ abbrev pub RangeTells : Type 0
 RangeTells =
     (s t : List ℕ) (row : ℕ) (r : UzRange)
     → UzRangePromise s t row r → Tells (valuesOf (payloadRange s t row)) (r .refused)
+
+abbrev pub TextTells : Type 0
+TextTells =
+    (s t : List ℕ) (row : ℕ) (r : UzRange)
+    → UzTextPromise s t row r → Tells (valuesOf (textRange s t row)) (r .refused)
 
 abbrev pub PlaceTells : Type 0
 PlaceTells =
@@ -143,6 +154,11 @@ abbrev pub RangeNamed : Type 0
 RangeNamed =
     (s t : List ℕ) (row : ℕ) (q : RangeReply) (r : UzRange)
     → RangePromise s t row q → UzRangePromise s t row r → r ≡ rangeNamed q
+
+abbrev pub TextNamed : Type 0
+TextNamed =
+    (s t : List ℕ) (row : ℕ) (q : RangeReply) (r : UzRange)
+    → TextPromise s t row q → UzTextPromise s t row r → r ≡ rangeNamed q
 
 abbrev pub PlaceNamed : Type 0
 PlaceNamed =

@@ -1,4 +1,4 @@
-// The answer of `uz_row_payload`.
+// The answer of `uz_row_payload` and `uz_shown_text`.
 
 // `uz_range` of include/uzrafmed.h.
 #[repr(C)]

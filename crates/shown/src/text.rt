@@ -1,9 +1,12 @@
-// Shown text: a text row's whole payload, as a range and as the very part of the recording. The table is only read.
+// The shown text of a row: its payload up to the first zero byte, as a range and as the very part of the recording. The
+// table is only read.
 ghost use mathlib.Core.Path.{_≡_};
-ghost use Rattle.labels.specs.Shown.{isText};
-ghost use Rattle.labels.specs.Promise.{TextPromise, ShownPromise};
+ghost use Rattle.shown_rules.specs.Shown.{isText};
+ghost use Rattle.shown_rules.specs.Promise.{TextPromise, ShownPromise};
+use crate::length::shown_length;
 use bodies_rules::Range;
 use payloads::payload_range;
+use payloads::row_payload;
 use places_rules::RangeReply;
 use refusals::Cause;
 use refusals::Refusal;
@@ -24,7 +27,7 @@ fn is_text(kind: u64) -> bool
     kind == UTF8
 }
 
-// The range of a text row's payload. 14: as `payload_range` has it, or the row is no text row.
+// The range of a text row's shown text. 14: as `payload_range` has it, or the row is no text row.
 pub fn text_range(recording: &[u8], table: &[u64], row: u64) -> RangeReply
     ensures { λ r. ⌜ TextPromise (now (recording .entry)) (now (table .entry)) row r ⌝ }
 {
@@ -32,18 +35,22 @@ pub fn text_range(recording: &[u8], table: &[u64], row: u64) -> RangeReply
         RangeReply::Refused(refusal) => RangeReply::Refused(refusal),
         RangeReply::Range(range) => {
             let found = row_at(table, row as usize);
-            if is_text(found.kind) {
-                return RangeReply::Range(range);
+            if !is_text(found.kind) {
+                return RangeReply::Refused(Refusal {
+                    address: 0,
+                    cause: Cause::BadArgument,
+                });
             }
-            RangeReply::Refused(Refusal {
-                address: 0,
-                cause: Cause::BadArgument,
+            let shown = shown_length(row_payload(recording, table, row)) as u64;
+            RangeReply::Range(Range {
+                at: range.at,
+                length: shown,
             })
         }
     }
 }
 
-// The text of a row as the very part of the recording; empty where `text_range` refuses.
+// The shown text of a row as the very part of the recording; empty where `text_range` refuses.
 pub fn shown_text<'a>(recording: &'a [u8], table: &[u64], row: u64) -> &'a [u8]
     ensures { λ r. ⌜ ShownPromise (now (recording .entry)) (now (table .entry)) row (now r) ⌝ }
 {

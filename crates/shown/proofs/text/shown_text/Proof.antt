@@ -1,9 +1,9 @@
 -- `shown_text` meets its contract: the part that the range tells, or nothing. Assumes nothing.
 use native.Mathlib.Omega.{arith}
-use Rattle.labels.proofs.Texts.{shown-inside, shown-is, shown-none}
+use Rattle.shown_rules.proofs.Texts.{shown-inside, shown-is, shown-none}
 use borrow.Author.Needs.{needs}
-use Rattle.labels.proofs.shown.shown_text.Statement.{statement}
-use Rattle.labels.proofs.shown.shown_text.Tie as tie
+use Rattle.shown.proofs.text.shown_text.Statement.{statement}
+use Rattle.shown.proofs.text.shown_text.Tie as tie
 
 add-end : tie.Need-add-end
 add-end c =

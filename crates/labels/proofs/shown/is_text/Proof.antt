@@ -1,7 +1,0 @@
--- `is_text` meets its contract. Assumes nothing.
-use Rattle.labels.proofs.Texts.{is-string, by-utf8}
-use Rattle.labels.proofs.shown.is_text.Statement.{statement}
-use Rattle.labels.proofs.shown.is_text.Tie as tie
-
-pub is-text-spec : {M : Type 1} → statement M
-is-text-spec = tie.close (tie.spec (λ c. search is-string) (λ c. search by-utf8))

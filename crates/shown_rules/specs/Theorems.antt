@@ -1,0 +1,93 @@
+-- What is proved of shown text beside the contracts: the statements of the theorems.
+use Prim.Native.Nat.{ℕ, _≤_, _<_}
+use mathlib.Core.Path.{_≡_}
+use mathlib.Core.List.{List, [], _∷_, _++_, List·Memᴰ}
+use mathlib.Core.Logic.{_⊎_}
+use mathlib.Core.Bool.{true}
+use lib.ListN.{length, take, drop}
+use Rattle.refusals.specs.Refusals.{badArgument}
+use Rattle.refusals.specs.Theorems.{Listed}
+use Rattle.refusals.specs.declared.refusal.Refusal.{Refusal}
+use Rattle.utf8.specs.Utf8.{utf8}
+use Rattle.bodies_rules.specs.declared.body.Range.{Range}
+use Rattle.elements_rules.specs.Rows.{rowAt, payloadOf}
+use Rattle.elements_rules.specs.Promise.{ReadPromise}
+use Rattle.elements_rules.specs.declared.reply.ReadReply.the-variants.{Rows}
+use Rattle.places_rules.specs.Promise.{RangePromise, PayloadPromise}
+use Rattle.places_rules.specs.declared.payload.RangeReply.{RangeReply}
+use Rattle.places_rules.specs.declared.payload.RangeReply.the-variants.{Range as RangeIs, Refused}
+use Rattle.shown_rules.specs.Shown.{isText}
+use Rattle.shown_rules.specs.Promise.{TextPromise, ShownPromise}
+
+-- Any two replies that a promise permits to one question are equal (document 01, Strength of the promises).
+abbrev pub OneText : Type 0
+OneText = (s t : List ℕ) (row : ℕ) (r r′ : RangeReply) → TextPromise s t row r → TextPromise s t row r′ → r ≡ r′
+
+abbrev pub OneShown : Type 0
+OneShown =
+    (s t : List ℕ) (row : ℕ) (part part′ : List ℕ) → ShownPromise s t row part → ShownPromise s t row part′
+    → part ≡ part′
+
+-- A refusal among the replies that the promise permits is one of document 01's list.
+abbrev pub TextRefusesListed : Type 0
+TextRefusesListed = (s t : List ℕ) (row : ℕ) (e : Refusal) → TextPromise s t row (Refused e) → Listed e
+
+-- Where it broke: a text's range is refused with 14 alone, at 0.
+abbrev pub TextHonest : Type 0
+TextHonest = (s t : List ℕ) (row : ℕ) (e : Refusal) → TextPromise s t row (Refused e) → e ≡ badArgument
+
+-- ---- up to the first zero octet
+
+-- A part of a text that ends before its first zero octet: the text begins with it, it holds no zero octet, and it is
+-- the whole text, or a zero octet follows it.
+pub record BeforeZero (text part : List ℕ) : Type 0 where
+  pub rest : List ℕ
+  pub begins : text ≡ part ++ rest
+  pub clean : List·Memᴰ 0 part → ⊥
+  pub stops : (rest ≡ []) ⊎ ((behind : List ℕ) × (rest ≡ 0 ∷ behind))
+
+-- So it is the longest beginning of the text without a zero octet.
+abbrev pub Longest : Type 0
+Longest =
+    (text part : List ℕ) → BeforeZero text part
+    → (other rest : List ℕ) → text ≡ other ++ rest → (List·Memᴰ 0 other → ⊥) → length other ≤ length part
+
+-- Of a text row that part of its payload is shown.
+abbrev pub ShownBeforeZero : Type 0
+ShownBeforeZero =
+    (s t : List ℕ) (row : ℕ) (payload part : List ℕ) → isText (rowAt t row .kind) ≡ true
+    → PayloadPromise s t row payload → ShownPromise s t row part → BeforeZero payload part
+
+-- What is shown of a range of the recording: a range that begins at the same address.
+pub record ShownRange (s : List ℕ) (payload : Range) (r : RangeReply) : Type 0 where
+  pub text : Range
+  pub told : r ≡ RangeIs text
+  pub address : text .at ≡ payload .at
+  pub part : BeforeZero (take (payload .length) (drop (payload .at) s)) (take (text .length) (drop (text .at) s))
+
+-- A text row whose payload is in the recording is not refused.
+abbrev pub TextInPayload : Type 0
+TextInPayload =
+    (s t : List ℕ) (row : ℕ) (payload : Range) (r : RangeReply) → isText (rowAt t row .kind) ≡ true
+    → RangePromise s t row (RangeIs payload) → TextPromise s t row r → ShownRange s payload r
+
+-- ---- shown text is UTF-8
+
+-- Where the payload is; a cut never parts a character.
+abbrev pub ShownIsUtf8 : Type 0
+ShownIsUtf8 =
+    (s t : List ℕ) (row : ℕ) (payload part : List ℕ)
+    → PayloadPromise s t row payload → ShownPromise s t row part → utf8 payload ≡ true → utf8 part ≡ true
+
+-- A row's shown text: its payload up to the first zero octet, in UTF-8.
+pub record Shows (payload part : List ℕ) : Type 0 where
+  pub zero : BeforeZero payload part
+  pub encoded : utf8 part ≡ true
+
+-- So it is of every text row of an accepted read.
+abbrev pub AcceptedShown : Type 0
+AcceptedShown =
+    (s : List ℕ) (start size parent : ℕ) (t : List ℕ) (n : ℕ) (t′ : List ℕ)
+    → ReadPromise s start size parent t (Rows n) t′
+    → (k : ℕ) → k < n → isText (rowAt t′ k .kind) ≡ true
+    → (part : List ℕ) → ShownPromise s t′ k part → Shows (payloadOf s (rowAt t′ k)) part

@@ -1,0 +1,1 @@
+// What shown text is (document 02, C-13). There is no code here.
