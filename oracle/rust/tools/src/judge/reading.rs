@@ -21,6 +21,8 @@ pub struct Terms {
     /// The flags 55AB to 55AF of a track stay unset. Else each is the first byte of its
     /// bytes.
     pub unset_marks: bool,
+    /// Shown text ends before its first zero byte. Else it is the whole text.
+    pub ended_text: bool,
 }
 
 pub const OURS: Terms = Terms {
@@ -28,6 +30,7 @@ pub const OURS: Terms = Terms {
     empty_signed: true,
     no_memory: true,
     unset_marks: true,
+    ended_text: true,
 };
 
 pub const CRATE: Terms = Terms {
@@ -35,6 +38,7 @@ pub const CRATE: Terms = Terms {
     empty_signed: false,
     no_memory: false,
     unset_marks: false,
+    ended_text: false,
 };
 
 /// The largest single request for memory that the oracle grants.
@@ -227,4 +231,9 @@ pub fn part(bytes: &[u8], at: u64, size: u64) -> Option<&[u8]> {
     let from = usize::try_from(at).ok()?;
     let to = usize::try_from(at.checked_add(size)?).ok()?;
     bytes.get(from..to)
+}
+
+/// What is shown of a text: the bytes before its first zero, or all if it has none.
+pub fn before_zero(text: &[u8]) -> &[u8] {
+    text.split(|byte| *byte == 0).next().unwrap_or(text)
 }

@@ -1,9 +1,9 @@
 //! The records, built straight from document 01 over the judge's own reading and
 //! apart from the crate: a field is the last direct child of its id and kind.
 
-use crate::reading::{part, End, Payload, Row, Terms, CRATE, OURS};
+use crate::reading::{before_zero, part, End, Payload, Row, Terms, CRATE, OURS};
 use crate::refusal::plain;
-use crate::table::{read, reason, with_table, Due, BOUNDED, NOWHERE};
+use crate::table::{digits, read, reason, with_table, Due, BOUNDED, NOWHERE};
 use question::{List, Question};
 use tools::ids::*;
 
@@ -427,14 +427,10 @@ fn track_type(number: u64) -> &'static str {
     }
 }
 
-/// The bytes of a range in the recording; where it is unset, or not in it, the
-/// caller's own label.
+/// What is shown of the bytes of a range in the recording; where it is unset, or not in
+/// it, or nothing is shown, the caller's own label, which is told whole.
 fn stage_label(range: Option<(u64, u64)>, label: &[u8], bytes: &[u8]) -> String {
-    let shown = range.and_then(|(address, length)| part(bytes, address, length));
-    match shown.unwrap_or(label) {
-        [] => "label -".to_string(),
-        some => some.iter().fold("label ".to_string(), |told, byte| {
-            told + &format!("{byte:02X}")
-        }),
-    }
+    let text = range.and_then(|(address, length)| part(bytes, address, length));
+    let shown = text.map(before_zero).filter(|shown| !shown.is_empty());
+    format!("label {}", digits(shown.unwrap_or(label)))
 }

@@ -45,7 +45,7 @@ pub enum Verdict {
 type Rule = fn(&Question, &Case) -> Option<bool>;
 
 /// The listed exceptions by name.
-pub const NAMES: [&str; 11] = [
+pub const NAMES: [&str; 12] = [
     "argument",
     "signed",
     "allocation",
@@ -57,12 +57,13 @@ pub const NAMES: [&str; 11] = [
     "wraps",
     "added",
     records::MARKS,
+    table::ZEROS,
 ];
 
 /// Those of a header or body question, each with its rule. The element table and
-/// the records have the first five, the search the first nine, the label the last but
-/// one, and a track the last as well as the first five: there the judge's own reading
-/// says what is due.
+/// the records have the first five, and the search the first nine. Of the last three the
+/// label has the first, and a track and shown text have theirs beside the first five.
+/// There the judge's own reading says what is due.
 const RULES: [(&str, Rule); 3] = [
     ("argument", argument),
     ("signed", signed),

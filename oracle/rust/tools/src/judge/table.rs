@@ -1,7 +1,7 @@
 //! The answers due to the questions about the element table, from the judge's
 //! own reading: ours by document 01's terms, the crate's by its own.
 
-use crate::reading::{part, rows, End, Payload, Row, Terms, CRATE, OURS};
+use crate::reading::{before_zero, part, rows, End, Payload, Row, Terms, CRATE, OURS};
 use crate::refusal::{plain, refused};
 use question::{rows_in, whole_rows, Question, MOST_NUMBERS, WIDTH};
 use std::fmt::Write;
@@ -18,6 +18,9 @@ pub struct Due {
     /// no addresses is no difference.
     pub exception: Option<&'static str>,
 }
+
+/// The exception of a shown text that has a zero byte.
+pub const ZEROS: &str = "zeros";
 
 /// The address of 14 and 15, which tell of no element.
 pub const NOWHERE: u64 = 0;
@@ -37,7 +40,14 @@ pub fn due(question: &Question) -> Option<Due> {
     let ours = answer(question, &payload, OURS);
     let theirs = plain(&answer(question, &payload, CRATE));
     let bounded = || plain(&answer(question, &payload, BOUNDED));
-    let exception = (plain(&ours) != theirs).then(|| reason(&bounded(), &theirs));
+    let whole = || plain(&answer(question, &payload, WHOLE));
+    let exception = (plain(&ours) != theirs).then(|| {
+        if whole() == theirs {
+            ZEROS
+        } else {
+            reason(&bounded(), &theirs)
+        }
+    });
     Some(Due {
         ours,
         checked: theirs.clone(),
@@ -90,6 +100,13 @@ fn payload_of(question: &Question) -> Option<Payload<'_>> {
     }
 }
 
+/// Our terms but for the end of shown text. Where the crate's answer is the one by these
+/// terms, the answers part there and nowhere else.
+const WHOLE: Terms = Terms {
+    ended_text: false,
+    ..OURS
+};
+
 /// The crate's terms within our bounds.
 pub const BOUNDED: Terms = Terms {
     bounds: true,
@@ -118,7 +135,7 @@ fn answer(question: &Question, payload: &Payload, terms: Terms) -> String {
             Err(end) => with_table(Err(end)),
         },
         Question::Shown { row, .. } => match read(payload, terms) {
-            Ok(rows) => text_of(payload, &rows, *row),
+            Ok(rows) => text_of(payload, &rows, *row, terms),
             Err(end) => with_table(Err(end)),
         },
         _ => with_table(read(payload, terms).map(|rows| table(&rows))),
@@ -186,34 +203,43 @@ fn bytes_of(payload: &Payload, rows: &[Row], row: u64) -> String {
         return refused(14, None, NOWHERE);
     }
     match rows.get(row as usize) {
-        Some(row) => told_bytes("bytes ", payload, row),
+        Some(row) => format!("bytes {}", digits(body(payload, row))),
         None => "bytes -".to_string(),
     }
 }
 
-/// A row's shown text, which is its payload. A row that was not used is all zeros,
-/// and its kind is none of the two kinds of text.
-fn text_of(payload: &Payload, rows: &[Row], row: u64) -> String {
+/// A row's shown text, which begins where its payload does. A row that was not used is
+/// all zeros, and its kind is none of the two kinds of text.
+fn text_of(payload: &Payload, rows: &[Row], row: u64, terms: Terms) -> String {
     let used = rows.get(row as usize);
     let found = used.filter(|_| row < rows_in(payload.numbers));
     match found.filter(|row| [STRING_KIND, UTF8_KIND].contains(&row.kind)) {
         Some(row) => {
-            let place = format!("text {}+{} ", row.address + row.header, row.payload);
-            told_bytes(&place, payload, row)
+            let text = body(payload, row);
+            let text = if terms.ended_text {
+                before_zero(text)
+            } else {
+                text
+            };
+            let from = row.address + row.header;
+            format!("text {from}+{} {}", text.len(), digits(text))
         }
         None => refused(14, None, NOWHERE),
     }
 }
 
-/// The bytes of a row's payload behind some words.
-fn told_bytes(words: &str, payload: &Payload, row: &Row) -> String {
+/// The bytes of a row's payload.
+fn body<'a>(payload: &Payload<'a>, row: &Row) -> &'a [u8] {
     let bytes = part(payload.bytes, row.address + row.header, row.payload);
-    match bytes.expect("an accepted row is in the recording") {
-        [] => format!("{words}-"),
-        some => some.iter().fold(words.to_string(), |told, byte| {
-            told + &format!("{byte:02X}")
-        }),
+    bytes.expect("an accepted row is in the recording")
+}
+
+/// Bytes as they stand in an answer.
+pub fn digits(bytes: &[u8]) -> String {
+    if bytes.is_empty() {
+        return "-".to_string();
     }
+    bytes.iter().map(|byte| format!("{byte:02X}")).collect()
 }
 
 /// The payload range of a row of a given table. The sum of address and lengths
