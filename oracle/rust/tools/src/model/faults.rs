@@ -2,7 +2,7 @@
 //! that has it does. Such a reader could well be written, and the comparison and
 //! the stored lists have to find every one.
 
-/// Those of single headers and bodies: which address a refusal carries.
+/// Those of single headers and bodies: mostly which address a refusal carries.
 pub const SINGLE: &str = "\
 header-at-zero: a bad header is told by 0
 header-at-size: a bad size is told by its own address
@@ -22,6 +22,7 @@ body-14-address: 14 of a body carries the address of the header
 body-14-place: 14 of a body carries the place that was asked for
 body-14-past: an address past the end is 14
 body-14-order: an address that is not before the place is 14
+body-zero: a text is told up to its first zero
 ";
 
 /// Those of the element table and the search.
@@ -40,6 +41,7 @@ after-master: a leaf's is 0
 after-zero: 0 is told where there is no row behind
 after-room: the rows of the whole table are told where there is no row behind
 last-row: the last row is left out
+row-zero: the payload of a text row is told up to its first zero
 held: a child is read as if nothing stood behind its master
 overrun-first: 3 for an overrun is given before the body
 overrun-never: 3 is not given for an overrun
@@ -69,6 +71,7 @@ small-set-deep: a small set holds for all that is below its parent
 empty-signed: a signed integer of length 0 is 1
 end-first: the end of the recording comes before 4, 5 and 6
 text-unchecked: 7 is not given
+text-to-zero: 7 is not given for what is behind the first zero of a text
 unknown-size: a size of all ones is what its master has left
 narrow-size: a size has 32 bits
 zero-run: a first byte of 0 is too wide, whatever follows
@@ -85,6 +88,7 @@ row-table: the table is told where a row is not in it
 row-at-end: the row behind the last one is in the table
 row-narrow: so many rows are in the table as if they lacked their last number
 row-first: a row that is not in the table comes before the read
+payload-zero: the payload of a text row ends before its first zero
 range-after: a row whose row behind is not in the table has no range
 range-wraps: the sum of address and lengths wraps at 2^64
 range-address: a payload begins at its header
@@ -100,8 +104,18 @@ shown-header: shown text begins at its header
 shown-address: shown text is told by its header's address
 shown-start: shown text begins at the recording's start
 shown-short: shown text has no last byte
-shown-zero: shown text ends before a byte of 0
-shown-padded: zeros at the end of shown text are left out
+shown-zeros: shown text is the whole text, with its zeros
+shown-zeros-string: shown text of a string is the whole text
+shown-zeros-utf8: shown text of UTF-8 is the whole text
+shown-padded: only zeros at the end of shown text are left out
+shown-zero: the zero that ends shown text is shown too
+shown-zero-first: a row whose text begins with a zero is no text row
+shown-last-zero: shown text ends before the last zero
+shown-first-byte: shown text does not end at a zero that is the first byte
+shown-last-byte: shown text does not end at a zero that is the last byte
+shown-runs-on: shown text goes on to the first zero behind it
+shown-range: shown text is told with the length of the whole text
+shown-part: the whole text is told with the length of shown text
 shown-table: the table is told where a row has no text
 first-seek: the first Seek of an id in a head is taken
 earlier-head: the entry of an earlier head is taken
@@ -254,6 +268,9 @@ first-child: the first child of a field's id is taken
 any-depth: a field is taken from any depth below its record
 siblings: a field is taken from the records behind it too
 field-header: a text is told with its header
+field-zero: a text is told up to its first zero
+field-zero-unset: a text that begins with a zero is told as unset
+field-zero-kept: a text that begins with a zero does not replace another one
 empty-unset: a text or bytes of length 0 is told as unset
 number-zero: an unset number is told as 0
 empty-number: a number of length 0 is told as unset
@@ -308,14 +325,24 @@ type-byte: only the last byte of a track type counts
 type-18: 18 is unknown
 type-zero: 0 is video
 label-unset: an unset range gives the empty label
-label-own-empty: an empty range gives the caller's label
+label-empty: an empty range gives the empty label
+label-empty-zero: a text that begins with a zero gives the empty label
+label-own-empty: where the caller's label is empty, a text that begins with a zero is told
+label-own-zero: the caller's label ends before its first zero
 label-cut: of a range that passes the end the bytes that are there are told
 label-end: a range may not end where the recording ends
-label-empty-end: an empty range may not stand at the end
+label-over: a range may pass the end if there is a zero before the end
 label-wraps: the sum of a range wraps at 2^64
 label-refused: a range that is not in the recording is 14
 label-text: bytes that are no text give the caller's label
-label-zero: a label ends before a byte of 0
+label-text-behind: bytes behind the first zero that are no text give the caller's label
+label-zeros: zeros stay in a label
+label-padded: only zeros at the end of a label are left out
+label-zero: the zero that ends a label is told too
+label-last-zero: a label ends before the last zero
+label-first-byte: a label does not end at a zero that is the first byte
+label-last-byte: a label does not end at a zero that is the last byte
+label-runs-on: a label goes on to the first zero behind it
 label-before: the caller's label is taken where there is one
 ";
 
@@ -388,7 +415,7 @@ gamma-unset: a gamma of 0 is told as unset
 ";
 
 /// The faults of records that a reader of tracks could have as well.
-pub const SHARED: [&str; 44] = [
+pub const SHARED: [&str; 47] = [
     "record-parent",
     "record-any-depth",
     "record-any-id",
@@ -405,6 +432,9 @@ pub const SHARED: [&str; 44] = [
     "any-depth",
     "siblings",
     "field-header",
+    "field-zero",
+    "field-zero-unset",
+    "field-zero-kept",
     "empty-unset",
     "number-zero",
     "empty-number",

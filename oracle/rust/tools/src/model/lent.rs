@@ -1,6 +1,7 @@
 //! The lent table and the read that fills it, element by element with a list of
 //! the masters that are open.
 
+use crate::ended::before_zero;
 use crate::refusal::{refusal, Refusal};
 use crate::Fault;
 use question::{whole_rows, MOST_NUMBERS, WIDTH};
@@ -207,7 +208,14 @@ impl Lent {
             self.body(kind, bytes, at, body, size)?;
         }
         self.limits(at, body, open)?;
-        self.row([id, parent, at, header, size, kind, depth, 0]);
+        let there = bytes.get(body as usize..).unwrap_or(&[]);
+        let told = match there.get(..size as usize) {
+            Some(text) if (kind == 4 || kind == 5) && self.fault.is("row-zero") => {
+                before_zero(text).len() as u64
+            }
+            _ => size,
+        };
+        self.row([id, parent, at, header, told, kind, depth, 0]);
         if kind == 1 {
             open.push(Open {
                 id: id as u32,
@@ -403,6 +411,11 @@ impl Lent {
             return Err(missing);
         }
         let body = &bytes[at as usize..(at + size) as usize];
+        let body = if self.fault.is("text-to-zero") {
+            before_zero(body)
+        } else {
+            body
+        };
         let text = kind == 4 || kind == 5;
         let wrong = String::from_utf8(body.to_vec()).err();
         if let Some(wrong) = wrong.filter(|_| text && !self.fault.is("text-unchecked")) {

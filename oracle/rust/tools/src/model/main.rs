@@ -4,6 +4,7 @@
 //! and bodies, of the element table and the search, of records, and of tracks. It shares no
 //! reading with the judge.
 
+mod ended;
 mod faults;
 mod label;
 mod lent;

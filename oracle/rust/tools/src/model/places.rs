@@ -1,5 +1,6 @@
 //! The address question, a row's payload and its shown text, from the lent table.
 
+use crate::ended::{self, before_zero};
 use crate::lent::{broken, Lent, Read};
 use crate::refusal::{refusal, Refusal};
 use crate::Fault;
@@ -64,6 +65,11 @@ pub fn payload(lent: &Lent, row: u64, bytes: &[u8], fault: Fault) -> String {
     match range {
         Ok((from, length)) => {
             let part = &bytes[from as usize..(from + length) as usize];
+            let row = numbers.chunks_exact(WIDTH).nth(row as usize);
+            let part = match row.map(|row| row[5]) {
+                Some(STRING_KIND | UTF8_KIND) if fault.is("payload-zero") => before_zero(part),
+                _ => part,
+            };
             format!("bytes {}", digits(part))
         }
         Err(refusal) if fault.is("row-table") => refusal.told(None, " table 0", fault),
@@ -79,7 +85,7 @@ fn written(lent: &Lent) -> Vec<u64> {
 }
 
 /// Bytes as they stand in an answer.
-fn digits(bytes: &[u8]) -> String {
+pub fn digits(bytes: &[u8]) -> String {
     if bytes.is_empty() {
         return "-".to_string();
     }
@@ -99,19 +105,19 @@ pub fn shown(lent: &Lent, row: u64, bytes: &[u8], fault: Fault) -> String {
         text(row, range, bytes, fault)
     });
     match shown {
-        Ok((from, text)) => format!("text {from}+{} {}", text.len(), digits(text)),
+        Ok(((from, length), text)) => format!("text {from}+{length} {}", digits(text)),
         Err(refusal) if fault.is("shown-table") => refusal.told(None, " table 0", fault),
         Err(refusal) => refusal.told(None, "", fault),
     }
 }
 
-/// The text of a row and its address, given the range of the row's payload.
+/// The text of a row and its range, given the range of the row's payload.
 fn text<'a>(
     row: &[u64],
     (from, length): (u64, u64),
     bytes: &'a [u8],
     fault: Fault,
-) -> Result<(u64, &'a [u8]), Refusal> {
+) -> Result<((u64, u64), &'a [u8]), Refusal> {
     let (header, kind) = (row[2], row[5]);
     let whole = &bytes[from as usize..][..length as usize];
     let is_text = match kind {
@@ -122,24 +128,36 @@ fn text<'a>(
         0 => fault.is("shown-unused"),
         _ => fault.is("shown-any"),
     };
-    if !is_text || whole.is_empty() && fault.is("shown-empty") {
+    let none = match whole {
+        [] => fault.is("shown-empty"),
+        [0, ..] => fault.is("shown-zero-first"),
+        _ => false,
+    };
+    if !is_text || none {
         return Err(refusal(14, 0).or(fault, &[("at-text-row", header)]));
     }
-    let ends = |end: Option<usize>| &whole[..end.unwrap_or(0)];
+    let kept = kind == STRING_KIND && fault.is("shown-zeros-string")
+        || kind == UTF8_KIND && fault.is("shown-zeros-utf8");
+    let shown = if kept {
+        whole
+    } else {
+        ended::shown(bytes, (from, length), "shown", fault)
+    };
+    let count = shown.len() as u64;
     Ok(match () {
-        () if fault.is("shown-header") => (header, &bytes[header as usize..][..whole.len()]),
-        () if fault.is("shown-address") => (header, whole),
-        () if fault.is("shown-start") => (from, &bytes[..whole.len()]),
-        () if fault.is("shown-short") => (from, ends(whole.len().checked_sub(1))),
-        () if fault.is("shown-zero") => {
-            let zero = whole.iter().position(|byte| *byte == 0);
-            (from, ends(zero.or(Some(whole.len()))))
+        () if fault.is("shown-header") => {
+            let wrong = &bytes[header as usize..][..shown.len()];
+            ((header, count), wrong)
         }
-        () if fault.is("shown-padded") => {
-            let last = whole.iter().rposition(|byte| *byte != 0);
-            (from, ends(last.map(|last| last + 1)))
+        () if fault.is("shown-address") => ((header, count), shown),
+        () if fault.is("shown-start") => ((from, count), &bytes[..shown.len()]),
+        () if fault.is("shown-short") => {
+            let short = shown.len().saturating_sub(1);
+            ((from, short as u64), &shown[..short])
         }
-        () => (from, whole),
+        () if fault.is("shown-range") => ((from, length), shown),
+        () if fault.is("shown-part") => ((from, count), whole),
+        () => ((from, count), shown),
     })
 }
 

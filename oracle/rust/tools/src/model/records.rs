@@ -1,6 +1,7 @@
 //! The records: the rows of the lent table below a master, told from first to last
 //! with each field as it stands by then.
 
+use crate::ended::before_zero;
 use crate::lent::{Lent, Read};
 use crate::refusal::{refusal, Refusal};
 use crate::Fault;
@@ -238,11 +239,21 @@ impl Table<'_> {
     pub fn field(&self, master: Master, id: u32) -> Field {
         let mut field = None;
         for row in self.children(master) {
-            if self.id(row) == id {
+            let kept = self.begins_with_zero(row) && self.fault.is("field-zero-kept");
+            if self.id(row) == id && !(kept && field.is_some()) {
                 field = Some(row);
             }
         }
         field
+    }
+
+    fn is_text(&self, row: usize) -> bool {
+        matches!(self.rows[row][5], STRING_KIND | UTF8_KIND)
+    }
+
+    /// Whether a row is a text of which nothing is shown, though it is not empty.
+    fn begins_with_zero(&self, row: usize) -> bool {
+        self.is_text(row) && self.body(row).first() == Some(&0)
     }
 
     /// The bytes of a row.
@@ -264,7 +275,15 @@ impl Table<'_> {
         if payload == 0 && self.fault.is("empty-unset") {
             return "unset".to_string();
         }
-        format!("{}+{payload}", address + header)
+        if self.begins_with_zero(row) && self.fault.is("field-zero-unset") {
+            return "unset".to_string();
+        }
+        let length = if self.is_text(row) && self.fault.is("field-zero") {
+            before_zero(self.body(row)).len() as u64
+        } else {
+            payload
+        };
+        format!("{}+{length}", address + header)
     }
 
     pub fn range(&self, field: Field) -> String {

@@ -1,5 +1,6 @@
 //! The questions about one header, kind, text or body, which need no table.
 
+use crate::ended::before_zero;
 use crate::lent::Lent;
 use crate::refusal::{refusal, Refusal};
 use crate::Fault;
@@ -53,7 +54,7 @@ impl Body<'_> {
             Lent::new(0, fault).body(self.kind, self.bytes, self.address, self.at, self.size);
         read.map_err(|bad| self.misplaced(bad, fault))?;
         let body = &self.bytes[self.at as usize..][..self.size as usize];
-        Ok(self.value(body))
+        Ok(self.value(body, fault))
     }
 
     /// 14 for a place past the end. The address is not looked at.
@@ -97,7 +98,7 @@ impl Body<'_> {
     }
 
     /// What the bytes say.
-    fn value(&self, body: &[u8]) -> String {
+    fn value(&self, body: &[u8], fault: Fault) -> String {
         let number = body.iter().fold(0, |sum, byte| sum << 8 | u64::from(*byte));
         match self.kind {
             INT_KIND => format!("int {}", signed(number, body.len())),
@@ -113,6 +114,7 @@ impl Body<'_> {
                 format!("float {:016X}", float.to_bits())
             }
             ids::BINARY_KIND => format!("bytes {}+{}", self.at, self.size),
+            _ if fault.is("body-zero") => format!("text {}+{}", self.at, before_zero(body).len()),
             _ => format!("text {}+{}", self.at, self.size),
         }
     }
