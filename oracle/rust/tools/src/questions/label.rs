@@ -45,8 +45,16 @@ pub fn track_type(seed: u64, j: u64, random: &mut Random) -> Vec<u8> {
     broken::broken(&words, &[Sort::Number], random)
 }
 
-/// Recordings of 0 to 3 bytes, two labels, every range of the edges and an unset one.
-pub const LABELS: u64 = 4 * 2 * (10 * 10 + 1);
+/// The recordings, each with three labels, every range of the edges and an unset one.
+pub const LABELS: u64 = RECORDINGS * 3 * (10 * 10 + 1);
+
+/// The recordings: all of 0 to 3 bytes of a zero, a letter, and one that is in no text.
+const RECORDINGS: u64 = 1 + 3 + 3 * 3 + 3 * 3 * 3;
+
+const BYTES: [u8; 3] = [0x00, 0x41, 0xFF];
+
+/// The labels: none, one without zeros, and one with some.
+const OWN: [&str; 3] = ["-", "4C6162", "004C00"];
 
 /// Addresses and lengths: small ones, and some around 2^64.
 const EDGES: [u64; 10] = [
@@ -64,8 +72,8 @@ const EDGES: [u64; 10] = [
 
 /// The whole list of labels.
 pub fn label_at(place: u64) -> Vec<u8> {
-    let (length, place) = (place % 4, place / 4);
-    let (label, place) = (["-", "4C6162"][(place % 2) as usize], place / 2);
+    let (bytes, place) = (recording_at(place % RECORDINGS), place / RECORDINGS);
+    let (label, place) = (OWN[(place % 3) as usize], place / 3);
     let range = match place {
         0 => "unset".to_string(),
         _ => {
@@ -73,8 +81,23 @@ pub fn label_at(place: u64) -> Vec<u8> {
             told((EDGES[place % 10], EDGES[place / 10]))
         }
     };
-    let bytes = hex(&[0x41, 0x00, 0xFF][..length as usize]);
-    format!("label {range} {label} {bytes}").into_bytes()
+    format!("label {range} {label} {}", hex(&bytes)).into_bytes()
+}
+
+/// The recordings, the shortest first.
+fn recording_at(mut place: u64) -> Vec<u8> {
+    let mut bytes = Vec::new();
+    let mut count = 1;
+    while place >= count {
+        place -= count;
+        count *= 3;
+        bytes.push(0);
+    }
+    for byte in &mut bytes {
+        *byte = BYTES[(place % 3) as usize];
+        place /= 3;
+    }
+    bytes
 }
 
 /// Of 20 questions 4 are from a walk through the whole list, 15 are others, and 1 is
@@ -84,25 +107,29 @@ pub fn label(seed: u64, j: u64, random: &mut Random) -> Vec<u8> {
     if turn < 4 {
         return label_at(walked(LABELS, seed, round * 4 + turn));
     }
-    let bytes = match random.below(4) {
+    let bytes = match random.below(8) {
         0 => Vec::new(),
         1 => {
             let count = random.below(12);
             random.bytes(count)
         }
         2 => utf8::damaged(random),
+        3 => [utf8::zeroed(random), utf8::damaged(random)].concat(),
+        4..=5 => utf8::zeroed(random),
         _ => utf8::text(random),
     };
-    let label = match random.below(3) {
+    let label = match random.below(4) {
         0 => Vec::new(),
         1 => {
             let count = random.between(1, 8);
             random.bytes(count)
         }
+        2 => utf8::zeroed(random),
         _ => utf8::text(random),
     };
     let range = match random.below(8) {
         0 => "unset".to_string(),
+        1..=2 => told(around_zero(&bytes, random)),
         _ => told(range(bytes.len() as u64, random)),
     };
     let words = ["label", &range, &hex(&label), &hex(&bytes)];
@@ -115,6 +142,24 @@ pub fn label(seed: u64, j: u64, random: &mut Random) -> Vec<u8> {
 
 fn told((address, length): (u64, u64)) -> String {
     format!("{address}+{length}")
+}
+
+/// A range around a zero of the recording: over it, up to it, or from it on. As any other
+/// if there is none.
+fn around_zero(bytes: &[u8], random: &mut Random) -> (u64, u64) {
+    let length = bytes.len() as u64;
+    let places: Vec<u64> = (0..length)
+        .filter(|place| bytes[*place as usize] == 0)
+        .collect();
+    if places.is_empty() {
+        return range(length, random);
+    }
+    let zero = random.one_of(&places);
+    let before = random.below(zero + 1);
+    let behind = random.between(zero + 1, length);
+    let from = random.one_of(&[0, before, zero, zero + 1]);
+    let to = random.one_of(&[zero, zero + 1, behind, length]);
+    (from, to.saturating_sub(from))
 }
 
 /// A range: mostly in the recording, to its end or a byte over; else a sum around

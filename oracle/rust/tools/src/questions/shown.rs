@@ -57,20 +57,29 @@ fn text(random: &mut Random) -> Node {
     } else {
         random.one_of(&UTF8)
     };
-    let zeros = random.below(4) as usize;
     let body = match random.below(40) {
         0 => bad_body(UTF8_KIND, random),
-        1..=2 => Vec::new(),
-        // Zeros within, and zeros at the end.
-        3..=4 => [utf8::text(random), vec![0; zeros], utf8::text(random)].concat(),
-        5..=6 => [utf8::text(random), vec![0; zeros]].concat(),
+        // No text, but for what is before a zero.
+        1 => [utf8::text(random), vec![0], bad_body(UTF8_KIND, random)].concat(),
+        2..=3 => Vec::new(),
+        4..=15 => utf8::zeroed(random),
         // A text that reads as elements: a text, bytes and a master.
-        7 => b"\x46\x6E\x40\x01A\x46\x5C\x40\x01A\x69\x24\x40\x00".to_vec(),
-        // Lengths where a size needs more bytes.
-        8 => vec![b'A'; random.one_of(&[126, 127, 128, 300, 16_382, 16_383, 16_384])],
+        16 => b"\x46\x6E\x40\x01A\x46\x5C\x40\x01A\x69\x24\x40\x00".to_vec(),
+        17 => long(random),
         _ => utf8::text(random),
     };
     wide(id, Body::Leaf(body), random)
+}
+
+/// A text of a length where a size needs more bytes, every other one with a zero in it.
+fn long(random: &mut Random) -> Vec<u8> {
+    let length = random.one_of(&[126, 127, 128, 300, 16_382, 16_383, 16_384]);
+    let mut text = vec![b'A'; length];
+    if random.once_in(2) {
+        let any = random.below(length as u64) as usize;
+        text[random.one_of(&[0, any, length - 1])] = 0;
+    }
+    text
 }
 
 /// A row: mostly a text, else as for a payload.

@@ -160,6 +160,23 @@ pub fn text(random: &mut Random) -> Vec<u8> {
     text.into_bytes()
 }
 
+/// A good text with zeros: one run of them or several, each with text before and behind
+/// it or without.
+pub fn zeroed(random: &mut Random) -> Vec<u8> {
+    let mut bytes = Vec::new();
+    if !random.once_in(4) {
+        bytes.extend(text(random));
+    }
+    for _ in 0..random.one_of(&[1, 1, 1, 2, 3]) {
+        let zeros = random.one_of(&[1, 1, 1, 1, 2, 3, 16]);
+        bytes.resize(bytes.len() + zeros, 0);
+        if random.once_in(2) {
+            bytes.extend(text(random));
+        }
+    }
+    bytes
+}
+
 /// A good text with one byte damaged.
 pub fn damaged(random: &mut Random) -> Vec<u8> {
     let mut bytes = text(random);
