@@ -2,10 +2,10 @@
   uzrafmed.h - the C face of Uzrafmed, a verified reader of Matroska's element structure.
 
   It implements the rules of docs/01-scope.md, which comments here call document 01, as later requests change them
-  (docs/DECISIONS.md: a row has eight numbers where document 01 has seven, and a refusal has an address). Those rules
-  rest on RFC 8794 (sizes, integers, floats, dates), RFC 9559 (the ids) and RFC 3629 (UTF-8). It is proved that every
-  call ends and answers, on all bytes and all numbers, as the definitions in crates/NAME/specs say, which are written
-  from document 01.
+  (docs/DECISIONS.md: a row has eight numbers where document 01 has seven, a refusal has an address, and a shown text
+  ends before its first zero byte). Those rules rest on RFC 8794 (sizes, integers, floats, dates, the end of a text),
+  RFC 9559 (the ids) and RFC 3629 (UTF-8). It is proved that every call ends and answers, on all bytes and all numbers,
+  as the definitions in crates/NAME/specs say, which are written from document 01.
   docs/TRUSTED.md lists what has to be believed; this header, which is written by hand, is in it. What is asked of the
   caller is in "What every call asks and promises" below.
 
@@ -18,15 +18,17 @@
   Without installing: `rt staticlib viewer` writes the proved calls to target/staticlib/libviewer.a, and
   viewer/refusals.c has the words.
 
-  There are three proved calls, and a table of words:
+  There are four proved calls, and a table of words:
 
       uz_find_part       finds Tracks, Attachments, Chapters or Tags, and reads it into a table of rows
       uz_row_payload     tells where in the recording the payload of a row is
+      uz_shown_text      tells where the text of a row is, as it is shown to a person
       uz_whose_byte      reads a payload into a table, and names the row that holds an address
       uz_refusal_words   tells what a refusal means, what its address is and what to do; plain C, not proved
 
-  A whole program, which prints the address and the text of every chapter string of a recording. It shows texts
-  as they are; a program that writes to a terminal has to escape control characters (viewer/stages/show.c does).
+  A whole program, which prints the address and the shown text of every chapter string of a recording, and its own
+  label, -, for an empty one. A program that writes to a terminal has to escape control characters besides
+  (viewer/stages/show.c does).
 
 --- example.c
 #define _POSIX_C_SOURCE 200809L
@@ -55,8 +57,9 @@ int main(int count, char **words) {
                 uz_refusal_words(part.refused).meaning);
     for (uint64_t row = 0; row < part.rows; row++) {
         if (table[row * UZ_WIDTH + UZ_ID] != 0x85) continue; // the id of a ChapString
-        uz_range text = uz_row_payload(recording, length, table, UZ_MOST_NUMBERS, row);
+        uz_range text = uz_shown_text(recording, length, table, UZ_MOST_NUMBERS, row);
         printf("%llu ", (unsigned long long)text.at);
+        if (text.length == 0) putchar('-'); // an empty text is no label
         fwrite(recording + text.at, 1, (size_t)text.length, stdout);
         putchar('\n');
     }
@@ -78,7 +81,7 @@ int main(int count, char **words) {
   what was asked and not in the recording, it is 0. But 0 is also the address of the first byte, so it is the number of
   the refusal that tells whether there is an address. The address may lie past the recording's end, up to 2^64-1:
   compare it with `length` before a byte is read there. What it is for each number stands in the lists of the calls
-  below. uz_row_payload refuses with 14 alone, and its reply has no address.
+  below. uz_row_payload and uz_shown_text refuse with 14 alone, and their reply has no address.
 
   Rows below a row. The last number of row R, A = T[R * UZ_WIDTH + UZ_AFTER], is the first row after it that does not
   lie in its element, or the count of rows where there is none. It is a row's number as it is, without the plus 1 of
@@ -113,8 +116,9 @@ int main(int count, char **words) {
     01's list has the kind binary. What the elements mean is not looked at: a chapter may lack its name.
   - That a size of all ones is unknown: it is a plain number here, as document 01 says. Live recordings are
     therefore often refused with 1 or 3.
-  - Speed. The time of a search is at most about 64 times that of one pass over the recording, of the other reads
-    about one pass; skipped elements are not touched.
+  - Speed. The time of a search is at most about 64 times that of one pass over the recording, of the address question
+    about one pass; skipped elements are not touched. A shown text takes one pass over itself, however long the payload
+    goes on behind it, and uz_row_payload no pass at all.
 */
 #ifndef UZRAFMED_H
 #define UZRAFMED_H
@@ -161,8 +165,8 @@ extern "C" {
 #define UZ_MASTER 1   /* elements; their rows follow */
 #define UZ_SIGNED 2   /* a signed integer, big-endian, 0 to 8 bytes */
 #define UZ_UNSIGNED 3 /* an unsigned integer, big-endian, 0 to 8 bytes */
-#define UZ_STRING 4   /* a text; it is UTF-8 too, and may hold zero bytes */
-#define UZ_UTF8 5     /* a text in UTF-8; it may hold zero bytes */
+#define UZ_STRING 4   /* a text; it is UTF-8 too, and may hold zero bytes: uz_shown_text tells where it ends */
+#define UZ_UTF8 5     /* a text in UTF-8; it may hold zero bytes likewise */
 #define UZ_BINARY 6   /* bytes */
 #define UZ_FLOAT 7    /* a float, big-endian, 4 or 8 bytes */
 #define UZ_DATE 8     /* a signed integer of 8 bytes: nanoseconds from 2001-01-01 */
@@ -183,7 +187,7 @@ extern "C" {
 #define UZ_TOO_MANY_HEADS 11   /* 64 linked seek heads were read, and the last names one more */
 #define UZ_TOO_DEEP 12         /* elements are nested more than 16 deep */
 #define UZ_NO_FREE_ROW 13      /* the part has more elements than the table has rows, 4096 at most */
-#define UZ_BAD_ARGUMENT 14     /* a length, part, start or row that the caller gave is out of bounds */
+#define UZ_BAD_ARGUMENT 14     /* a length, part, start or row that was given is out of bounds, or the row is no text */
 #define UZ_OUTSIDE 15          /* the address is outside the payload */
 
 /* What a refusal means. The texts are constants of the library. */
@@ -207,7 +211,7 @@ typedef struct uz_part {
     uint64_t heads;      /* how many seek heads were read, 0 to 64; counted for an absent part too */
 } uz_part;
 
-/* The reply of uz_row_payload: bytes `at` up to `at + length - 1`, all of them in the recording. */
+/* The reply of uz_row_payload and uz_shown_text: bytes `at` up to `at + length - 1`, all of them in the recording. */
 typedef struct uz_range {
     uint64_t refused; /* 0, or UZ_BAD_ARGUMENT; then the others are 0 */
     uint64_t at;      /* the address of the first byte; the recording's length at most */
@@ -289,6 +293,31 @@ uz_part uz_find_part(const uint8_t *recording, size_t length, uint32_t part, uin
   compare row with the `rows` of the call that wrote the table.
 */
 uz_range uz_row_payload(const uint8_t *recording, size_t length, const uint64_t *table, size_t numbers, uint64_t row);
+
+/*
+  Tells where the shown text of a text row is, that is of a row of kind UZ_STRING or UZ_UTF8: its payload up to the
+  first zero byte, which is not part of it, or the whole payload if there is none. Recorders pad texts with zero bytes,
+  and write a shorter text over a longer one, so what follows a zero byte counts for nothing (RFC 8794, section 13).
+  `at` is the address of the payload, whatever the length. After acceptance the bytes from recording + at on, `length`
+  of them, may be read, and none of them is 0.
+
+  An empty shown text counts as no label: where a stage is to have a name, show a label of your own.
+
+  The table is usually one that another call wrote, but may hold any numbers: the row's kind is believed as it stands
+  there, its address, header length and payload length are taken as uz_row_payload takes them, and no other number
+  counts. A text row of an accepted table is never refused if the recording is the same, and its shown text is UTF-8:
+  the call that wrote it held the whole payload to that, also what follows a zero byte.
+
+  Owns: nothing. The bytes stay the caller's. Reads: the table; of the recording its length and, after all tests, the
+  payload up to and with its first zero byte. Writes: nothing.
+
+  Refusals:
+    14  those of uz_row_payload, or the row is no text row. An unused row, which is all zeros, is none.
+
+  Not promised: that the bytes are UTF-8 where the row is not one that an accepted call wrote for the same recording.
+  Control characters other than the zero byte are left in.
+*/
+uz_range uz_shown_text(const uint8_t *recording, size_t length, const uint64_t *table, size_t numbers, uint64_t row);
 
 /*
   Reads the payload of `size` bytes from the address `start` on into the table, and names the one row that holds

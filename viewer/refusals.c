@@ -79,7 +79,7 @@ static const uz_words table[] = {
          "table "
          "or its range not in the recording; where a text is asked for, also if the row is no text "
          "row",
-         "a length, part, start or row that the caller gave is out of bounds",
+         "a length, part, start or row that was given is out of bounds, or the row is no text",
          "nowhere: it is 0, since the fault is in what was asked",
          "the program that asked is at fault: hold its numbers to uzrafmed.h"},
     [UZ_OUTSIDE] = {"OUTSIDE",

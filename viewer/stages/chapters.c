@@ -38,12 +38,13 @@ static void tell_time(const part *in, uint64_t row) {
     putchar(' ');
 }
 
-// The first display's string; behind it each further one, after its language.
+// The label, which is the first string that is set; behind it each further one, after its language.
+// An empty first one is no label, and none of the others takes its place.
 static void tell_name(const part *in, uint64_t atom) {
     uint64_t display = NO_ROW;
     uint64_t string = next_string(in, atom, first_row(atom), &display);
     putchar(' ');
-    show_field(in, string);
+    show_field(in, label_in(in, string));
     while (string != NO_ROW) {
         string = next_string(in, atom, row_after(in, display), &display);
         if (string == NO_ROW)
@@ -147,7 +148,7 @@ static void json_atom(const part *in, uint64_t atom, unsigned level) {
         json_word(NULL, "disabled");
     json_close(']');
     uint64_t display = NO_ROW;
-    json_field("name", in, next_string(in, atom, first_row(atom), &display));
+    json_field("name", in, label_in(in, next_string(in, atom, first_row(atom), &display)));
     json_open("displays", '[', false);
     uint64_t row = next_child(in, atom, first_row(atom), CHAPTER_DISPLAY, UZ_MASTER);
     for (; row != NO_ROW;

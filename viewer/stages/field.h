@@ -4,7 +4,8 @@
 
 #include "parts.h"
 
-// A number as it is, a text between quotation marks, 'bytes LENGTH' for bytes, and - for NO_ROW.
+// A number as it is, the shown text between quotation marks, 'bytes LENGTH' for bytes, and - for
+// NO_ROW.
 void show_field(const part *in, uint64_t row);
 
 // A code of letters, digits and hyphens, as a language has, without quotation marks; anything else

@@ -1,4 +1,4 @@
-// Writes JSON. A text keeps every byte: what JSON can't hold as it is, is escaped.
+// Writes JSON. A shown text keeps every byte: what JSON can't hold as it is, is escaped.
 #include "json.h"
 
 #include "unproved.h"
@@ -73,18 +73,18 @@ static void field(const char *key, const part *in, uint64_t row, bool flag) {
         return;
     }
     uz_range range = payload_of(in, row);
-    uint64_t kind = cell(in, row, UZ_KIND);
+    uz_range shown = text_of(in, row);
     json_open(key, '{', false);
     json_number("at", range.at);
     json_number("length", range.length);
     if (flag) {
         member("value", false);
         fputs(number_in(in, row) != 0 ? "true" : "false", stdout);
-    } else if (kind == UZ_UNSIGNED) {
-        json_number("value", number_in(in, row));
-    } else if (kind == UZ_UTF8 || kind == UZ_STRING) {
+    } else if (shown.refused == UZ_ACCEPTED) {
         member("value", false);
-        text(in->from->bytes + range.at, range.length);
+        text(in->from->bytes + shown.at, shown.length);
+    } else if (cell(in, row, UZ_KIND) == UZ_UNSIGNED) {
+        json_number("value", number_in(in, row));
     }
     json_close('}');
 }

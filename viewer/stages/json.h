@@ -16,8 +16,8 @@ void json_number(const char *key, uint64_t number);
 void json_word(const char *key, const char *word);
 void json_null(const char *key);
 
-// A field, by its row: null for NO_ROW, else its payload's place and its value: a number, a text,
-// or, for json_flag, true or false. Bytes have a place and no value.
+// A field, by its row: null for NO_ROW, else the place of its whole payload and its value: a
+// number, the shown text, or, for json_flag, true or false. Bytes have a place and no value.
 void json_field(const char *key, const part *in, uint64_t row);
 void json_flag(const char *key, const part *in, uint64_t row);
 

@@ -41,3 +41,8 @@ uz_range payload_of(const part *in, uint64_t row) {
     return uz_row_payload(in->from->bytes, (size_t)in->from->length, in->table, UZ_MOST_NUMBERS,
                           row);
 }
+
+uz_range text_of(const part *in, uint64_t row) {
+    return uz_shown_text(in->from->bytes, (size_t)in->from->length, in->table, UZ_MOST_NUMBERS,
+                         row);
+}

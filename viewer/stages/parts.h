@@ -33,4 +33,8 @@ uint64_t header_of(const part *in, uint64_t row);
 // The place of a row's payload, which lies in the recording.
 uz_range payload_of(const part *in, uint64_t row);
 
+// The place of a row's shown text: its payload up to the first zero byte. Refused for a row that is
+// no text.
+uz_range text_of(const part *in, uint64_t row);
+
 #endif

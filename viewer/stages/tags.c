@@ -84,7 +84,8 @@ static uint64_t name_of(const part *in, uint64_t master) {
     return NO_ROW;
 }
 
-// What a uid of the target names: its address and its name, or the uid if nothing has it.
+// What a uid of the target names: its address and its name, if that is a label, or the uid if
+// nothing has it.
 static void tell_uid(const part *in, const uid_list *list, uint64_t number) {
     uint64_t master = having_uid(in, list, number);
     printf(" %s ", list->word);
@@ -93,7 +94,7 @@ static void tell_uid(const part *in, const uid_list *list, uint64_t number) {
         return;
     }
     show_address(header_of(in, master));
-    uint64_t name = name_of(in, master);
+    uint64_t name = label_in(in, name_of(in, master));
     if (name != NO_ROW) {
         putchar(' ');
         show_field(in, name);

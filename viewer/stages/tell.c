@@ -15,16 +15,16 @@ void tell_place(const char *word, uint64_t at, uint64_t length) {
 
 void tell_row(const part *in, uz_place place) {
     uint64_t row = place.row;
-    uint64_t kind = cell(in, row, UZ_KIND);
     uz_range payload = payload_of(in, row);
+    uz_range text = text_of(in, row);
     printf("%s row %" PRIu64 " %s id %" PRIX64 " %s kind %s", in->name, row,
            place.in_payload ? "payload" : "header", cell(in, row, UZ_ID),
-           element_name(cell(in, row, UZ_ID)), kind_name(kind));
+           element_name(cell(in, row, UZ_ID)), kind_name(cell(in, row, UZ_KIND)));
     tell_place("header", header_of(in, row), cell(in, row, UZ_HEADER));
     tell_place("payload", payload.at, payload.length);
-    if (kind == UZ_STRING || kind == UZ_UTF8) {
+    if (text.refused == UZ_ACCEPTED) {
         fputs(" text ", stdout);
-        show_text(stdout, in->from->bytes + payload.at, payload.length);
+        show_text(stdout, in->from->bytes + text.at, text.length);
     }
     putchar('\n');
 }

@@ -8,7 +8,7 @@
 void tell_place(const char *word, uint64_t at, uint64_t length);
 
 // A line on standard output: the part, the row, header or payload, its id with Matroska's name, its
-// kind, its two ranges, and the text if it is one.
+// kind, its two ranges, and the shown text if it is a text.
 void tell_row(const part *in, uz_place place);
 
 // A line on standard error: the part, the number, for 8 the id of the entry, the address where it

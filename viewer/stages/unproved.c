@@ -79,6 +79,10 @@ uint64_t next_string(const part *in, uint64_t atom, uint64_t from, uint64_t *dis
     return NO_ROW;
 }
 
+uint64_t label_in(const part *in, uint64_t string) {
+    return string != NO_ROW && text_of(in, string).length > 0 ? string : NO_ROW;
+}
+
 const char *track_type(uint64_t type) {
     static const char *const names[33] = {
         [1] = "video",     [2] = "audio",    [3] = "complex", [16] = "logo",

@@ -1,7 +1,8 @@
 // What the viewer works out itself because the C face has no call for it yet: the children of a
-// row, the number in a row, a chapter's first display, a tag's value, a track's type, a header, the
-// walk over the segment's children, and the entries of seek heads. None of this is proved. The
-// reader has a proved form of each, and this file goes when the C face has it too.
+// row, the number in a row, a chapter's first display, whether a text is a label, a tag's value, a
+// track's type, a header, the walk over the segment's children, and the entries of seek heads. None
+// of this is proved. The reader has a proved form of each, and this file goes when the C face has
+// it too.
 #ifndef UNPROVED_H
 #define UNPROVED_H
 
@@ -44,6 +45,10 @@ bool flag_in(const part *in, uint64_t row, bool unset);
 // The string of a chapter's first display that has one, from row `from` on as for next_child, and
 // the display itself.
 uint64_t next_string(const part *in, uint64_t atom, uint64_t from, uint64_t *display);
+
+// The row of a string that is set, if its shown text is a label; NO_ROW for an empty one, which
+// counts as none.
+uint64_t label_in(const part *in, uint64_t string);
 
 // The word for a track's type; "unknown" for a number that is none.
 const char *track_type(uint64_t type);
