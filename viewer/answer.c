@@ -1,7 +1,8 @@
-// Answers questions of docs/ASK.md through the C face: the lines `part`, `whose` and `range`, which are the three calls
-// of include/uzrafmed.h. So the replies of the C face can be compared with the crate's, as those of `ask` are:
+// Answers questions of docs/ASK.md through the C face: the lines `part`, `whose`, `range` and `shown`, which are put to
+// the four calls of include/uzrafmed.h. So the replies of the C face can be compared with the crate's, as those of `ask`
+// are:
 //
-//   UZ_ASK=target/viewer/answer oracle/compare 1 20000 part whose range
+//   UZ_ASK=target/viewer/answer oracle/compare 1 20000 part whose range shown
 //
 // One line of standard input, one line of standard output. A line that is none of these questions, or breaks the rules
 // of docs/ASK.md, is answered `bad question`.
@@ -214,12 +215,41 @@ static bool answer_range(const question *q)
     return true;
 }
 
+// shown START SIZE PARENT NUMBERS ROW BYTES
+//
+// The payload is read by the address question, for its first byte. A payload of no bytes has none: that is 15 then, with
+// the table of zeros that a read of it leaves.
+static bool answer_shown(const question *q)
+{
+    uint64_t start, size, row;
+    uint32_t parent;
+    if (q->count != 7 || !decimal(q->words[1], &start) || !decimal(q->words[2], &size) ||
+        !id_of(q->words[3], &parent) || !lend_table(q->words[4]) || !decimal(q->words[5], &row) ||
+        !take_recording(q->words[6]))
+        return false;
+    uz_place place = uz_whose_byte(recording, length, start, size, parent, start, table, numbers);
+    if (place.refused != 0 && !(size == 0 && place.refused == UZ_OUTSIDE)) {
+        tell_refusal(place.refused, 0, place.refused_at, true);
+        return true;
+    }
+    uz_range text = uz_shown_text(recording, length, table, numbers, row);
+    if (text.refused != 0) {
+        tell_refusal(text.refused, 0, 0, false);
+        return true;
+    }
+    printf("text %" PRIu64 "+%" PRIu64 " ", text.at, text.length);
+    for (uint64_t i = 0; i < text.length; i++) printf("%02X", recording[text.at + i]);
+    if (text.length == 0) putchar('-');
+    return true;
+}
+
 static bool answered(const question *q)
 {
     if (q->count == 0) return false;
     if (is(q->words[0], "part")) return answer_part(q);
     if (is(q->words[0], "whose")) return answer_whose(q);
     if (is(q->words[0], "range")) return answer_range(q);
+    if (is(q->words[0], "shown")) return answer_shown(q);
     return false;
 }
 
