@@ -1,4 +1,4 @@
-// A test of the three calls of include/uzrafmed.h, by a program that trusts none of them.
+// A test of the four calls of include/uzrafmed.h, by a program that trusts none of them.
 //
 //   faces [FILE..]   tests worked cases, limits, and damage to a recording made here and each file
 //
@@ -66,9 +66,37 @@ static arena small_tables;
 
 // ---- The calls, and what holds of all their replies ----
 
+static uz_range row_payload(recording from, lent in, uint64_t row) {
+    uz_range said = uz_row_payload(from.bytes, from.length, in.table, in.numbers, row);
+    check(same_range(said, due_payload(from.length, in.table, in.numbers, row)), "a row's payload");
+    return said;
+}
+
+static uz_range shown_text(recording from, lent in, uint64_t row) {
+    uint64_t looked_at;
+    uz_range said = uz_shown_text(from.bytes, from.length, in.table, in.numbers, row);
+    check(same_range(said, due_text(from, in.table, in.numbers, row, &looked_at)),
+          "a row's shown text");
+    return said;
+}
+
+// Every row that a call wrote; the first and the last that it did not, and one beyond the table.
+static void check_rows(recording from, uint64_t rows, lent in) {
+    uint64_t last = in.numbers / UZ_WIDTH;
+    for (uint64_t row = 0; row < rows; row++)
+        check_row(from, in, row, row_payload(from, in, row), shown_text(from, in, row));
+    const uint64_t unused[] = {rows, last > rows ? last - 1 : rows, last};
+    for (size_t i = 0; i < sizeof unused / sizeof *unused; i++) {
+        row_payload(from, in, unused[i]);
+        check(shown_text(from, in, unused[i]).refused == UZ_BAD_ARGUMENT,
+              "an unused row is no text");
+    }
+}
+
 static uz_part find_part(recording from, uint32_t part, lent to) {
     uz_part said = uz_find_part(from.bytes, from.length, part, to.table, to.numbers);
     check_part(from, part, to, said);
+    check_rows(from, said.rows, to);
     return said;
 }
 
@@ -77,16 +105,8 @@ static uz_place whose_byte(recording from, uint64_t start, uint64_t size, uint32
     uz_place said =
         uz_whose_byte(from.bytes, from.length, start, size, parent, address, to.table, to.numbers);
     check_place(from, start, size, address, to, said);
+    check_rows(from, said.rows, to);
     return said;
-}
-
-// Each row's payload is where the table says.
-static void check_payloads(recording from, uint64_t rows, lent in) {
-    for (uint64_t row = 0; row < rows; row++) {
-        uz_range said = uz_row_payload(from.bytes, from.length, in.table, in.numbers, row);
-        uint64_t at = cell(in, row, UZ_ADDRESS) + cell(in, row, UZ_HEADER);
-        check(is_range(said, UZ_ACCEPTED, at, cell(in, row, UZ_PAYLOAD)), "a row's payload");
-    }
 }
 
 // ---- Recordings that are written here ----
@@ -132,11 +152,18 @@ static void put_unsigned(written *to, uint32_t id, uint64_t number, unsigned byt
     put_number(to, number, bytes);
 }
 
-static void put_text(written *to, uint32_t id, const char *text) {
+// A text with so many zero bytes behind it.
+static void put_padded(written *to, uint32_t id, const char *text, unsigned zeros) {
     put_id(to, id);
-    put_byte(to, 0x80 | (unsigned)strlen(text));
+    put_byte(to, 0x80 | ((unsigned)strlen(text) + zeros));
     while (*text != '\0')
         put_byte(to, (uint8_t)*text++);
+    while (zeros-- > 0)
+        put_byte(to, 0);
+}
+
+static void put_text(written *to, uint32_t id, const char *text) {
+    put_padded(to, id, text, 0);
 }
 
 // A seek entry with a position of eight bytes. Answers where the position is.
@@ -182,7 +209,7 @@ static void put_chapter(written *to, const char *name, uint64_t start, unsigned 
     put_unsigned(to, 0x73C4, start + inside, 3);
     put_unsigned(to, 0x91, start, 5);
     size_t display = open_master(to, 0x80);
-    put_text(to, 0x85, name);
+    put_padded(to, 0x85, name, inside);
     put_text(to, 0x437C, "eng");
     close_master(to, display);
     if (inside > 0)
@@ -290,10 +317,8 @@ static void test_example(void) {
         uz_part absent = {0, 0, 0, 0, 0, 0, 0, 1};
         uz_part tags = {0, 0, 0, 1, 29, 10, 3, 1};
         check(is_part(said, parts[i] == UZ_TAGS ? tags : absent), "the reply");
-        if (parts[i] == UZ_TAGS) {
+        if (parts[i] == UZ_TAGS)
             check(memcmp(to.table, rows, sizeof rows) == 0, "the rows");
-            check_payloads(from, said.rows, to);
-        }
     }
     // Byte by byte: which row, and whether its payload holds the byte.
     static const unsigned owner[10][2] = {{0, 0}, {0, 0}, {0, 0}, {1, 0}, {1, 0},
@@ -496,12 +521,24 @@ static void test_lengths(void) {
             to = lend(large_tables, numbers, front != 0);
             uz_range range = uz_row_payload(from.bytes, from.length, to.table, to.numbers, rows);
             check(is_range(range, UZ_BAD_ARGUMENT, 0, 0), "payload: 14");
-            check(all_are(to.table, to.table + to.numbers, FILLED), "payload: only read");
-            if (rows == 0)
-                continue;
+            range = uz_shown_text(from.bytes, from.length, to.table, to.numbers, rows);
+            check(is_range(range, UZ_BAD_ARGUMENT, 0, 0), "text: 14");
+            check(all_are(to.table, to.table + to.numbers, FILLED), "payload, text: only read");
             memset(to.table, 0, numbers * sizeof *to.table);
+            if (rows == 0) {
+                // A whole row of kind text, and a length that is refused all the same.
+                if (numbers >= UZ_WIDTH)
+                    to.table[UZ_KIND] = UZ_UTF8;
+                check(is_range(shown_text(from, to, 0), UZ_BAD_ARGUMENT, 0, 0), "text: 14 again");
+                continue;
+            }
             range = uz_row_payload(from.bytes, from.length, to.table, to.numbers, rows - 1);
             check(is_range(range, UZ_ACCEPTED, 0, 0), "payload: the last row, unused");
+            check(is_range(shown_text(from, to, rows - 1), UZ_BAD_ARGUMENT, 0, 0),
+                  "text: an unused row is none");
+            to.table[(rows - 1) * UZ_WIDTH + UZ_KIND] = UZ_STRING;
+            check(is_range(shown_text(from, to, rows - 1), UZ_ACCEPTED, 0, 0),
+                  "text: the last row, empty");
         }
     }
 }
@@ -517,7 +554,6 @@ static void test_tables(void) {
             uz_part said = find_part(from, UZ_TAGS, to);
             uz_part due = {0, 0, 0, 1, 12, 2 * (uint64_t)rows[i], rows[i], 0};
             check(is_part(said, due), "as many elements as rows");
-            check_payloads(from, rows[i], to);
             if (rows[i] > 0) {
                 uint64_t last = said.at + said.size - 1;
                 uz_place owner = {0, 0, rows[i] - 1, 0, rows[i]};
@@ -538,6 +574,19 @@ static void test_tables(void) {
 }
 
 // ---- Payloads by any table ----
+
+// Rows beyond a table of two. The fifth is the first whose numbers would lie past 2^64.
+static void check_beyond(recording from, lent in) {
+    static const uint64_t beyond[] = {
+        2,         3, UZ_MOST_ROWS, UINT32_MAX, UINT64_MAX / UZ_WIDTH + 1, UINT64_MAX / UZ_WIDTH,
+        UINT64_MAX};
+    for (size_t i = 0; i < sizeof beyond / sizeof *beyond; i++) {
+        uz_range payload = uz_row_payload(from.bytes, from.length, in.table, in.numbers, beyond[i]);
+        uz_range text = uz_shown_text(from.bytes, from.length, in.table, in.numbers, beyond[i]);
+        check(is_range(payload, UZ_BAD_ARGUMENT, 0, 0), "a row beyond the table");
+        check(is_range(text, UZ_BAD_ARGUMENT, 0, 0), "the text of a row beyond the table");
+    }
+}
 
 static void test_payload(void) {
     about = "a row's payload";
@@ -565,6 +614,7 @@ static void test_payload(void) {
         row[UZ_ADDRESS] = asked[i].address;
         row[UZ_HEADER] = asked[i].header;
         row[UZ_PAYLOAD] = asked[i].payload;
+        row[UZ_KIND] = i % 3 == 0 ? UZ_UTF8 : UZ_STRING;
         uint64_t before[2 * UZ_WIDTH];
         memcpy(before, to.table, sizeof before);
         // The table can't be written now.
@@ -574,18 +624,9 @@ static void test_payload(void) {
         check(is_range(said, asked[i].refused, good ? asked[i].address + asked[i].header : 0,
                        good ? asked[i].payload : 0),
               "the range of made-up numbers");
-        // The fifth is the first whose numbers would lie past 2^64.
-        static const uint64_t beyond[] = {2,
-                                          3,
-                                          UZ_MOST_ROWS,
-                                          UINT32_MAX,
-                                          UINT64_MAX / UZ_WIDTH + 1,
-                                          UINT64_MAX / UZ_WIDTH,
-                                          UINT64_MAX};
-        for (size_t k = 0; k < sizeof beyond / sizeof *beyond; k++) {
-            said = uz_row_payload(from.bytes, from.length, to.table, to.numbers, beyond[k]);
-            check(is_range(said, UZ_BAD_ARGUMENT, 0, 0), "a row beyond the table");
-        }
+        // None of the bytes is 0.
+        check(same_range(shown_text(from, to, 1), said), "the text of made-up numbers");
+        check_beyond(from, to);
         check(memcmp(before, to.table, sizeof before) == 0 && only_table(to), "a table only read");
         allow(to.in, PROT_READ | PROT_WRITE);
     }
@@ -593,11 +634,132 @@ static void test_payload(void) {
     check(
         is_range(uz_row_payload(from.bytes, from.length, none.table, 0, 0), UZ_BAD_ARGUMENT, 0, 0),
         "a table without rows");
+    check(is_range(shown_text(from, none, 0), UZ_BAD_ARGUMENT, 0, 0), "no text without rows");
     recording empty = placed(from.bytes, 0, false);
     lent zero = lend(large_tables, UZ_WIDTH, false);
     memset(zero.table, 0, UZ_WIDTH * sizeof(uint64_t));
     check(is_range(uz_row_payload(empty.bytes, 0, zero.table, UZ_WIDTH, 0), UZ_ACCEPTED, 0, 0),
           "an unused row of an empty recording");
+    zero.table[UZ_KIND] = UZ_UTF8;
+    check(is_range(shown_text(empty, zero, 0), UZ_ACCEPTED, 0, 0), "the text of no bytes at all");
+}
+
+// ---- Texts by any table ----
+
+typedef struct {
+    const char *bytes;
+    uint64_t address, header, payload, kind;
+    uz_range due;
+} text_case;
+
+// clang-format off
+static const text_case text_cases[] = {
+    // No zero byte; a tail; a text over an older one; zeros alone; a zero first; nothing.
+    {"524F4D", 0, 0, 3, UZ_UTF8, {0, 0, 3}},
+    {"524F4D0000000000", 0, 0, 8, UZ_UTF8, {0, 0, 3}},
+    {"8588524F4D0000000000", 0, 2, 8, UZ_UTF8, {0, 2, 3}},
+    {"8588524F4D0000000000", 0, 2, 3, UZ_UTF8, {0, 2, 3}},
+    {"8586524F4D00426F", 0, 2, 6, UZ_UTF8, {0, 2, 3}},
+    {"524F4D0042006F", 0, 0, 7, UZ_STRING, {0, 0, 3}},
+    {"0000000000000000", 0, 0, 8, UZ_UTF8, {0, 0, 0}},
+    {"00", 0, 0, 1, UZ_STRING, {0, 0, 0}},
+    {"00524F4D", 0, 0, 4, UZ_UTF8, {0, 0, 0}},
+    {"00524F4D", 1, 0, 3, UZ_UTF8, {0, 1, 3}},
+    {"8580", 0, 2, 0, UZ_UTF8, {0, 2, 0}},
+    {"8580", 2, 0, 0, UZ_STRING, {0, 2, 0}},
+    {"", 0, 0, 0, UZ_UTF8, {0, 0, 0}},
+    // A zero byte behind the payload, and none in it.
+    {"41420043", 0, 0, 2, UZ_UTF8, {0, 0, 2}},
+    // Longer than any block that a reader may take at once, by a byte more or less.
+    {"4141414141414141414141414141414141414141414141414141414141414100", 0, 0, 32, UZ_UTF8, {0, 0, 31}},
+    {"4141414141414141414141414141414141414141414141414141414141414141", 0, 0, 32, UZ_UTF8, {0, 0, 32}},
+    {"414141414141414141414141414141414141414141414141414141414141414100", 0, 0, 33, UZ_UTF8, {0, 0, 32}},
+    {"4141414141414141414141414141414141414141414141414141414141414141410041", 1, 1, 33, UZ_UTF8, {0, 2, 31}},
+    // Characters of several bytes before the zero; a control character that is none.
+    {"C3A4E282ACF09F94A700", 0, 0, 10, UZ_UTF8, {0, 0, 9}},
+    {"411B0A0142", 0, 0, 5, UZ_UTF8, {0, 0, 5}},
+    // Any bytes, for a table of any numbers: none of them UTF-8, a character cut in two, bytes like
+    // a zero in other widths.
+    {"FFFE80C00041", 0, 0, 6, UZ_UTF8, {0, 0, 4}},
+    {"E2820041", 0, 0, 4, UZ_STRING, {0, 0, 2}},
+    {"8080808080808080FFFFFFFFFFFFFFFF0101010101010101C080", 0, 0, 26, UZ_UTF8, {0, 0, 26}},
+    // Every other kind, kinds that are none, and those that are 4 or 5 in their lower bits alone.
+    {"524F4D00", 0, 0, 4, 0, {14, 0, 0}},
+    {"524F4D00", 0, 0, 4, UZ_MASTER, {14, 0, 0}},
+    {"524F4D00", 0, 0, 4, UZ_SIGNED, {14, 0, 0}},
+    {"524F4D00", 0, 0, 4, UZ_UNSIGNED, {14, 0, 0}},
+    {"524F4D00", 0, 0, 4, UZ_BINARY, {14, 0, 0}},
+    {"524F4D00", 0, 0, 4, UZ_FLOAT, {14, 0, 0}},
+    {"524F4D00", 0, 0, 4, UZ_DATE, {14, 0, 0}},
+    {"524F4D00", 0, 0, 4, 9, {14, 0, 0}},
+    {"524F4D00", 0, 0, 4, 0x104, {14, 0, 0}},
+    {"524F4D00", 0, 0, 4, UINT64_C(0x100000005), {14, 0, 0}},
+    {"524F4D00", 0, 0, 4, UINT64_C(0x8000000000000004), {14, 0, 0}},
+    {"524F4D00", 0, 0, 4, UINT64_MAX, {14, 0, 0}},
+    {"", 0, 0, 0, 0, {14, 0, 0}},
+    // A range that is not in the recording, though the text would end before.
+    {"4100", 0, 0, 3, UZ_UTF8, {14, 0, 0}},
+    {"4100", 0, 3, 0, UZ_UTF8, {14, 0, 0}},
+    {"4100", 3, 0, 0, UZ_UTF8, {14, 0, 0}},
+    {"4100", 0, 0, UINT64_MAX, UZ_UTF8, {14, 0, 0}},
+    {"4100", 1, UINT64_MAX, 1, UZ_UTF8, {14, 0, 0}},
+    {"4100", UINT64_MAX, 1, 1, UZ_STRING, {14, 0, 0}},
+    {"4100", UINT64_MAX, UINT64_MAX, UINT64_MAX, UZ_STRING, {14, 0, 0}},
+};
+// clang-format on
+
+// A table of one row, whose other numbers are FILLED, as no text needs them.
+static lent made_up(const text_case *asked, bool front) {
+    lent to = lend(small_tables, UZ_WIDTH, front);
+    to.table[UZ_ADDRESS] = asked->address;
+    to.table[UZ_HEADER] = asked->header;
+    to.table[UZ_PAYLOAD] = asked->payload;
+    to.table[UZ_KIND] = asked->kind;
+    return to;
+}
+
+static void test_texts(void) {
+    for (size_t i = 0; i < sizeof text_cases / sizeof *text_cases; i++) {
+        const text_case *asked = &text_cases[i];
+        about = asked->bytes;
+        for (unsigned front = 0; front < 2; front++) {
+            recording from = hex(asked->bytes, front != 0);
+            lent to = made_up(asked, front != 0);
+            allow(to.in, PROT_READ);
+            check(same_range(shown_text(from, to, 0), asked->due), "the worked text");
+            // For a refusal, and for no bytes, none is looked at.
+            recording closed = {recordings.first + recordings.size, from.length};
+            if (asked->due.refused != UZ_ACCEPTED || asked->payload == 0)
+                check(same_range(shown_text(closed, to, 0), asked->due), "nothing is looked at");
+            check(only_table(to), "shown_text writes nothing");
+            allow(to.in, PROT_READ | PROT_WRITE);
+        }
+    }
+}
+
+// The bytes of a text stand alone: right before them and behind them is an inaccessible page,
+// though the recording goes on there. Its zero byte is the last that may be looked at.
+static void test_alone(void) {
+    about = "a text alone";
+    static uint8_t text[100];
+    for (size_t length = 0; length < sizeof text; length++) {
+        memset(text, 'A', length);
+        text[length] = 0;
+        for (unsigned front = 0; front < 2; front++) {
+            recording bytes = placed(text, length + 1, front != 0);
+            // The bytes of the recording before them or behind them: up to the most that it has.
+            const size_t beside[] = {0, 1, 7, 64, 1 << 20, (size_t)UZ_MOST_BYTES - length - 1};
+            for (size_t i = 0; i < sizeof beside / sizeof *beside; i++) {
+                size_t before = front != 0 ? beside[i] : 0, behind = beside[i] - before;
+                recording from = {(const uint8_t *)((uintptr_t)bytes.bytes - before),
+                                  before + length + 1 + behind};
+                text_case asked = {
+                    "", before, 0, length + 1 + behind, UZ_UTF8, {UZ_ACCEPTED, before, length}};
+                check(same_range(shown_text(from, made_up(&asked, front != 0), 0), asked.due),
+                      "a text, and nothing beside it");
+            }
+        }
+    }
 }
 
 // ---- The address question ----
@@ -688,7 +850,6 @@ static void test_sample(void) {
         lent to = lend(small_tables, numbers, false);
         uz_part found = find_part(from, parts[i], to);
         check(found.found == 1 && found.rows == rows[i] && found.heads == 2, "the part is found");
-        check_payloads(from, found.rows, to);
         memcpy(kept, to.table, numbers * sizeof *kept);
         for (uint64_t k = 0; k < found.size; k++) {
             to = lend(small_tables, numbers, k % 2 != 0);
@@ -717,6 +878,27 @@ static void test_sample(void) {
 }
 
 // ---- The longest recording ----
+
+// One byte more than the longest recording is refused before any byte is looked at.
+static void test_too_long(arena in) {
+    about = "a recording that is too long";
+    allow(in, PROT_NONE);
+    size_t length = (size_t)UZ_MOST_BYTES;
+    static const size_t long_by[] = {1, 2, (size_t)1 << 32, SIZE_MAX / 2 - (((size_t)1 << 32) - 1)};
+    for (size_t i = 0; i < sizeof long_by / sizeof *long_by; i++) {
+        recording none = {in.first, length + long_by[i]};
+        lent table = lend(small_tables, UZ_WIDTH, false);
+        check(find_part(none, UZ_TAGS, table).refused == UZ_BAD_ARGUMENT, "part");
+        table = lend(small_tables, UZ_WIDTH, false);
+        check(whose_byte(none, 0, 1, 0, 0, table).refused == UZ_BAD_ARGUMENT, "whose");
+        table = lend(small_tables, UZ_WIDTH, false);
+        memset(table.table, 0, UZ_WIDTH * sizeof(uint64_t));
+        uz_range range = uz_row_payload(none.bytes, none.length, table.table, table.numbers, 0);
+        check(is_range(range, UZ_BAD_ARGUMENT, 0, 0), "payload");
+        table.table[UZ_KIND] = UZ_UTF8;
+        check(is_range(shown_text(none, table, 0), UZ_BAD_ARGUMENT, 0, 0), "text");
+    }
+}
 
 // Only the first and the last page can be read: what is passed over is not touched.
 static void test_longest(void) {
@@ -752,26 +934,16 @@ static void test_longest(void) {
     check(lead_past(table, said.rows), "each row leads past what it holds");
     uz_range range = uz_row_payload(from.bytes, from.length, table.table, table.numbers, 1);
     check(is_range(range, UZ_ACCEPTED, length - 2, 2), "the last payload");
+    check(shown_text(from, table, 1).refused == UZ_BAD_ARGUMENT, "bytes are no text");
+    table.table[UZ_WIDTH + UZ_KIND] = UZ_UTF8;
+    check(is_range(shown_text(from, table, 1), UZ_ACCEPTED, length - 2, 2),
+          "the last bytes as a text");
     table = lend(small_tables, 2 * UZ_WIDTH, false);
     uz_place owner = {0, 0, 1, 1, 2};
     check(same_place(whose_byte(from, length - 7, 7, UZ_UNDER_TAGS, length - 1, table), owner),
           "the last byte");
 
-    // One byte more is refused before any byte is looked at.
-    about = "a recording that is too long";
-    allow(all, PROT_NONE);
-    static const size_t long_by[] = {1, 2, (size_t)1 << 32, SIZE_MAX / 2 - (((size_t)1 << 32) - 1)};
-    for (size_t i = 0; i < sizeof long_by / sizeof *long_by; i++) {
-        recording none = {all.first, length + long_by[i]};
-        table = lend(small_tables, UZ_WIDTH, false);
-        check(find_part(none, UZ_TAGS, table).refused == UZ_BAD_ARGUMENT, "part");
-        table = lend(small_tables, UZ_WIDTH, false);
-        check(whose_byte(none, 0, 1, 0, 0, table).refused == UZ_BAD_ARGUMENT, "whose");
-        table = lend(small_tables, UZ_WIDTH, false);
-        memset(table.table, 0, UZ_WIDTH * sizeof(uint64_t));
-        range = uz_row_payload(none.bytes, none.length, table.table, table.numbers, 0);
-        check(is_range(range, UZ_BAD_ARGUMENT, 0, 0), "payload");
-    }
+    test_too_long(all);
     munmap(all.first - PAGE, all.size + 2 * (size_t)PAGE);
 }
 
@@ -808,7 +980,6 @@ static void ask_damaged(recording from, uint64_t *accepted) {
         lent to = lend_any(rows);
         uz_part found = find_part(from, parts[i], to);
         *accepted += found.refused == UZ_ACCEPTED;
-        check_payloads(from, found.rows, to);
         if (found.size == 0)
             continue;
         // The address question gives the same table.
@@ -879,6 +1050,8 @@ int main(int count, char **words) {
     test_lengths();
     test_tables();
     test_payload();
+    test_texts();
+    test_alone();
     test_places();
     test_sample();
     test_longest();

@@ -1,4 +1,4 @@
-// What the tests of the three calls of include/uzrafmed.h share: memory between inaccessible pages,
+// What the tests of the four calls of include/uzrafmed.h share: memory between inaccessible pages,
 // and what the header says of all replies. A program that includes this defines `check`, which is
 // told each thing that has to hold, and `give_up`, for a test that can't go on.
 #ifndef UZ_REPLIES_H
@@ -386,6 +386,61 @@ static void check_place(recording from, uint64_t start, uint64_t size, uint64_t 
 
 static bool is_range(uz_range said, uint64_t refused, uint64_t at, uint64_t length) {
     return said.refused == refused && said.at == at && said.length == length;
+}
+
+static bool same_range(uz_range one, uz_range other) {
+    return is_range(one, other.refused, other.at, other.length);
+}
+
+// The reply of uz_row_payload that is due to a table of any numbers.
+static uz_range due_payload(uint64_t length, const uint64_t *table, uint64_t numbers,
+                            uint64_t row) {
+    uz_range due = {UZ_BAD_ARGUMENT, 0, 0};
+    if (length > UZ_MOST_BYTES || numbers % UZ_WIDTH != 0 || numbers > UZ_MOST_NUMBERS ||
+        row >= numbers / UZ_WIDTH)
+        return due;
+    const uint64_t *cells = table + row * UZ_WIDTH;
+    uint64_t left = length;
+    for (unsigned column = UZ_ADDRESS; column <= UZ_PAYLOAD; column++) {
+        if (cells[column] > left)
+            return due;
+        left -= cells[column];
+    }
+    due.refused = UZ_ACCEPTED;
+    due.at = cells[UZ_ADDRESS] + cells[UZ_HEADER];
+    due.length = cells[UZ_PAYLOAD];
+    return due;
+}
+
+// The reply of uz_shown_text that is due, and in `looked_at` how many bytes of the payload may be
+// looked at for it: the text, and the zero byte that ends it.
+static uz_range due_text(recording from, const uint64_t *table, uint64_t numbers, uint64_t row,
+                         uint64_t *looked_at) {
+    uz_range due = due_payload(from.length, table, numbers, row);
+    uint64_t kind = due.refused == UZ_ACCEPTED ? table[row * UZ_WIDTH + UZ_KIND] : 0;
+    uint64_t shown = 0;
+    *looked_at = 0;
+    if (kind != UZ_STRING && kind != UZ_UTF8)
+        return (uz_range){UZ_BAD_ARGUMENT, 0, 0};
+    while (shown < due.length && from.bytes[due.at + shown] != 0)
+        shown++;
+    *looked_at = shown < due.length ? shown + 1 : shown;
+    due.length = shown;
+    return due;
+}
+
+// What holds of the replies about a row that was written for the recording: where its payload is,
+// and if it is a text row, that what is shown of it is UTF-8.
+static void check_row(recording from, lent in, uint64_t row, uz_range payload, uz_range text) {
+    uint64_t at = cell(in, row, UZ_ADDRESS) + cell(in, row, UZ_HEADER);
+    uint64_t kind = cell(in, row, UZ_KIND);
+    bool is_text = kind == UZ_STRING || kind == UZ_UTF8;
+    check(is_range(payload, UZ_ACCEPTED, at, cell(in, row, UZ_PAYLOAD)),
+          "a row of an accepted table has its payload");
+    check(text.refused == (is_text ? UZ_ACCEPTED : UZ_BAD_ARGUMENT),
+          "a row of an accepted table has a text if it is one");
+    check(!is_text || (text.at == at && is_utf8(from.bytes + at, text.length)),
+          "a shown text begins with its payload, and is UTF-8");
 }
 
 #endif
