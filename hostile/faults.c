@@ -1,4 +1,4 @@
-// The three calls with a fault each, to see that replay tells it: linked between replay and the
+// The four calls with a fault each, to see that replay tells it: linked between replay and the
 // archive, whose functions then are called shipped_*. The environment's FAULT names one of the
 // faults.
 #include "uzrafmed.h"
@@ -10,6 +10,8 @@ uz_part shipped_find_part(const uint8_t *recording, size_t length, uint32_t part
                           size_t numbers);
 uz_range shipped_row_payload(const uint8_t *recording, size_t length, const uint64_t *table,
                              size_t numbers, uint64_t row);
+uz_range shipped_shown_text(const uint8_t *recording, size_t length, const uint64_t *table,
+                            size_t numbers, uint64_t row);
 uz_place shipped_whose_byte(const uint8_t *recording, size_t length, uint64_t start, uint64_t size,
                             uint32_t parent, uint64_t address, uint64_t *table, size_t numbers);
 
@@ -96,6 +98,54 @@ uz_range uz_row_payload(const uint8_t *recording, size_t length, const uint64_t 
         seen += recording[0];
     if (is("payload_past_the_end") && said.refused == 0)
         said.length++;
+    return said;
+}
+
+// What is looked at for a text besides it, and how often.
+static void look(const uint8_t *recording, size_t length, uz_range said) {
+    if (said.refused != 0) {
+        if (is("refused_text_looked_at") && length > 0 && length <= UZ_MOST_BYTES)
+            seen += recording[0];
+        return;
+    }
+    // Its zero byte may be looked at.
+    uint64_t behind = said.at + said.length + 1;
+    if (is("byte_behind_a_text") && said.length > 0 && behind < length)
+        seen += recording[behind];
+    if (is("byte_before_a_text") && said.length > 0 && said.at > 0)
+        seen += recording[said.at - 1];
+    if (is("square_of_a_text"))
+        for (uint64_t i = 0; i < said.length; i++)
+            for (uint64_t k = 0; k < said.length; k++)
+                seen += recording[said.at + k];
+}
+
+uz_range uz_shown_text(const uint8_t *recording, size_t length, const uint64_t *table,
+                       size_t numbers, uint64_t row) {
+    uz_range said = shipped_shown_text(recording, length, table, numbers, row);
+    uz_range payload = shipped_row_payload(recording, length, table, numbers, row);
+    look(recording, length, said);
+    if (is("any_row_told_as_a_text"))
+        return payload;
+    if (said.refused != 0) {
+        if (is("address_of_no_text"))
+            said.at = 1;
+        return said;
+    }
+    if (is("table_written_for_a_text"))
+        *(volatile uint64_t *)(uintptr_t)table ^= 1;
+    if (is("zero_byte_told_as_text") && said.length < payload.length)
+        said.length++;
+    if (is("text_told_to_the_last_zero_byte"))
+        for (said.length = payload.length;
+             said.length > 0 && recording[said.at + said.length - 1] == 0;)
+            said.length--;
+    if (is("text_cut_short") && said.length > 0)
+        said.length--;
+    if (is("text_moved"))
+        said.at++;
+    if (is("empty_text_refused") && said.length == 0)
+        said = (uz_range){UZ_BAD_ARGUMENT, 0, 0};
     return said;
 }
 

@@ -40,12 +40,13 @@ static void give_up(const char *what) {
 // ---- What guides the fuzzer besides the edges of the code ----
 
 // libFuzzer keeps an input that sets a counter here which none set before: a refusal of a call, a
-// count of heads or rows, a kind at a depth, or more steps for each byte.
+// count of heads or rows, a kind at a depth, the length of a text, or more steps for each byte.
 #define REFUSALS 0
 #define HEADS (REFUSALS + 64)
 #define ROWS (HEADS + 65)
 #define KINDS (ROWS + 16)
-#define SLOW (KINDS + 8 * 16)
+#define TEXTS (KINDS + 8 * 16)
+#define SLOW (TEXTS + 33)
 #define FEATURES (SLOW + 2 * 400)
 
 __attribute__((used, section("__libfuzzer_extra_counters"))) static uint8_t features[FEATURES];
@@ -67,8 +68,8 @@ typedef struct {
     uint64_t calls, time, most_time, most_each, most_steps, most_steps_each;
 } slowest;
 
-static slowest of_calls[4];
-static const char *const names[] = {"find", "whose", "payload", "too long"};
+static slowest of_calls[5];
+static const char *const names[] = {"find", "whose", "payload", "too long", "text"};
 
 static void told(cost of) {
     unsigned call = 0;
@@ -112,9 +113,19 @@ static void told_range(uint64_t row, uz_range said) {
     features[REFUSALS + 32 + said.refused] = 1;
 }
 
+// Whether it is a text, an empty one, and how long by powers of two.
+static void told_text(uint64_t row, uz_range said) {
+    (void)row;
+    unsigned bits = 0;
+    while (said.length >> bits != 0)
+        bits++;
+    features[REFUSALS + 54 + (said.refused == UZ_ACCEPTED ? 1 : 0)] = 1;
+    features[TEXTS + bits] = 1;
+}
+
 static void at_end(void) {
     fprintf(stderr, "hostile: %" PRIu64 " checks, 0 wrong\n", checks);
-    for (unsigned i = 0; i < 4; i++)
+    for (unsigned i = 0; i < COUNT(of_calls); i++)
         fprintf(stderr,
                 "hostile: %s: %" PRIu64 " calls, %" PRIu64 " ns in all, at most %" PRIu64
                 " ns, %" PRIu64 " steps; each byte at most %" PRIu64 ".%02u ns, %" PRIu64
@@ -237,6 +248,22 @@ static void change_numbers(uint8_t *data, size_t size) {
                any(2) == 0 ? any_number() : any(100), 8);
 }
 
+// A question for a text: a row that is mostly in the recording and mostly a text, and now and then
+// a zero byte in it.
+static void change_text(uint8_t *data, recording from) {
+    uint64_t start = any(from.length + 1), left = from.length - start;
+    uint64_t header = any(left < 12 ? left + 1 : 13);
+    data[0] = TEXT;
+    data[1] = (uint8_t)header;
+    put_little(data + 2, any_table(), 2);
+    put_little(data + 4, any(4) == 0 ? any(10) : UZ_STRING + any(2), 4);
+    put_little(data + 8, any(16) == 0 ? any_number() : start, 8);
+    put_little(data + 16, any(16) == 0 ? any_number() : any(left - header + 1), 8);
+    put_little(data + 24, any(16) == 0 ? any_number() : any(8), 8);
+    if (from.length > 0 && any(2) == 0)
+        data[HEAD + any(from.length)] = 0;
+}
+
 size_t LLVMFuzzerCustomMutator(uint8_t *data, size_t size, size_t room, unsigned seed) {
     chance = (seed + UINT64_C(1)) * UINT64_C(0x9E3779B97F4A7C15);
     if (room < HEAD + 16)
@@ -260,6 +287,10 @@ size_t LLVMFuzzerCustomMutator(uint8_t *data, size_t size, size_t room, unsigned
         change_arguments(data, from);
         return size;
     case 4:
+        if (data[0] % CALLS == TEXT || any(8) == 0) {
+            change_text(data, from);
+            return size;
+        }
         change_arguments(data, from);
         return size;
     case 5:

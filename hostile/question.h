@@ -1,15 +1,22 @@
 // A question to the C face, as the bytes of one file: what the fuzzer mutates, and what is kept.
 //
-//   byte 0       which call: 0 find, 1 whose, 2 payload, 3 all of them, 4 too long a recording
+//   byte 0       which call: 0 find, 1 whose, 2 payload, 3 all of them, 4 too long a recording,
+//                5 text
+//   byte 1       for text, the header's length; else nothing
 //   bytes 2, 3   the table's count of numbers; this and what follows is little-endian
-//   bytes 4..7   the part that is sought, or the parent
-//   bytes 8..15  start; for payload and too long a recording, the recording's length
-//   bytes 16..23 size; for payload, nothing
-//   bytes 24..31 address; for payload, the row
+//   bytes 4..7   the part that is sought, or the parent; for text, the kind
+//   bytes 8..15  start; for payload and too long a recording, the recording's length; for text, the
+//                address
+//   bytes 16..23 size; for payload, nothing; for text, the payload's length
+//   bytes 24..31 address; for payload and text, the row
 //   from 32 on   the recording; for payload, the table's numbers, over and over
 //
+// For text every row of the table has these numbers. What is asked for payload is asked for text
+// too: there all of the recording is inaccessible but a zero byte, where the payload begins.
+//
 // Each call is made twice: on a recording and a table that end at an inaccessible page, then on
-// ones that begin behind such a page. The recording can only be read. Both replies and tables have
+// ones that begin behind such a page. For text these pages are right behind and right before the
+// bytes that may be looked at. The recording can only be read. Both replies and tables have
 // to be the same, and all that the header says of replies has to hold. Each call is timed by the
 // processor's time of this thread, and held to a bound that is linear in what it may look at.
 #ifndef HOSTILE_QUESTION_H
@@ -25,10 +32,10 @@
 #define HEAD 32
 #define MOST_RECORDING (1 << 24)
 
-enum { FIND, WHOSE, PAYLOAD, ALL, TOO_LONG, CALLS };
+enum { FIND, WHOSE, PAYLOAD, ALL, TOO_LONG, TEXT, CALLS };
 
 typedef struct {
-    unsigned call;
+    unsigned call, header;
     size_t numbers;
     uint32_t id;
     uint64_t start, size, address;
@@ -48,6 +55,7 @@ static bool as_question(const uint8_t *data, size_t size, question *to) {
     if (size < HEAD || size - HEAD > MOST_RECORDING)
         return false;
     to->call = data[0] % CALLS;
+    to->header = data[1];
     to->numbers = (size_t)little(data + 2, 2);
     to->id = (uint32_t)little(data + 4, 4);
     to->start = little(data + 8, 8);
@@ -72,6 +80,7 @@ static void told(cost of);
 static void told_part(uint32_t part, uz_part said, lent in);
 static void told_place(uz_place said, lent in);
 static void told_range(uint64_t row, uz_range said);
+static void told_text(uint64_t row, uz_range said);
 
 // Counted by an instrumented archive; stays 0 with the one that is shipped.
 static uint64_t steps;
@@ -235,48 +244,104 @@ static uz_range ask_range(const uint64_t *numbers_of, size_t numbers, uint64_t l
     uz_range said, again;
     TIMED(of, said, uz_row_payload(nowhere.first, (size_t)length, numbers_of, numbers, row));
     TIMED(of, again, uz_row_payload(nowhere.first, (size_t)length, numbers_of, numbers, row));
-    check(is_range(again, said.refused, said.at, said.length), "row_payload twice gives one reply");
-    bool good = length <= UZ_MOST_BYTES && numbers % UZ_WIDTH == 0 && numbers <= UZ_MOST_NUMBERS &&
-                row < numbers / UZ_WIDTH;
-    uint64_t at = 0, size = 0;
-    if (good) {
-        const uint64_t *cells = numbers_of + row * UZ_WIDTH;
-        at = cells[UZ_ADDRESS];
-        size = cells[UZ_PAYLOAD];
-        good = at <= length && cells[UZ_HEADER] <= length - at;
-        if (good) {
-            at += cells[UZ_HEADER];
-            good = size <= length - at;
-        }
-    }
-    check(good ? is_range(said, UZ_ACCEPTED, at, size) : is_range(said, UZ_BAD_ARGUMENT, 0, 0),
-          "a row's payload");
+    check(same_range(again, said), "row_payload twice gives one reply");
+    check(same_range(said, due_payload(length, numbers_of, numbers, row)), "a row's payload");
     told_range(row, said);
+    return said;
+}
+
+// A recording of any length, of which nothing is there but some bytes, `size` from the address `at`
+// on: they end at an inaccessible page, or begin behind one.
+static recording alone(const uint8_t *bytes, size_t size, uint64_t at, uint64_t length,
+                       bool front) {
+    recording there = placed(bytes, size, front);
+    recording made = {(const uint8_t *)((uintptr_t)there.bytes - (uintptr_t)at), (size_t)length};
+    return made;
+}
+
+// Asks for the text of a row. Nothing is there but what may be looked at, which is `looked_at`
+// bytes from `bytes` on; for a refusal, nothing at all.
+static uz_range ask_text(const uint8_t *bytes, uint64_t looked_at, uint64_t length,
+                         const uint64_t *numbers_of, size_t numbers, uint64_t row, uz_range due) {
+    cost of = {"text", 0, looked_at, 0, 0};
+    uz_range said = due;
+    for (unsigned front = 0; front < 2; front++) {
+        recording from = {nowhere.first, (size_t)length};
+        if (looked_at > 0)
+            from = alone(bytes, (size_t)looked_at, due.at, length, front != 0);
+        TIMED(of, said, uz_shown_text(from.bytes, from.length, numbers_of, numbers, row));
+        check(same_range(said, due), "a row's shown text");
+    }
+    told_text(row, said);
     return said;
 }
 
 // A table of any numbers, which can't be written during the call.
 static void ask_payload(const question *asked) {
+    static const uint8_t zero = 0;
     for (unsigned front = 0; front < 2; front++) {
         lent to = lend_for(asked->numbers, front != 0);
         for (size_t i = 0; asked->length >= 8 && i < to.numbers; i++)
             to.table[i] = little(asked->bytes + i % (asked->length / 8) * 8, 8);
         allow(to.in, PROT_READ);
-        ask_range(to.table, to.numbers, asked->start, asked->address);
-        check(only_table(to), "row_payload writes nothing");
+        uz_range due = ask_range(to.table, to.numbers, asked->start, asked->address);
+        uint64_t kind = due.refused == UZ_ACCEPTED ? cell(to, asked->address, UZ_KIND) : 0;
+        uint64_t looked_at = due.length > 0 ? 1 : 0;
+        due.length = 0;
+        if (kind != UZ_STRING && kind != UZ_UTF8) {
+            due = (uz_range){UZ_BAD_ARGUMENT, 0, 0};
+            looked_at = 0;
+        }
+        ask_text(&zero, looked_at, asked->start, to.table, to.numbers, asked->address, due);
+        check(only_table(to), "row_payload and shown_text write nothing");
         allow(to.in, PROT_READ | PROT_WRITE);
     }
 }
 
-// Each part, its rows' payloads, and the owners of its first, its last and some other byte.
+// The text of a row of any numbers, in any recording.
+static void ask_any_text(const question *asked) {
+    recording from = {asked->bytes, asked->length};
+    for (unsigned front = 0; front < 2; front++) {
+        lent to = lend_for(asked->numbers, front != 0);
+        for (size_t i = 0; i + UZ_WIDTH <= to.numbers; i += UZ_WIDTH) {
+            to.table[i + UZ_ADDRESS] = asked->start;
+            to.table[i + UZ_HEADER] = asked->header;
+            to.table[i + UZ_PAYLOAD] = asked->size;
+            to.table[i + UZ_KIND] = asked->id;
+        }
+        allow(to.in, PROT_READ);
+        uint64_t looked_at;
+        uz_range due = due_text(from, to.table, to.numbers, asked->address, &looked_at);
+        ask_text(asked->bytes + due.at, looked_at, from.length, to.table, to.numbers,
+                 asked->address, due);
+        check(only_table(to), "shown_text writes nothing");
+        allow(to.in, PROT_READ | PROT_WRITE);
+    }
+}
+
+// Both replies about a row that was written for the recording.
+static void ask_row(const question *asked, uint64_t *table, uint64_t row) {
+    recording from = {asked->bytes, asked->length};
+    lent in = {table, asked->numbers, nowhere};
+    uint64_t looked_at;
+    uz_range due = due_text(from, table, in.numbers, row, &looked_at);
+    uz_range payload = ask_range(table, in.numbers, from.length, row);
+    uz_range text =
+        ask_text(from.bytes + due.at, looked_at, from.length, table, in.numbers, row, due);
+    check_row(from, in, row, payload, text);
+}
+
+// Each part, its rows' payloads and texts, and the owners of its first, its last and some other
+// byte. What an absent or refused part leaves has no text.
 static void ask_all(const question *asked) {
     static uint64_t table[1 << 16];
     for (unsigned i = 0; i < 4; i++) {
         uz_part found = ask_part(asked, parts[i], asked->numbers);
         memcpy(table, kept, asked->numbers * sizeof *table);
         for (uint64_t row = 0; row < found.rows; row += 1 + found.rows / 16)
-            check(ask_range(table, asked->numbers, asked->length, row).refused == UZ_ACCEPTED,
-                  "a row of an accepted table has its payload");
+            ask_row(asked, table, row);
+        ask_text(NULL, 0, asked->length, table, asked->numbers, found.rows,
+                 (uz_range){UZ_BAD_ARGUMENT, 0, 0});
         if (found.size == 0)
             continue;
         uint64_t bytes[] = {0, asked->address % found.size, found.size - 1};
@@ -310,6 +375,9 @@ static void ask_too_long(const question *asked) {
     check(place.refused == UZ_BAD_ARGUMENT, "too long a recording is refused");
     check_place(none, asked->start, asked->size, asked->address, to, place);
     told_place(place, to);
+    if (asked->numbers >= UZ_WIDTH)
+        to.table[UZ_KIND] = UZ_UTF8;
+    ask_text(NULL, 0, longer, to.table, to.numbers, 0, (uz_range){UZ_BAD_ARGUMENT, 0, 0});
 }
 
 static void ask(const question *asked) {
@@ -325,6 +393,9 @@ static void ask(const question *asked) {
         break;
     case ALL:
         ask_all(asked);
+        break;
+    case TEXT:
+        ask_any_text(asked);
         break;
     default:
         ask_too_long(asked);

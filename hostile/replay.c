@@ -114,6 +114,15 @@ static void told_range(uint64_t row, uz_range said) {
                said.length);
 }
 
+static void told_text(uint64_t row, uz_range said) {
+    if (!telling)
+        return;
+    if (said.refused != UZ_ACCEPTED)
+        printf("text %" PRIu64 ": refused %" PRIu64 "\n", row, said.refused);
+    else
+        printf("text %" PRIu64 ": at %" PRIu64 " length %" PRIu64 "\n", row, said.at, said.length);
+}
+
 // ---- Files ----
 
 static uint8_t data[HEAD + MOST_RECORDING];
@@ -131,7 +140,7 @@ static bool read_question(const char *name, question *to) {
 }
 
 static void tell_question(const question *put_) {
-    static const char *const names[] = {"find", "whose", "payload", "all", "too long"};
+    static const char *const names[] = {"find", "whose", "payload", "all", "too long", "text"};
     printf("%s id %" PRIX32 " numbers %zu start %" PRIu64 " size %" PRIu64 " address %" PRIu64
            " bytes %zu\n",
            names[put_->call], put_->id, put_->numbers, put_->start, put_->size, put_->address,
@@ -230,6 +239,7 @@ typedef enum {
     TINY_IN_PART,
     TINY_WHOSE,
     ASCII_WHOSE,
+    SHOWN,
     SHAPES
 } shape;
 
@@ -244,6 +254,7 @@ static const char *const shapes[] = {
     "tiny elements in the part (13 from 4,097 on)",
     "tiny elements, address question",
     "a text in ASCII, address question",
+    "a text in ASCII, shown",
 };
 
 static void grow_shape(shape of) {
@@ -304,10 +315,17 @@ static void grow_shape(shape of) {
         default:
             write_tree(&to, leaf_of(0x45A3, "a", 1, size));
         }
-        question asked = {FIND,      UZ_MOST_NUMBERS, UZ_TAGS, 0,
-                          to.length, to.length - 1,   written, to.length};
+        question asked = {FIND,          0,       UZ_MOST_NUMBERS, UZ_TAGS, 0, to.length,
+                          to.length - 1, written, to.length};
         if (of == TINY_WHOSE || of == ASCII_WHOSE)
             asked.call = WHOSE;
+        if (of == SHOWN) {
+            asked.call = TEXT;
+            asked.id = UZ_UTF8;
+            asked.header = (unsigned)(to.length - size);
+            asked.size = size;
+            asked.address = 0;
+        }
         tell_growth(shapes[of], to.length, asked);
     }
 }
@@ -330,7 +348,8 @@ static void grow_file(const char *name, question asked) {
     static uint8_t original[1 << 20];
     before.call = NULL;
     used = 0;
-    if (asked.call == PAYLOAD || asked.call == TOO_LONG || asked.length > sizeof original)
+    if (asked.call == PAYLOAD || asked.call == TOO_LONG || asked.call == TEXT ||
+        asked.length > sizeof original)
         return;
     memcpy(original, asked.bytes, asked.length);
     recording from = {original, asked.length};
