@@ -1,4 +1,4 @@
--- A text up to its first zero octet (`BeforeZero`, `Longest`). Assumes nothing.
+-- A text up to its first zero octet (`BeforeZero`, `Longest`, `TailUnseen`). Assumes nothing.
 use Prim.Native.Nat.{ℕ, suc, _+_, _≤_, _<_}
 use mathlib.Core.Path.{_≡_, refl, sym, ap, _∙_}
 use mathlib.Core.List.{List, [], _∷_, _++_, List·Memᴰ, List·Memᴰ·head, List·Memᴰ·tail}
@@ -12,7 +12,7 @@ use lib.Seq.{drop-cons, take-append-seam}
 use lib.Dec.{eqb}
 use borrow.Author.Tests.{eq-eqb, ne-eqb, eqb-true, eqb-false}
 use Rattle.shown_rules.specs.Shown.{shown}
-use Rattle.shown_rules.specs.Theorems.{BeforeZero, Longest}
+use Rattle.shown_rules.specs.Theorems.{BeforeZero, Longest, TailUnseen}
 
 -- ---- one octet
 
@@ -61,6 +61,11 @@ longest text part p other rest e clean = by part other (p .rest) (sym (p .begins
     by [] (b ∷ other) after e clean (inr (behind, zero)) = absurd (clean (List·Memᴰ·head (cc)))
     by (a ∷ part) (b ∷ other) after e clean stops =
         let more = by part other after (cc) (λ m. clean (List·Memᴰ·tail m)) stops in omega arith
+
+pub tail-unseen : TailUnseen
+unfolding shown
+tail-unseen [] tail = at-zero 0 tail refl
+tail-unseen (b ∷ text) tail = rw (tail-unseen text tail)
 
 -- ---- how many octets are shown
 

@@ -16,7 +16,7 @@ use Rattle.elements_rules.specs.declared.reply.ReadReply.the-variants.{Rows}
 use Rattle.places_rules.specs.Promise.{RangePromise, PayloadPromise}
 use Rattle.places_rules.specs.declared.payload.RangeReply.{RangeReply}
 use Rattle.places_rules.specs.declared.payload.RangeReply.the-variants.{Range as RangeIs, Refused}
-use Rattle.shown_rules.specs.Shown.{isText}
+use Rattle.shown_rules.specs.Shown.{shown, isText}
 use Rattle.shown_rules.specs.Promise.{TextPromise, ShownPromise}
 
 -- Any two replies that a promise permits to one question are equal (document 01, Strength of the promises).
@@ -51,6 +51,10 @@ abbrev pub Longest : Type 0
 Longest =
     (text part : List ℕ) → BeforeZero text part
     → (other rest : List ℕ) → text ≡ other ++ rest → (List·Memᴰ 0 other → ⊥) → length other ≤ length part
+
+-- A tail that begins with a zero octet is not seen: the text with it and without it are shown alike.
+abbrev pub TailUnseen : Type 0
+TailUnseen = (text tail : List ℕ) → shown (text ++ 0 ∷ tail) ≡ shown text
 
 -- Of a text row that part of its payload is shown.
 abbrev pub ShownBeforeZero : Type 0
