@@ -1,5 +1,5 @@
--- The label of a stage: what is shown of the string's part, or the caller's own (`OwnWithoutString`, `LabelIsShown`).
--- Assumes nothing.
+-- The label of a stage: what is shown of the string's part, or the caller's own (`OwnWithoutString`, `LabelInside`,
+-- `LabelIsShown`). Assumes nothing.
 use Prim.Native.Nat.{ℕ, _+_, _-_, _≤_, _<_}
 use mathlib.Core.Path.{_≡_, refl, sym, ap, _∙_}
 use mathlib.Core.List.{List, [], _∷_}
@@ -7,15 +7,17 @@ use native.Mathlib.Omega.{arith}
 use lib.ListN.{length, take, drop}
 use borrow.Author.Tests.{le-leb, lt-leb}
 use Rattle.bodies_rules.specs.declared.body.Range.{Range}
-use Rattle.places_rules.specs.Payload.{PayloadRange, range, bytesOf}
-use Rattle.places_rules.proofs.Ranges.{place-inside}
+use Rattle.places_rules.specs.Payload.{payloadRange, bytesOf}
+use Rattle.places_rules.specs.Promise.{PayloadPromise}
+use Rattle.places_rules.proofs.Ranges.{told-range, range-inside}
 use Rattle.fields_rules.specs.declared.field.Content.{Content}
 use Rattle.fields_rules.specs.declared.field.Content.the-variants.{Unset, At}
 use Rattle.shown_rules.specs.Shown.{shown}
-use Rattle.shown_rules.proofs.Texts.{shown-bytes, text-bytes}
+use Rattle.shown_rules.proofs.Zeros.{before-zero, one-before-zero}
+use Rattle.shown_rules.proofs.Texts.{shown-before-zero}
 use Rattle.labels.specs.Labels.{orOwn, labelOf}
 use Rattle.labels.specs.Promise.{LabelPromise}
-use Rattle.labels.specs.Theorems.{OwnWithoutString, LabelIsShown}
+use Rattle.labels.specs.Theorems.{OwnWithoutString, LabelInside, LabelIsShown}
 
 -- ---- an empty text is no label
 
@@ -50,24 +52,18 @@ module _ (s own : List ℕ) {string : Content} where
       unfolding labelOf
       label-in = ap (λ (x : Content). labelOf s x own) e ∙ rw (le-leb (r .at + r .length) (length s) l)
 
-      -- So many octets of the string are shown.
-      module _ {n : ℕ} (m : n ≡ length (shown (take (r .at + r .length - r .at) (drop (r .at) s)))) where
-        many : n ≡ length (shown (take (r .length) (drop (r .at) s)))
-        many = let whole : r .at + r .length - r .at ≡ r .length = omega arith in rw whole at m
+      -- What is shown of the string.
+      module _ {text : List ℕ} (m : text ≡ shown (take (r .at + r .length - r .at) (drop (r .at) s))) where
+        labelled : labelOf s string own ≡ orOwn text own
+        labelled =
+            let whole : r .at + r .length - r .at ≡ r .length = omega arith in
+            label-in ∙ ap (λ (x : List ℕ). orOwn x own) (sym (rw whole at m))
 
-        pub label-empty : n ≡ 0 → LabelPromise s string own own
-        label-empty z =
-            let none = none-shown (shown (take (r .length) (drop (r .at) s))) (sym many ∙ z) in
-            record { reply = sym (label-in ∙ own-empty _ own none) }
+        pub label-empty : length text ≡ 0 → LabelPromise s string own own
+        label-empty z = record { reply = sym (labelled ∙ own-empty text own (none-shown text z)) }
 
-        pub label-is : (n ≡ 0 → ⊥) → LabelPromise s string own (take (r .at + n - r .at) (drop (r .at) s))
-        label-is z =
-            let text = shown (take (r .length) (drop (r .at) s)) in
-            let k : r .at + n - r .at ≡ n = omega arith in
-            let part : take (r .at + n - r .at) (drop (r .at) s) ≡ text
-            = ap (λ (x : ℕ). take x (drop (r .at) s)) (k ∙ many) ∙ shown-bytes s (range (r .at) (r .length)) in
-            let some : text ≡ [] → ⊥ = λ w. z (many ∙ ap length w) in
-            record { reply = part ∙ sym (label-in ∙ own-other text own some) }
+        pub label-is : (length text ≡ 0 → ⊥) → LabelPromise s string own text
+        label-is z = record { reply = sym (labelled ∙ own-other text own (λ n. z (ap length n))) }
 
 -- ---- the theorems
 
@@ -79,14 +75,19 @@ own-without-string = record {
       p .reply ∙ sym (label-outside s own {string = At string} refl l .reply);
 }
 
-pub label-is-shown : LabelIsShown
-label-is-shown s t row string d place text q =
-    let i = place-inside s t row (string .at) (string .length) place in
-    let same : text ≡ shown (take (string .length) (drop (string .at) s))
-    = q .reply ∙ text-bytes s t row d ∙ ap (λ (x : PayloadRange). shown (bytesOf s x)) place in
+pub label-inside : LabelInside
+label-inside s string l text b =
+    let same = one-before-zero _ text _ b (before-zero (take (string .length) (drop (string .at) s))) in
     let by : (own : List ℕ) → labelOf s (At string) own ≡ orOwn text own
-    = λ own. label-in s own refl (i .ends) ∙ ap (λ (x : List ℕ). orOwn x own) (sym same) in
+    = λ own. label-in s own refl l ∙ ap (λ (x : List ℕ). orOwn x own) (sym same) in
     record {
-      shown = λ own part some p. p .reply ∙ by own ∙ own-other text own some;
-      own = λ own part none p. p .reply ∙ by own ∙ own-empty text own none;
+      some = λ own part n p. p .reply ∙ by own ∙ own-other text own n;
+      none = λ own part n p. p .reply ∙ by own ∙ own-empty text own n;
     }
+
+pub label-is-shown : LabelIsShown
+label-is-shown s t row string d r text q =
+    let place = told-range (payloadRange s t row) string (r .reply) in
+    let whole : PayloadPromise s t row (take (string .length) (drop (string .at) s))
+    = record { reply = sym (ap (bytesOf s) place) } in
+    label-inside s string (range-inside s t row string r .ends) text (shown-before-zero s t row _ text d whole q)

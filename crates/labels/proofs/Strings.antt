@@ -15,6 +15,8 @@ use Rattle.elements_rules.specs.declared.reply.ReadReply.the-variants.{Rows}
 use Rattle.elements_rules.proofs.Numbered.{row-of}
 use Rattle.elements_rules.proofs.Readback.{rows-back}
 use Rattle.places_rules.specs.Payload.{range, bytesOf}
+use Rattle.places_rules.specs.Promise.{valuesOf, RangePromise}
+use Rattle.places_rules.specs.declared.payload.RangeReply.the-variants.{Range as RangeIs}
 use Rattle.places_rules.proofs.Accepted.{rows-have-ranges}
 use Rattle.fields_rules.specs.Children.{subtree, children, lastOf}
 use Rattle.fields_rules.specs.Values.{content, contentIn}
@@ -85,15 +87,17 @@ stage-is-shown s start size k i j t d rows t′ g p w =
     let is-text = utf8-is-text (rowAt t′ n .kind) (ap (λ (x : Row). x .kind) held ∙ kind) in
     let first = ap (λ (x : Row). x .address + x .header) held ∙ at in
     let many = ap (λ (x : Row). x .payload) held ∙ long in
-    let place = rows-have-ranges s start size 0x45B9 t (length rs) t′ read n there ∙ ap₂ range first many in
+    let at-row = rows-have-ranges s start size 0x45B9 t (length rs) t′ read n there ∙ ap₂ range first many in
+    let place : RangePromise s t′ n (RangeIs g) = record { reply = sym (ap valuesOf at-row) } in
     let shown : ShownPromise s t′ n (bytesOf s (textRange s t′ n)) = record { reply = refl } in
     let shows = accepted-shown s start size 0x45B9 t (length rs) t′ read n there is-text _ shown in
     record {
       row = n;
       there = subst (λ (x : ℕ). n < x) (sym m) there;
+      kind = is-text;
       place = place;
       text = bytesOf s (textRange s t′ n);
-      shown = shown;
+      promised = shown;
       shows = rw (first, many) at shows;
       label = label-is-shown s t′ n g is-text place _ shown;
     }

@@ -1,7 +1,7 @@
 // The stage label: the shown text of a chapter's first display with a set string, or the caller's own label.
 ghost use Rattle.labels.specs.Promise.{LabelPromise};
 use fields_rules::Content;
-use shown::shown_length;
+use shown::shown_part;
 
 // What is shown of the part of the recording that the string's range names; the caller's own label where nothing is
 // shown, or the range is unset or not in the recording. Nothing is copied, and nothing refused.
@@ -24,12 +24,11 @@ pub fn stage_label<'a>(recording: &'a [u8], string: Content, own: &'a [u8]) -> &
             let past = at + length;
             let first = at as usize;
             let last = past as usize;
-            let shown = shown_length(&recording[first..last]);
-            if shown == 0 {
+            let text = shown_part(&recording[first..last]);
+            if text.len() == 0 {
                 return own;
             }
-            let behind = first + shown;
-            &recording[first..behind]
+            text
         }
     }
 }

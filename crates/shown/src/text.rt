@@ -3,7 +3,7 @@
 ghost use mathlib.Core.Path.{_≡_};
 ghost use Rattle.shown_rules.specs.Shown.{isText};
 ghost use Rattle.shown_rules.specs.Promise.{TextPromise, ShownPromise};
-use crate::length::shown_length;
+use crate::part::shown_part;
 use bodies_rules::Range;
 use payloads::payload_range;
 use payloads::row_payload;
@@ -41,10 +41,10 @@ pub fn text_range(recording: &[u8], table: &[u64], row: u64) -> RangeReply
                     cause: Cause::BadArgument,
                 });
             }
-            let shown = shown_length(row_payload(recording, table, row)) as u64;
+            let text = shown_part(row_payload(recording, table, row));
             RangeReply::Range(Range {
                 at: range.at,
-                length: shown,
+                length: text.len() as u64,
             })
         }
     }

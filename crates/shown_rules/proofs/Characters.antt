@@ -90,7 +90,7 @@ octets-shown (more {c} {s} k r) = by (matched (k .matches) (one-apart utf8Char u
     by (inl e) later = subst (λ (x : List ℕ). Utf8Octets (shown (x ++ s))) (sym e) (rw (at-zero 0 s refl) none)
     by (inr clean) later = rw (shown-append c s clean) (more k later)
 
-pub shown-utf8 : (text : List ℕ) → utf8 text ≡ true → utf8 (shown text) ≡ true
+shown-utf8 : (text : List ℕ) → utf8 text ≡ true → utf8 (shown text) ≡ true
 shown-utf8 text e = utf8-decides (shown text) .1 (octets-shown (utf8-decides text .0 e))
 
 pub shown-is-utf8 : ShownIsUtf8

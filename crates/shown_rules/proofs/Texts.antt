@@ -9,20 +9,21 @@ use lib.Seq.{take-take}
 use lib.Dec.{eqb}
 use borrow.Author.Tests.{eq-eqb, ne-eqb}
 use Rattle.refusals.specs.Refusals.{badArgument}
-use Rattle.refusals.specs.Reply.{accepted, refusal}
+use Rattle.refusals.specs.Reply.{refusal}
 use Rattle.refusals.specs.declared.refusal.Refusal.{Refusal}
 use Rattle.bodies_rules.specs.declared.body.Range.{Range}
 use Rattle.elements_rules.specs.Rows.{width, rowAt}
 use Rattle.elements_rules.specs.declared.row.Row.{Row}
 use Rattle.places_rules.specs.Payload.{PayloadRange, range, refused, payloadRange, bytesOf}
-use Rattle.places_rules.specs.Promise.{valuesOf, rangeTold, RangePromise, PayloadPromise}
+use Rattle.places_rules.specs.Promise.{valuesOf, RangePromise, PayloadPromise}
 use Rattle.places_rules.specs.declared.payload.RangeReply.{RangeReply}
 use Rattle.places_rules.specs.declared.payload.RangeReply.the-variants.{Range as RangeIs, Refused}
+use Rattle.places_rules.proofs.Unique.{rangeOf, range-back}
 use Rattle.places_rules.proofs.Ranges.{Inside, told-range, told-none, place-inside, place-refused, place-row}
 use Rattle.shown_rules.specs.Shown.{shown, isText, shownIn, textRange}
 use Rattle.shown_rules.specs.Promise.{TextPromise, ShownPromise}
-use Rattle.shown_rules.specs.Theorems.{ShownBeforeZero, TextInPayload}
-use Rattle.shown_rules.proofs.Zeros.{before-zero, shown-fits, shown-taken}
+use Rattle.shown_rules.specs.Theorems.{ShownBeforeZero, TailUnseen, TextInPayload, NoTextRefused}
+use Rattle.shown_rules.proofs.Zeros.{before-zero, tail-cut, shown-fits, shown-taken}
 
 -- ---- the two kinds of text
 
@@ -38,13 +39,9 @@ by-utf8 k e = rw (ne-eqb k 4 e)
 
 module _ (s : List ℕ) where
   -- Not more than the range has.
-  pub shown-short : (at n : ℕ) → length (shown (take n (drop at s))) ≤ n
+  shown-short : (at n : ℕ) → length (shown (take n (drop at s))) ≤ n
   shown-short at n =
       omega (arith, shown-fits (take n (drop at s)), length-take n (drop at s))
-
-  -- The same, where the range is told by its two ends.
-  pub shown-fewer : (at n : ℕ) {m : ℕ} → m ≡ length (shown (take (at + n - at) (drop at s))) → m ≤ n
-  shown-fewer at n {m} e = omega (arith, shown-short at (at + n - at))
 
   -- The octets of the shown range are what is shown of the octets of the range.
   pub shown-bytes : (r : PayloadRange) → bytesOf s (shownIn s r) ≡ shown (bytesOf s r)
@@ -157,6 +154,11 @@ shown-before-zero s t row payload part d p q =
     let e = q .reply ∙ text-bytes s t row d ∙ ap shown (sym (p .reply)) in
     rw e (before-zero payload)
 
+pub tail-unseen : TailUnseen
+tail-unseen s t row s′ t′ row′ payload tail part part′ d d′ p p′ q q′ =
+    q .reply ∙ text-bytes s t row d ∙ ap shown (sym (p .reply))
+    ∙ sym (q′ .reply ∙ text-bytes s′ t′ row′ d′ ∙ ap shown (sym (p′ .reply)) ∙ tail-cut payload tail)
+
 pub text-in-payload : TextInPayload
 text-in-payload s t row payload r d p q =
     let place = told-range (payloadRange s t row) payload (p .reply) in
@@ -167,13 +169,14 @@ text-in-payload s t row payload r d p q =
     let told = q .reply ∙ ap valuesOf (text-of s t row true d ∙ ap (shownIn s) place) in
     record {
       text = text;
-      told = as-told r text told;
+      told = sym (range-back r) ∙ ap rangeOf told;
       address = refl;
+      within = shown-short s (payload .at) (payload .length);
       part =
           rw (shown-bytes s (range (payload .at) (payload .length)))
           (before-zero (take (payload .length) (drop (payload .at) s)));
     }
-  where
-    as-told : (r : RangeReply) (g : Range) → rangeTold r ≡ accepted g → r ≡ RangeIs g
-    as-told (RangeIs w) g e = cc
-    as-told (Refused f) g e = let z : _≡_ {A = ℕ} 0 1 = cc in absurd (omega arith)
+
+pub no-text-refused : NoTextRefused
+no-text-refused s t row r d p =
+    sym (range-back r) ∙ ap rangeOf (p .reply ∙ ap valuesOf (text-of s t row false d))

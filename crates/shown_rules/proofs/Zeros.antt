@@ -1,4 +1,4 @@
--- A text up to its first zero octet (`BeforeZero`, `Longest`, `TailUnseen`). Assumes nothing.
+-- A text up to its first zero octet (`BeforeZero`, `Longest`, `OneBeforeZero`). Assumes nothing.
 use Prim.Native.Nat.{ℕ, suc, _+_, _≤_, _<_}
 use mathlib.Core.Path.{_≡_, refl, sym, ap, _∙_}
 use mathlib.Core.List.{List, [], _∷_, _++_, List·Memᴰ, List·Memᴰ·head, List·Memᴰ·tail}
@@ -8,11 +8,11 @@ use mathlib.Core.Bool.{Bool, true, false}
 use native.Mathlib.Numerals.{add-one}
 use native.Mathlib.Omega.{arith}
 use lib.ListN.{length, take, drop, getD, length-append, drop-of-length-le}
-use lib.Seq.{drop-cons, take-append-seam}
+use lib.Seq.{drop-cons, take-all, take-append-seam}
 use lib.Dec.{eqb}
 use borrow.Author.Tests.{eq-eqb, ne-eqb, eqb-true, eqb-false}
 use Rattle.shown_rules.specs.Shown.{shown}
-use Rattle.shown_rules.specs.Theorems.{BeforeZero, Longest, TailUnseen}
+use Rattle.shown_rules.specs.Theorems.{BeforeZero, Longest, OneBeforeZero}
 
 -- ---- one octet
 
@@ -62,10 +62,24 @@ longest text part p other rest e clean = by part other (p .rest) (sym (p .begins
     by (a ∷ part) (b ∷ other) after e clean stops =
         let more = by part other after (cc) (λ m. clean (List·Memᴰ·tail m)) stops in omega arith
 
-pub tail-unseen : TailUnseen
+-- A tail that begins with a zero octet changes nothing.
+pub tail-cut : (text tail : List ℕ) → shown (text ++ 0 ∷ tail) ≡ shown text
 unfolding shown
-tail-unseen [] tail = at-zero 0 tail refl
-tail-unseen (b ∷ text) tail = rw (tail-unseen text tail)
+tail-cut [] tail = at-zero 0 tail refl
+tail-cut (b ∷ text) tail = rw (tail-cut text tail)
+
+pub one-before-zero : OneBeforeZero
+one-before-zero text part part′ p q =
+    let n : length part ≡ length part′
+    = omega (
+      arith,
+      longest text part p part′ (q .rest) (q .begins) (q .clean),
+      longest text part′ q part (p .rest) (p .begins) (p .clean),
+    ) in
+    sym (begun part (p .rest) (p .begins)) ∙ ap (λ (x : ℕ). take x text) n ∙ begun part′ (q .rest) (q .begins)
+  where
+    begun : (part rest : List ℕ) → text ≡ part ++ rest → take (length part) text ≡ part
+    begun part rest e = ap (take (length part)) e ∙ take-append-seam part rest
 
 -- ---- how many octets are shown
 
@@ -91,15 +105,17 @@ module _ (text : List ℕ) (i : ℕ) (l : i < length text) where
       let m = ap length n in
       omega arith
 
-  pub stop : getD text i 0 ≡ 0 → Passed text i → i ≡ length (shown text)
+  pub stop : getD text i 0 ≡ 0 → Passed text i → take i text ≡ shown text
   stop e p =
       let n : shown (drop i text) ≡ []
       = rw (drop-cons text i 0 l) (at-zero (getD text i 0) (drop (suc i) text) e) in
       let m = ap length n in
-      omega arith
+      let k : i ≡ length (shown text) = omega arith in
+      ap (λ (x : ℕ). take x text) k ∙ shown-taken text
 
-pub all-passed : (text : List ℕ) (i : ℕ) → length text ≤ i → Passed text i → i ≡ length (shown text)
+pub all-passed : (text : List ℕ) (i : ℕ) → length text ≤ i → Passed text i → text ≡ shown text
 unfolding shown
 all-passed text i l p =
     let m : length (shown (drop i text)) ≡ 0 = rw (drop-of-length-le text l) in
-    omega arith
+    let k : length text ≤ length (shown text) = omega arith in
+    sym (take-all (length (shown text)) text k) ∙ shown-taken text

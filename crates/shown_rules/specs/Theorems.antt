@@ -3,7 +3,7 @@ use Prim.Native.Nat.{ℕ, _≤_, _<_}
 use mathlib.Core.Path.{_≡_}
 use mathlib.Core.List.{List, [], _∷_, _++_, List·Memᴰ}
 use mathlib.Core.Logic.{_⊎_}
-use mathlib.Core.Bool.{true}
+use mathlib.Core.Bool.{true, false}
 use lib.ListN.{length, take, drop}
 use Rattle.refusals.specs.Refusals.{badArgument}
 use Rattle.refusals.specs.Theorems.{Listed}
@@ -16,7 +16,7 @@ use Rattle.elements_rules.specs.declared.reply.ReadReply.the-variants.{Rows}
 use Rattle.places_rules.specs.Promise.{RangePromise, PayloadPromise}
 use Rattle.places_rules.specs.declared.payload.RangeReply.{RangeReply}
 use Rattle.places_rules.specs.declared.payload.RangeReply.the-variants.{Range as RangeIs, Refused}
-use Rattle.shown_rules.specs.Shown.{shown, isText}
+use Rattle.shown_rules.specs.Shown.{isText}
 use Rattle.shown_rules.specs.Promise.{TextPromise, ShownPromise}
 
 -- Any two replies that a promise permits to one question are equal (document 01, Strength of the promises).
@@ -38,23 +38,23 @@ TextHonest = (s t : List ℕ) (row : ℕ) (e : Refusal) → TextPromise s t row 
 
 -- ---- up to the first zero octet
 
--- A part of a text that ends before its first zero octet: the text begins with it, it holds no zero octet, and it is
--- the whole text, or a zero octet follows it.
-pub record BeforeZero (text part : List ℕ) : Type 0 where
+-- A part that ends before the first zero octet: the whole begins with it, it holds no zero octet, and it is the whole,
+-- or a zero octet follows it.
+pub record BeforeZero (whole part : List ℕ) : Type 0 where
   pub rest : List ℕ
-  pub begins : text ≡ part ++ rest
+  pub begins : whole ≡ part ++ rest
   pub clean : List·Memᴰ 0 part → ⊥
   pub stops : (rest ≡ []) ⊎ ((behind : List ℕ) × (rest ≡ 0 ∷ behind))
 
--- So it is the longest beginning of the text without a zero octet.
+-- So it is the longest beginning without a zero octet.
 abbrev pub Longest : Type 0
 Longest =
-    (text part : List ℕ) → BeforeZero text part
-    → (other rest : List ℕ) → text ≡ other ++ rest → (List·Memᴰ 0 other → ⊥) → length other ≤ length part
+    (whole part : List ℕ) → BeforeZero whole part
+    → (other rest : List ℕ) → whole ≡ other ++ rest → (List·Memᴰ 0 other → ⊥) → length other ≤ length part
 
--- A tail that begins with a zero octet is not seen: the text with it and without it are shown alike.
-abbrev pub TailUnseen : Type 0
-TailUnseen = (text tail : List ℕ) → shown (text ++ 0 ∷ tail) ≡ shown text
+-- And there is no other such part.
+abbrev pub OneBeforeZero : Type 0
+OneBeforeZero = (whole part part′ : List ℕ) → BeforeZero whole part → BeforeZero whole part′ → part ≡ part′
 
 -- Of a text row that part of its payload is shown.
 abbrev pub ShownBeforeZero : Type 0
@@ -62,11 +62,20 @@ ShownBeforeZero =
     (s t : List ℕ) (row : ℕ) (payload part : List ℕ) → isText (rowAt t row .kind) ≡ true
     → PayloadPromise s t row payload → ShownPromise s t row part → BeforeZero payload part
 
--- What is shown of a range of the recording: a range that begins at the same address.
+-- A tail that begins with a zero octet is not seen: two text rows whose payloads differ by it are shown alike.
+abbrev pub TailUnseen : Type 0
+TailUnseen =
+    (s t : List ℕ) (row : ℕ) (s′ t′ : List ℕ) (row′ : ℕ) (payload tail part part′ : List ℕ)
+    → isText (rowAt t row .kind) ≡ true → isText (rowAt t′ row′ .kind) ≡ true
+    → PayloadPromise s t row payload → PayloadPromise s′ t′ row′ (payload ++ 0 ∷ tail)
+    → ShownPromise s t row part → ShownPromise s′ t′ row′ part′ → part ≡ part′
+
+-- What is shown of a range of the recording: a range within it that begins at the same address.
 pub record ShownRange (s : List ℕ) (payload : Range) (r : RangeReply) : Type 0 where
   pub text : Range
   pub told : r ≡ RangeIs text
   pub address : text .at ≡ payload .at
+  pub within : text .length ≤ payload .length
   pub part : BeforeZero (take (payload .length) (drop (payload .at) s)) (take (text .length) (drop (text .at) s))
 
 -- A text row whose payload is in the recording is not refused.
@@ -74,6 +83,12 @@ abbrev pub TextInPayload : Type 0
 TextInPayload =
     (s t : List ℕ) (row : ℕ) (payload : Range) (r : RangeReply) → isText (rowAt t row .kind) ≡ true
     → RangePromise s t row (RangeIs payload) → TextPromise s t row r → ShownRange s payload r
+
+-- A row that is no text row is refused.
+abbrev pub NoTextRefused : Type 0
+NoTextRefused =
+    (s t : List ℕ) (row : ℕ) (r : RangeReply) → isText (rowAt t row .kind) ≡ false
+    → TextPromise s t row r → r ≡ Refused badArgument
 
 -- ---- shown text is UTF-8
 

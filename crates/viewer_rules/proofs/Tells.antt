@@ -16,7 +16,7 @@ use Rattle.shown_rules.specs.Shown.{textRange}
 use Rattle.viewer_rules.specs.Faces.{partFace, rangeFace, placeFace}
 use Rattle.viewer_rules.specs.Theorems.{Tells, PartTells, RangeTells, TextTells, PlaceTells, IdAlone}
 use Rattle.viewer_rules.specs.declared.part.UzPart.{UzPart}
-use Rattle.viewer_rules.specs.declared.payload.UzRange.{UzRange}
+use Rattle.viewer_rules.specs.declared.range.UzRange.{UzRange}
 use Rattle.viewer_rules.specs.declared.whose.UzPlace.{UzPlace}
 
 -- What crosses as `refused`, in each of the faces.

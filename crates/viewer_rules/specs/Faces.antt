@@ -6,7 +6,7 @@ use Rattle.bodies_rules.specs.declared.body.Range.{Range}
 use Rattle.places_rules.specs.Whose.{Whose, byHeader, byPayload}
 use Rattle.search_rules.specs.Part.{PartTold, foundPart, absentPart}
 use Rattle.viewer_rules.specs.declared.part.UzPart.{UzPart}
-use Rattle.viewer_rules.specs.declared.payload.UzRange.{UzRange}
+use Rattle.viewer_rules.specs.declared.range.UzRange.{UzRange}
 use Rattle.viewer_rules.specs.declared.whose.UzPlace.{UzPlace}
 
 abbrev pub partFace : Reply PartTold → UzPart

@@ -12,7 +12,7 @@ use Rattle.search_rules.specs.Part.{searchOf, replyOf, tableOf}
 use Rattle.shown_rules.specs.Shown.{textRange}
 use Rattle.viewer_rules.specs.Faces.{partFace, rangeFace, placeFace}
 use Rattle.viewer_rules.specs.declared.part.UzPart.{UzPart}
-use Rattle.viewer_rules.specs.declared.payload.UzRange.{UzRange}
+use Rattle.viewer_rules.specs.declared.range.UzRange.{UzRange}
 use Rattle.viewer_rules.specs.declared.whose.UzPlace.{UzPlace}
 
 pub record UzPartPromise (s : List ℕ) (part : ℕ) (t : List ℕ) (r : UzPart) (t′ : List ℕ) : Type 0 where

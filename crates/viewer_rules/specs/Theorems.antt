@@ -24,7 +24,7 @@ use Rattle.shown_rules.specs.Shown.{textRange}
 use Rattle.shown_rules.specs.Promise.{TextPromise}
 use Rattle.viewer_rules.specs.Promise.{UzPartPromise, UzRangePromise, UzTextPromise, UzPlacePromise}
 use Rattle.viewer_rules.specs.declared.part.UzPart.{UzPart}
-use Rattle.viewer_rules.specs.declared.payload.UzRange.{UzRange}
+use Rattle.viewer_rules.specs.declared.range.UzRange.{UzRange}
 use Rattle.viewer_rules.specs.declared.whose.UzPlace.{UzPlace}
 
 -- Any two answers and tables that a promise permits to one question are equal (document 01, Strength of the promises).

@@ -1,6 +1,5 @@
 -- `stage_label` meets its contract: the range is tested by differences, so that no sum wraps. Assumes nothing.
 use native.Mathlib.Omega.{arith}
-use Rattle.shown_rules.proofs.Texts.{shown-fewer}
 use Rattle.labels.proofs.Stages.{label-unset, label-outside, label-empty, label-is}
 use borrow.Author.Needs.{needs}
 use Rattle.labels.proofs.label.stage_label.Statement.{statement}
@@ -21,31 +20,17 @@ returns-3 c =
     let d = c .before .before .before in
     let string = d .before .before .before .string in
     label-empty _ _ (string .given .1) (omega (arith, d .before .if1 .left, d .if2 .left))
-    (c .before .shown-length .ensures) (c .if3 .taken)
-
-add-behind : tie.Need-add-behind
-add-behind c =
-    let d = c .before .before .before in
-    let string = d .before .before .before .string .given .0 .0 in
-    let fewer = shown-fewer _ (string .at) (string .length) (c .before .shown-length .ensures) in
-    omega (arith, fewer, d .before .if1 .left, d .if2 .left)
-
-part-result-end : tie.Need-part-result-end
-part-result-end c =
-    let d = c .before .before .before in
-    let string = d .before .before .before .string .given .0 .0 in
-    let fewer = shown-fewer _ (string .at) (string .length) (c .before .shown-length .ensures) in
-    omega (arith, fewer, d .before .if1 .left, d .if2 .left)
+    (c .before .shown-part .ensures) (c .if3 .taken)
 
 returns-5 : tie.Need-returns-5
 returns-5 c =
-    let d = c .before .before .before .before in
+    let d = c .before .before .before in
     let string = d .before .before .before .string in
     label-is _ _ (string .given .1) (omega (arith, d .before .if1 .left, d .if2 .left))
-    (c .before .before .shown-length .ensures) (c .before .if3 .left)
+    (c .before .shown-part .ensures) (c .if3 .left)
 
 pub stage-label-spec : {M : Type 1} → statement M
 stage-label-spec =
     tie.close (tie.spec (λ c. search needs) (λ c. search needs) returns returns-2 (λ c. search needs)
-    (λ c. search needs) (λ c. search needs) (λ c. search needs) (λ c κs. search needs) returns-3 add-behind
-    (λ c. search needs) (λ c. search needs) part-result-end (λ c. search label-unset) returns-5)
+    (λ c. search needs) (λ c. search needs) (λ c. search needs) (λ c κs. search needs) returns-3
+    (λ c. search label-unset) returns-5)

@@ -1,4 +1,6 @@
 -- `text_range` meets its contract: so much of the row's payload as is shown, if it is a text row. Assumes nothing.
+use mathlib.Core.Path.{ap}
+use lib.ListN.{length}
 use borrow.Author.Tests.{not-true, not-false}
 use Rattle.shown_rules.proofs.Texts.{row-there, no-range, is-shown, no-text}
 use borrow.Author.Needs.{needs}
@@ -17,7 +19,7 @@ returns-3 c =
     let e = d .before .before in
     is-shown _ _ _ (e .before .before .payload-range .ensures) (d .row-at .ensures)
     (c .before .before .before .is-text .ensures) (e .range .given .1) (not-false _ (c .before .before .if1 .left))
-    (c .before .row-payload .ensures) _ (c .shown-length .ensures)
+    (c .before .row-payload .ensures) _ (ap length (c .shown-part .ensures))
 
 pub text-range-spec : {M : Type 1} → statement M
 text-range-spec =

@@ -7,7 +7,7 @@ returns : tie.Need-returns
 returns c = rw (c .before .reply .given .1)
 
 returns-2 : tie.Need-returns-2
-returns-2 c = rw (c .number .ensures, c .before .before .reply2 .given .1)
+returns-2 c = rw (c .before .before .reply2 .given .1) (cc (c .number .ensures))
 
 pub range-face-spec : {M : Type 1} → statement M
 range-face-spec =
