@@ -5,7 +5,7 @@
   (docs/DECISIONS.md: a row has eight numbers where document 01 has seven, a refusal has an address, and a shown text
   ends before its first zero byte). Those rules rest on RFC 8794 (sizes, integers, floats, dates, the end of a text),
   RFC 9559 (the ids) and RFC 3629 (UTF-8). It is proved that every call ends and answers, on all bytes and all numbers,
-  as the definitions in crates/NAME/specs say, which are written from document 01.
+  as the definitions in crates/NAME/specs say, which are written from document 01 and these requests.
   docs/TRUSTED.md lists what has to be believed; this header, which is written by hand, is in it. What is asked of the
   caller is in "What every call asks and promises" below.
 
@@ -301,7 +301,8 @@ uz_range uz_row_payload(const uint8_t *recording, size_t length, const uint64_t 
   `at` is the address of the payload, whatever the length. After acceptance the bytes from recording + at on, `length`
   of them, may be read, and none of them is 0.
 
-  An empty shown text counts as no label: where a stage is to have a name, show a label of your own.
+  An empty shown text counts as no label: where the first string of a stage that is set has one, show a label of your
+  own, and not the next string.
 
   The table is usually one that another call wrote, but may hold any numbers: the row's kind is believed as it stands
   there, its address, header length and payload length are taken as uz_row_payload takes them, and no other number

@@ -38,8 +38,8 @@ static const uz_words table[] = {
                          "a date has other than 8 bytes", "the header of that date", REWRITE},
     [UZ_NOT_UTF8] =
         {"NOT_UTF8", "a text is not UTF-8", "a text is not UTF-8", "the header of that text",
-         "the text was written in another encoding: write the chapter, tag or name anew "
-         "in UTF-8"},
+         "the text was written in another encoding, or over a longer one of which half a character "
+         "is left: write the chapter, tag or name anew in UTF-8"},
     [UZ_INVALID_SEEK_HEAD] =
         {"INVALID_SEEK_HEAD",
          "the segment's start plus the position of an entry exceeds 2^64-1; the reply has the id "
