@@ -192,7 +192,8 @@ class Comparison(Against):
         row = rows[index]
         master = rows[row.parent - 1] if row.parent else None
         start, end = (master.start(), master.end()) if master else self.whole
-        if row.id != CRC or row.at != start or row.payload != 4:
+        if row.id != CRC or row.at != start or row.payload != 4 or KIND[row.kind] != 'binary' or \
+                row.depth != (master.depth + 1 if master else 0):
             return False
         told = int.from_bytes(self.bytes[row.start():row.end()], 'little')
         return told == zlib.crc32(self.bytes[row.end():end])
