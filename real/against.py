@@ -40,7 +40,8 @@ REASONS = collections.OrderedDict([
     ('no size', 'the segment says that it has no bytes: the parts behind it are absent for us, and mkvinfo shows them '
                 'as elements at an invalid position'),
     ('default', 'the tool shows Matroska\'s default for an element that mkvinfo does not show; ours is unset'),
-    ('zero bytes', 'the text has zero bytes at its end, which the tools leave out and ours keeps'),
+    ('zero bytes', 'the text has a zero byte, before which the tools end it; the rows, values and records of ours have '
+                   'all of it'),
     ('marks', 'a mark of a track, 55AB to 55AF, is plain bytes for us: unset in the record, and mkvmerge shows it'),
     ('languages', 'a display, simple tag or track has several languages; ours is the last IETF one, or the last ISO '
                   'one'),
@@ -53,6 +54,11 @@ REASONS = collections.OrderedDict([
     ('ffprobe: uid', 'ffprobe shows a uid of 2^63 or more as a negative number'),
     ('ffprobe: opus', 'ffprobe shows 48,000 Hz for Opus, whatever rate the track tells'),
 ])
+
+
+def before_zero(payload):
+    """What is shown of a text: its payload before the first zero byte, or all of it where there is none."""
+    return payload.split(b'\0', 1)[0]
 
 
 def shown_number(shown):
@@ -119,15 +125,9 @@ class Against:
     def text(self, spot):
         return self.bytes[spot[0]:spot[0] + spot[1]]
 
-    def same_text(self, what, ours, theirs):
-        """A range of ours against a tool's text. Zero bytes at the end are a finding."""
-        if ours is None or theirs is None:
-            return self.same(what, ours, theirs)
-        data, expected = self.text(ours), theirs.encode('utf-8')
-        if data != expected and data.rstrip(b'\0') == expected:
-            self.find('zero bytes', '%s: %d zero bytes behind %r' % (what, len(data) - len(expected), theirs))
-            return True
-        return self.same(what, data.decode('utf-8', 'replace'), theirs)
+    def payload(self, element):
+        """The bytes of mkvinfo's element behind its header."""
+        return self.text((element.at + element.header(), element.data))
 
     def children(self, element, label):
         return [e for e in element.children if e.label == label]

@@ -16,7 +16,7 @@ import sys
 import zlib
 
 import tools
-from against import Against, DEFAULTS, PARTS, PLAIN, ROWS, Tally, WIDTH, shown_number
+from against import Against, DEFAULTS, PARTS, PLAIN, ROWS, Tally, WIDTH, before_zero, shown_number
 from tools import time_of
 
 SMALL = 65536
@@ -139,6 +139,17 @@ class Comparison(Against):
         return self.change(shown or question.split(' ')[0], self.asker(question))
 
     # ---- The parts ----
+    def same_text(self, what, ours, theirs):
+        """A range of ours against a tool's text. Where the tool ends it before a zero byte, that is a finding: the
+        range goes on."""
+        if ours is None or theirs is None:
+            return self.same(what, ours, theirs)
+        data, expected = self.text(ours), theirs.encode('utf-8')
+        if data != expected and before_zero(data) == expected:
+            self.find('zero bytes', '%s: %r in %d bytes' % (what, theirs, len(data)))
+            return True
+        return self.same(what, data.decode('utf-8', 'replace'), theirs)
+
 
     def parts(self):
         out = {}
@@ -463,7 +474,7 @@ class Comparison(Against):
             self.same_language(where, told['language'], display, 'ChapterLanguage', 'ChapLanguageIETF', shown[j],
                                'Chapter language')
             if spot is not None:
-                names.append(self.text(spot).decode('utf-8', 'replace').rstrip('\0'))
+                names.append(before_zero(self.text(spot)).decode('utf-8', 'replace'))
                 if j == 0:
                     self.label(where, spot)
         self.ends(part, what, 'display', k, i, len(displays))
@@ -617,7 +628,7 @@ class Comparison(Against):
                 self.same_place('%s %s' % (what, field), got[field], shown[k], name)
             data = None if got['data'] == 'unset' else self.text(got['data'])
             if self.small:
-                self.payload(what, part, shown[k], files[k])
+                self.data(what, part, shown[k], files[k])
             self.same(what + ' size', data and len(data), told['size'])
             self.same(what + ' data', data == files[k], True)
             if k < len(streams):
@@ -628,7 +639,7 @@ class Comparison(Against):
             self.same('attachments by ffprobe', len(listed), len(streams))
         self.ends(part, 'Attachments', 'attachment', len(listed))
 
-    def payload(self, what, part, seen, data):
+    def data(self, what, part, seen, data):
         """The bytes that the payload question gives for the row of the file's data."""
         index = [n for n, r in enumerate(part.rows) if r.id == 0x465C and seen.at < r.at < seen.end()]
         question = 'payload %d %d 61A7 %d %d %s' % (part.at, part.size, NUMBERS, index[-1], self.digits)
@@ -694,7 +705,7 @@ class Comparison(Against):
                              ('codecname', 'Codec name')):
             self.same_place('%s %s' % (what, field), got[field], seen, label)
         named = self.children(seen, 'Name')[-1:]
-        if named and named[0].data == 0 and properties.get('track_name') is None:
+        if named and not before_zero(self.payload(named[0])) and properties.get('track_name') is None:
             self.find('empty name', what)
         else:
             self.same_text(what + ' name', spots['name'], properties.get('track_name'))

@@ -15,7 +15,7 @@ import sys
 import zlib
 
 import tools
-from against import Against, DEFAULTS, PARTS, PLAIN, Tally, shown_number
+from against import Against, DEFAULTS, PARTS, PLAIN, Tally, before_zero, shown_number
 
 CRC = 0xBF
 ONES = 2 ** 64 - 1
@@ -165,14 +165,14 @@ class Text:
         out = '-' if target['value'] is None else str(target['value']['value'])
         if target['type']:
             out += ' type ' + text_of(target['type'])
-        # What has the uid: the first of its kind in the file, with its name if it has one.
+        # What has the uid: the first of its kind in the file, with its name if it has one that is not empty.
         have = {'tracks': self.told['tracks'], 'editions': self.told['editions'], 'chapters': self.atoms,
                 'attachments': self.told['attachments']}
         for key, word, _, _ in UIDS:
             for uid in target[key]:
                 named = [one for one in have[key] if value_of(one['uid']) == uid['value']]
                 out += ' %s %s' % (word, self.address(named[0]['at']) if named else 'uid %d' % uid['value'])
-                if named and named[0].get('name'):
+                if named and value_of(named[0].get('name')):
                     out += ' ' + text_of(named[0]['name'])
         return out
 
@@ -199,25 +199,41 @@ class Viewed(Against):
     def ask(self, *words):
         """Status, standard output and standard error of the viewer."""
         self.counts['answers'] += 1
-        return self.change(words, self.view(self.name, *words))
+        status, out, err = self.change(words, self.view(self.name, *words))
+        # Control characters are escaped; the texts of the JSON are looked at when it is read.
+        if '\0' in out + err or '--json' not in words and '\\x00' in out + err:
+            self.fail('%s: a zero byte is shown' % (' '.join(words) or 'plain'))
+        return status, out, err
 
     def keys(self, what, told, *names):
         self.same(what + ' keys', sorted(told), sorted(names))
 
     # ---- Fields ----
 
+    def texts(self, told):
+        """Every text of the JSON, also of parts that are not compared: it has no zero byte, and that of a field is what
+        stands at its place before the first zero byte there."""
+        if isinstance(told, str) and '\0' in told:
+            self.fail('the JSON has a zero byte in the text %r' % told)
+        if isinstance(told, dict) and isinstance(told.get('value'), str):
+            payload = self.text((told['at'], told['length']))
+            self.same('the text at %d' % told['at'], told['value'].encode('utf-8'), before_zero(payload), 'texts')
+            self.counts['texts with a zero byte'] += b'\0' in payload
+        for one in told.values() if isinstance(told, dict) else told if isinstance(told, list) else []:
+            self.texts(one)
+
     def seen(self, what, ours, parent, *labels):
-        """A field against the last of mkvinfo's children with one of the labels: whether it is set, and its place. A
-        text is the bytes there. Answers mkvinfo's element if both have it."""
+        """A field against the last of mkvinfo's children with one of the labels: whether it is set, its place, and its
+        text, if it is one; mkvinfo shows nothing of an empty text. Answers mkvinfo's element if both have it."""
         last = [e for e in parent.children if e.label in labels][-1:]
         self.same(what + ' place', None if ours is None else (ours['at'], ours['length']),
                   (last[0].at + last[0].header(), last[0].data) if last else None, 'places')
         if ours is None or not last:
             return None
-        self.keys(what, ours, *(['at', 'length'] if tools.KINDS.get(last[0].id()) == 'binary' else
-                                ['at', 'length', 'value']))
-        if isinstance(ours.get('value'), str):
-            self.same(what + ' text', ours['value'].encode('utf-8'), self.text((ours['at'], ours['length'])))
+        kind = tools.KINDS.get(last[0].id())
+        self.keys(what, ours, *(['at', 'length'] if kind == 'binary' else ['at', 'length', 'value']))
+        if kind in ('string', 'utf8'):
+            self.same(what + ' text by mkvinfo', ours['value'], last[0].value or '')
         return last[0]
 
     def number(self, what, ours, parent, label, theirs, name, flag=False):
@@ -234,14 +250,14 @@ class Viewed(Against):
             self.same(what, value, bool(theirs) if flag and theirs is not None else theirs)
 
     def words(self, what, ours, parent, label, theirs):
-        """A text, against mkvinfo's place and another tool's text."""
+        """A text, against mkvinfo's place and text, and another tool's text."""
         self.seen(what, ours, parent, label)
-        self.same_text(what, None if ours is None else (ours['at'], ours['length']), theirs)
+        self.same(what, value_of(ours), theirs)
 
     def language(self, what, ours, parent, label, isos, ietfs):
         """The last IETF language, or else the last of the older form. The tools show all."""
         self.seen(what, ours, parent, label + ' (IETF BCP 47)' if ietfs else label)
-        self.same_text(what, None if ours is None else (ours['at'], ours['length']), (ietfs or isos or [None])[-1])
+        self.same(what, value_of(ours), (ietfs or isos or [None])[-1])
         if len(isos) + len(ietfs) > 1:
             self.find('languages', '%s: %s' % (what, ' '.join(isos + ietfs)))
 
@@ -477,10 +493,12 @@ class Viewed(Against):
             self.keys(where, one, 'at', 'string', 'language')
             self.words(where, one['string'], element, 'Chapter string', display.findtext('ChapterString'))
             self.language(where + ' language', one['language'], element, 'Chapter language',
-                          [e.text for e in display.findall('ChapterLanguage')],
-                          [e.text for e in display.findall('ChapLanguageIETF')])
-        # The name is that of the first display that has one.
-        self.same(what + ' name', ours['name'], next((d['string'] for d in ours['displays'] if d['string']), None))
+                          [e.text or '' for e in display.findall('ChapterLanguage')],
+                          [e.text or '' for e in display.findall('ChapLanguageIETF')])
+        # The name is the first string that is set. An empty one is no name, and no other takes its place.
+        first = next((d['string'] for d in ours['displays'] if d['string']), None)
+        self.same(what + ' name', ours['name'], first if value_of(first) else None)
+        self.counts['empty names of stages'] += value_of(first) == ''
 
     # ---- Tags ----
 
@@ -523,8 +541,8 @@ class Viewed(Against):
             self.keys(where, ours, 'at', 'parent', 'level', 'name', 'language', 'default', 'string', 'binary')
             self.words(where + ' name', ours['name'], seen, 'Name', simple.findtext('Name'))
             self.language(where + ' language', ours['language'], seen, 'Tag language',
-                          [e.text for e in simple.findall('TagLanguage')],
-                          [e.text for e in simple.findall('TagLanguageIETF')])
+                          [e.text or '' for e in simple.findall('TagLanguage')],
+                          [e.text or '' for e in simple.findall('TagLanguageIETF')])
             self.xml_number(where + ' default', ours['default'], seen, 'Default language', simple, 'DefaultLanguage',
                             True)
             self.words(where + ' string', ours['string'], seen, 'String', simple.findtext('String'))
@@ -550,7 +568,7 @@ class Viewed(Against):
                       kind and kind.value.rstrip('s'))
             self.same(what + ' kind', ours['kind'], theirs['type'].rstrip('s'))
             named = self.seen(what + ' name', ours['name'], seen, 'Name')
-            if named is not None and named.data == 0 and properties.get('track_name') is None:
+            if named is not None and not before_zero(self.payload(named)) and properties.get('track_name') is None:
                 self.find('empty name', what)
             else:
                 self.words(what + ' name', ours['name'], seen, 'Name', properties.get('track_name'))
@@ -564,8 +582,7 @@ class Viewed(Against):
         if not isos and properties['language'] == DEFAULTS['Language']:
             self.find('default', '%s language: %s' % (what, properties['language']))
         else:
-            self.same(what + ' language by mkvmerge', [e.value.rstrip('\0') for e in isos[-1:]],
-                      [properties['language']])
+            self.same(what + ' language by mkvmerge', [e.value for e in isos[-1:]], [properties['language']])
         self.same(what + ' newer language by mkvmerge', ietfs[-1].value if ietfs else None,
                   properties.get('language_ietf'))
 
@@ -604,7 +621,7 @@ class Viewed(Against):
             self.find('plain bytes', 'the row at %d: id %X, %s by Matroska' % (at, element.id(), kind))
             kind = 'binary'
         if kind in ('string', 'utf8'):
-            text = escaped(self.text((at + header, data)).decode('utf-8'), False)
+            text = escaped(before_zero(self.text((at + header, data))).decode('utf-8'), False)
         self.same('address %d' % address, match.groups(), (
             name, str(index), 'header' if address < at + header else 'payload',
             '%X' % (CRC if element is None else element.id()), kind, str(at), str(header), str(at + header), str(data),
@@ -712,9 +729,11 @@ class Viewed(Against):
         for part, element, rows in parts:
             if element is None or not rows:
                 continue
-            # A row in the middle, and one that is plain bytes for us alone.
+            # A row in the middle, one that is plain bytes for us alone, and the first and last text with a zero byte.
             plain = [row for row in rows if row[0] is not None and row[0].id() in PLAIN]
-            for _, at, header, data in [rows[len(rows) // 2]] + plain[:1]:
+            padded = [row for row in rows if row[0] is not None and tools.KINDS.get(row[0].id()) in ('string', 'utf8')
+                      and b'\0' in self.payload(row[0])]
+            for _, at, header, data in [rows[len(rows) // 2]] + plain[:1] + padded[:1] + padded[1:][-1:]:
                 for address in sorted({at + header - 1, min(at + header + data // 2, part.at + part.size - 1)}):
                     self.whose(parts, address)
             self.hexed(part.at, self.whose(parts, part.at))
@@ -733,6 +752,7 @@ class Viewed(Against):
             return self
         self.keys('the JSON', told, 'length', 'parts', 'remarks', 'editions', 'tags', 'tracks', 'attachments')
         self.same('length', told['length'], len(self.bytes))
+        self.texts(told)
         parts = self.parts(told)
         odd = bool(told['remarks']) or any(part.refused is not None for part, _, _ in parts)
         explained = self.remarks(told, parts)
