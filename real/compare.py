@@ -23,6 +23,7 @@ SMALL = 65536
 CRC = 0xBF
 NUMBERS = WIDTH * ROWS
 KIND = [None, 'master', 'int', 'uint', 'string', 'utf8', 'binary', 'float', 'date']
+TEXTS = (4, 5)
 # The numbers and flags of a track: the field of our answer, its id, mkvinfo's label, mkvmerge's property, and ffprobe's
 # disposition; None where the tool does not show it.
 TRACK_NUMBERS = [
@@ -138,7 +139,6 @@ class Comparison(Against):
     def ask(self, question, shown=None):
         return self.change(shown or question.split(' ')[0], self.asker(question))
 
-    # ---- The parts ----
     def same_text(self, what, ours, theirs):
         """A range of ours against a tool's text. Where the tool ends it before a zero byte, that is a finding: the
         range goes on."""
@@ -150,6 +150,7 @@ class Comparison(Against):
             return True
         return self.same(what, data.decode('utf-8', 'replace'), theirs)
 
+    # ---- The parts ----
 
     def parts(self):
         out = {}
@@ -165,15 +166,24 @@ class Comparison(Against):
                 prefix = 'part %X ' % ident
                 self.same('the line of ' + label, line[:len(prefix)], prefix)
                 part = out[label] = Part(self.change('part ' + label, line[len(prefix):]))
-                # Behind each row stands where uz_row_payload says that its payload is.
                 for row, words in zip(part.rows, line.split(' / ')[1:]):
-                    self.same('%s: the payload by the C face' % label, words.split()[WIDTH],
-                              '%d+%d' % (row.start(), row.payload), 'payloads')
+                    self.ranges(label, row, ' '.join(words.split()[WIDTH:]))
         for label, part in out.items():
             self.same('%s: count of rows' % label, len(part.rows), getattr(part, 'told', 0))
         if self.small:
             self.listing(out)
         return out
+
+    def ranges(self, label, row, told):
+        """Where uz_row_payload says that a row's payload is, and uz_shown_text its shown text, which a text row alone
+        has."""
+        payload, shown, word = '%d+%d' % (row.start(), row.payload), 'refused 14', 'ranges'
+        if row.kind in TEXTS:
+            text = before_zero(self.text((row.start(), row.payload)))
+            shown = '%d+%d' % (row.start(), len(text))
+            word = 'ranges' if shown == payload else 'ranges with a zero byte'
+        self.same('%s: payload and shown text by the C face' % label, self.change(word, told), payload + ' ' + shown,
+                  'payloads')
 
     def listing(self, parts):
         """The listing tells the same rows as the part questions; it has 1,024 rows."""
@@ -263,10 +273,11 @@ class Comparison(Against):
             self.same(where + ': after', (row.after, None), (len(part.rows), due))
 
     def values(self, pairs):
-        """The value that `body` tells of each leaf, against mkvinfo's."""
+        """The value that `body` tells of each leaf, against mkvinfo's, which shows nothing of an empty text."""
         asked = []
         for row, shown in pairs:
-            if row.kind in (2, 3, 4, 5, 7) and shown.value is not None and row.payload <= SMALL:
+            if row.kind in (2, 3, *TEXTS, 7) and (row.kind in TEXTS or shown.value is not None) and \
+                    row.payload <= SMALL:
                 question = 'body %X 0 0 %d %d %s' % (row.id, row.payload, row.at,
                                                      self.bytes[row.start():row.end()].hex() or '-')
                 asked.append((row, shown, question))
@@ -275,7 +286,7 @@ class Comparison(Against):
             where = 'the value of %s at %d' % (shown.label, row.at)
             if word == 'text':
                 self.same(where + ': range', value, '0+%d' % row.payload)
-                self.same_text(where, (row.start(), row.payload), shown.value)
+                self.same_text(where, (row.start(), row.payload), shown.value or '')
             elif word == 'float':
                 ours = struct.unpack('>d', bytes.fromhex(value))[0]
                 self.same(where, abs(ours - float(shown.value)) <= 1e-6 * max(1.0, abs(ours)), True)
@@ -287,6 +298,25 @@ class Comparison(Against):
                 else:
                     self.fail('%s: %r is not understood' % (where, shown.value))
             self.counts['values'] += 1
+
+    def shown(self, label, part, pairs):
+        """The shown text of a row is the text that mkvinfo shows. Asked are all texts with a zero byte, of the others
+        the first, one in between and the last, and a row that is no text."""
+        if not self.small:
+            return
+        index = {id(row): n for n, row in enumerate(part.rows)}
+        texts, others = [], []
+        for row, element in pairs:
+            (texts if row.kind in TEXTS else others).append((row, element))
+        padded = [pair for pair in texts if b'\0' in self.payload(pair[1])]
+        plain = [pair for pair in texts if pair not in padded]
+        few = [plain[k] for k in sorted({0, len(plain) // 2, len(plain) - 1})] if plain else []
+        for row, element in padded + few + others[-1:]:
+            question = 'shown %d %d %X %d %d %s' % (part.at, part.size, PARTS[label][1], NUMBERS, index[id(row)],
+                                                    self.digits)
+            text = (element.value or '').encode('utf-8')
+            self.same('the shown text of the row at %d' % row.at, self.ask(question), 'text %d+%d %s' % (
+                row.start(), len(text), text.hex().upper() or '-') if row.kind in TEXTS else 'refused 14 at 0', 'shown')
 
     def whose(self, label, part, element):
         """Some addresses of the part: who holds each, by mkvinfo's ranges."""
@@ -481,10 +511,10 @@ class Comparison(Against):
         return number(got['uid']), number(got['start']), number(got['end']), names
 
     def label(self, where, spot):
-        """The stage label is the first display's name."""
+        """The stage label is what is shown of the first display's name, or where that is empty the caller's, `?`."""
         piece = self.text(spot)
         question = 'label 0+%d 3F %s' % (len(piece), piece.hex() or '-')
-        self.same(where + ' label', self.ask(question), 'label ' + (piece.hex().upper() or '-'))
+        self.same(where + ' label', self.ask(question), 'label ' + (before_zero(piece) or b'?').hex().upper(), 'labels')
 
     def probe_chapters(self, ours):
         """Our outer atoms against ffprobe's flat list."""
@@ -841,6 +871,7 @@ class Comparison(Against):
                 continue
             pairs = self.rows(label, part, element)
             self.values(pairs)
+            self.shown(label, part, pairs)
             self.whose(label, part, element)
             {'Tracks': self.tracks, 'Attachments': self.attachments, 'Chapters': self.chapters,
              'Tags': self.tags}[label](part, element)

@@ -3,7 +3,8 @@
 //   part ID refused N at A | part ID absent heads H rows 0 | part ID at A size S heads H rows N / row / row ..
 //
 // with each row's numbers (id in hexadecimal digits, the rest decimal) as `ask` tells them (docs/ASK.md), and
-// behind them where uz_row_payload says that the row's payload is, as ADDRESS+LENGTH.
+// behind them where uz_row_payload says that the row's payload is and uz_shown_text that its shown text is, each as
+// ADDRESS+LENGTH or 'refused N'.
 // parts FILE ID ADDRESS.. prints for each address of that part what uz_whose_byte says: 'whose ADDRESS row R header',
 // 'whose ADDRESS row R payload' or 'whose ADDRESS refused N at A'.
 // Status 0: answered. Status 1: the file can't be read. Status 2: wrong arguments.
@@ -34,16 +35,20 @@ static uint64_t cell(uint64_t row, unsigned column) {
     return table[row * UZ_WIDTH + column];
 }
 
+static void tell_range(uz_range range) {
+    if (range.refused != UZ_ACCEPTED)
+        printf(" refused %" PRIu64, range.refused);
+    else
+        printf(" %" PRIu64 "+%" PRIu64, range.at, range.length);
+}
+
 static void tell_rows(uint64_t rows) {
     for (uint64_t row = 0; row < rows; row++) {
-        uz_range range = uz_row_payload(recording, length, table, UZ_MOST_NUMBERS, row);
         printf(" / %" PRIX64, cell(row, UZ_ID));
         for (unsigned column = UZ_PARENT; column < UZ_WIDTH; column++)
             printf(" %" PRIu64, cell(row, column));
-        if (range.refused != UZ_ACCEPTED)
-            printf(" refused %" PRIu64, range.refused);
-        else
-            printf(" %" PRIu64 "+%" PRIu64, range.at, range.length);
+        tell_range(uz_row_payload(recording, length, table, UZ_MOST_NUMBERS, row));
+        tell_range(uz_shown_text(recording, length, table, UZ_MOST_NUMBERS, row));
     }
 }
 
