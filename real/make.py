@@ -239,6 +239,31 @@ def target_tags():
                 tag(simple('EMPTY', ''), simple('BYTES', None, '00 ff'), value=70, kind='COLLECTION'))
 
 
+def long_chapters():
+    """Stages with names that shorter ones are written over; one has an empty first name, and one is left as it is."""
+    step = 100 * MILLION
+    return chapters(edition(
+        atom(0, display('Boot loader in the mask ROM', ['eng']), uid=81),
+        atom(step, atom(step, display('probe of all drivers', ['eng']), uid=821), display('U-Boot 2023.10', ['eng']),
+             display('le noyau et le reste', ['fre'], ['fr-CA']), display('gone in Portuguese', ['por'], ['pt-BR']),
+             uid=82),
+        atom(2 * step, display('a name to be taken away', ['eng']), uid=83),
+        atom(3 * step, display('the first of two names', ['eng'], ['en-GB']), display('Anmeldung bereit', ['ger']),
+             uid=84),
+        atom(4 * step, display('all but the first letter', ['eng']), uid=85),
+        atom(5 * step, display('', ['eng']), display('Shell', ['ger']), uid=86),
+        atom(6 * step, display('Login', ['eng']), uid=87), uid=980))
+
+
+def long_tags():
+    """Settings with texts that shorter ones are written over, for what has names of that kind."""
+    return tags(tag(simple('RAIL_MEASURED', '4.9 V at J4', None, ietf='es-MX'), simple('TAKEN_AWAY', 'with its value'),
+                    simple('BYTES', None, '41 00 42 00'), value=70, kind='COLLECTION',
+                    uids=[('ChapterUID', 81), ('ChapterUID', 83), ('ChapterUID', 84)]),
+                tag(simple('BENCH', '7'), kind='EPISODE', uids=[
+                    ('TrackUID', 71), ('TrackUID', 72), ('AttachmentUID', 31), ('AttachmentUID', 32)]))
+
+
 def rich_tags():
     return tags(
         tag(simple('TITLE', 'Boot repair, lesson 7'), simple('BENCH', '7', None, language='eng', default=1),
@@ -306,6 +331,8 @@ class Maker:
         write('nameless.ffmeta', ff_chapters(['ROM', '', 'SPL'], 200).replace('title=\n', '') +
               '[CHAPTER]\nTIMEBASE=1/1000\nSTART=100\nEND=150\ntitle=early\n')
         write('rich-tags.xml', rich_tags())
+        write('long-names.xml', long_chapters())
+        write('long-texts.xml', long_tags())
         write('one-tag.xml', tags(tag(simple('RAIL', '5V'))))
         write('many-tags.xml', tags(*[tag(*[simple('SETTING_%d_%d' % (i, j), 'value %d' % (i * j)) for j in range(6)],
                                           value=10 * (i % 7 + 1)) for i in range(40)]))
@@ -537,6 +564,39 @@ class Maker:
         write(add('hand-stale.mkv', 'ff-all.mkv with 20 bytes put in, and all seek entries left as they were'),
               data[:at - 7] + size.to_bytes(7, 'big') + data[at:end] + b'\xec\x92' + bytes(18) + data[end:])
 
+    def padded(self):
+        """Texts that were written over in place, as recorders with fields of fixed length and editors that move nothing
+        leave them: zero bytes follow the shorter text, or a single one and what is left of the longer text."""
+        mkvmerge('long.mkv', '--disable-track-statistics-tags', '--chapters', 'long-names.xml', 'source.mkv')
+        mkvpropedit('long.mkv', '--edit', 'track:1', '--set', 'track-uid=71', '--set', 'name=Camera over the bench',
+                    '--set', 'codec-name=MPEG-4, as filmed', '--edit', 'track:2', '--set', 'track-uid=72', '--set',
+                    'name=Microphone', '--set', 'language-ietf=de-AT')
+        for uid, name, kind, what in (('31', 'console of board 7.txt', 'text/plain; charset=utf-8', 'serial console'),
+                                      ('32', 'nameless.txt', 'text/x-log', 'soon without a word')):
+            mkvpropedit('long.mkv', '--attachment-uid', uid, '--attachment-name', name, '--attachment-mime-type', kind,
+                        '--attachment-description', what, '--add-attachment', 'short.txt')
+        mkvpropedit('long.mkv', '--tags', 'all:long-texts.xml')
+        data = read('long.mkv')
+        for old, new in (('Boot loader in the mask ROM', 'ROM'), ('probe of all drivers', 'probe'),
+                         ('le noyau et le reste', '完了'), ('gone in Portuguese', ''), ('a name to be taken away', ''),
+                         ('the first of two names', ''), ('en-GB', 'en'), ('pt-BR', ''), ('RAIL_MEASURED', 'RAIL'),
+                         ('TAKEN_AWAY', ''), ('with its value', ''), ('COLLECTION', 'SEASON'), ('EPISODE', ''),
+                         ('es-MX', 'es'), ('Camera over the bench', 'Camera'), ('Microphone', ''), ('de-AT', 'de'),
+                         ('MPEG-4, as filmed', 'MPEG-4'), ('V_MPEG4/ISO/ASP', 'V_MPEG4/ISO/SP'),
+                         ('console of board 7.txt', 'board.txt'), ('text/plain; charset=utf-8', 'text/plain'),
+                         ('serial console', 'console'), ('nameless.txt', ''), ('soon without a word', ''),
+                         # What is left of these stands behind a zero byte.
+                         ('U-Boot 2023.10', 'SPL\0'), ('fr-CA', 'fr\0'), ('all but the first letter', '\0'),
+                         ('4.9 V at J4', '5 V\0'), ('text/x-log', 'text/x\0')):
+            old, new = old.encode('utf-8'), new.encode('utf-8')
+            if data.count(old) != 1:
+                sys.exit('make.py: %r is not there once' % old)
+            data = data.replace(old, new + old[len(new):] if b'\0' in new else new.ljust(len(old), b'\0'))
+        write(self.add('hand-padded.mkv', 'shorter texts written over longer ones, with zero bytes behind them'), data)
+        copy('hand-padded.mkv', self.add('pe-padded.mkv', 'hand-padded.mkv edited: some of the zero bytes are gone'))
+        mkvpropedit('pe-padded.mkv', '--edit', 'track:1', '--set', 'flag-default=0', '--attachment-description', 'log',
+                    '--update-attachment', '1')
+
     def by_gstreamer(self):
         add = self.add
         if not has_gstreamer():
@@ -588,6 +648,7 @@ class Maker:
         self.by_mkvmerge()
         self.edited()
         self.by_hand()
+        self.padded()
         self.by_gstreamer()
         self.large()
         write('list', ''.join(self.listed))
