@@ -1,8 +1,8 @@
 # Sees that the comparisons can fail: real/run --selftest. One of our answers is changed, or one fact of the tools, and
 # the comparison has to call something unexplained. Answers are changed number by number: an address off by one, a row
 # left out, a name moved by a byte; of the viewer each value of its JSON, and lines swapped, set in, or without a mark.
-# Facts are changed so that the condition of a finding's reason no longer holds. run() is for compare.py, run_viewer()
-# for stages.py.
+# Texts get a zero byte, or are cut elsewhere than before their first one. Facts are changed so that the condition of a
+# finding's reason no longer holds. run() is for compare.py, run_viewer() for stages.py.
 import copy
 import json
 import re
@@ -10,7 +10,7 @@ import re
 from against import WIDTH
 
 RECORDINGS = ['ff-all.mkv', 'mm-all.mkv', 'mm-ordered.mkv', 'mm-attachments.mkv', 'mm-marks.mkv', 'pe-settings.mkv',
-              'large-mm.mkv']
+              'hand-padded.mkv', 'large-mm.mkv', 'large-ff.mkv']
 
 
 def number_changes(word):
@@ -86,8 +86,11 @@ def answer_changes(word, answer):
         return ['\n'.join(lines[:-2] + ['']), answer.replace(' master ', ' binary ', 1), answer.replace('1', '2', 1)]
     if answer.startswith('refused'):
         return ['refused 14 at 0 table 0', answer.replace(' at 0', ' at 1')]
-    if word in ('payload', 'label'):
-        return [answer[:-2], answer[:-1] + ('0' if answer[-1] != '0' else '1')]
+    if word in ('payload', 'label', 'shown'):
+        # The last byte left out, one more, and another one; before them a range.
+        told = [answer[:-2], answer + '00', answer[:-1] + ('0' if answer[-1] != '0' else '1')]
+        front, _, digits = answer.rpartition(' ')
+        return told + ([change + ' ' + digits for change in word_changes(front)] if word == 'shown' else [])
     if word == 'whose' and ' rows ' in answer:
         # The table behind is compared as a whole.
         front, _, table = answer.partition(' rows ')
@@ -190,6 +193,13 @@ def fact_changes(tools):
     def zero(said):
         [e for e in said.tags.iter('String') if e.text and e.text.startswith('00:')][0].text += '0'
 
+    def tail(label):
+        """mkvinfo shows the first such text of which it shows less than there is as if it ended a letter later."""
+        def change(said):
+            one = [e for e in said.info.segment.below() if e.label == label and len(e.value or '') < e.data][0]
+            one.value = (one.value or '') + 'x'
+        return change
+
     def nested(said):
         atom = [a for a in said.chapters.iter('ChapterAtom') if a.find('ChapterAtom') is not None][0]
         atom.remove(atom.find('ChapterAtom'))
@@ -264,6 +274,9 @@ def fact_changes(tools):
         ('stale', 'hand-stale.mkv', position('Chapters', 0x1043A770)),
         ('cut off', 'hand-cut-end.mkv', inside), ('default', 'mm-all.mkv', child('Sampling frequency', 'Audio track')),
         ('default', 'mm-all.mkv', child('Channels', 'Audio track')), ('zero bytes', 'ff-all.mkv', zero),
+        *[('zero bytes', 'hand-padded.mkv', tail(label)) for label in (
+            'Chapter string', 'Chapter language (IETF BCP 47)', 'Name', 'String', 'Target type', 'Codec ID',
+            'Codec name', 'File name', 'File description', 'MIME type')],
         ('languages', 'mm-all.mkv', language), ('nested', 'mm-all.mkv', nested),
         ('nested', 'mm-all.mkv', nested_simple), ('description', 'mm-all.mkv', child('File description', 'Attached')),
         ('description', 'mm-all.mkv', description), ('ffprobe: editions', 'mm-all.mkv', fewer),
@@ -293,6 +306,18 @@ def fact_changes(tools):
             stream(0, 'width', 63), stream(2, 'language', 'ger'), drop('Interlaced', 'Video track'),
             drop('Codec name', 'Track'), drop('"Lacing" flag', 'Track'), drop('Default duration', 'Track'))],
     ]
+
+
+# Bytes of texts in hand-padded.mkv that are others: the first zero byte is not there, or comes too early.
+ZEROS = [(text, k, byte) for text in (b'ROM\0\0', b'SPL\0ot', b'RAIL\0', b'5 V\0', b'SEASON\0', b'Camera\0',
+                                      b'board.txt\0', b'console\0', b'text/plain\0', b'V_MPEG4/ISO/SP\0', b'fr\0CA')
+         for k, byte in ((text.index(b'\0'), ord('x')), (text.index(b'\0') - 1, 0), (0, 0))]
+
+
+def with_byte(one, at, byte):
+    """A comparison of which the recording has another byte."""
+    one.bytes = one.bytes[:at] + bytes([byte]) + one.bytes[at + 1:]
+    return one
 
 
 def is_made(folder, name):
@@ -357,14 +382,20 @@ def run(folder, asker, run_rows, run_parts, Comparison, tools):
         if not fresh(name, said).all().wrong:
             missed += 1
             print('selftest: %s: not noticed: a changed fact of %s' % (name, reason))
-    # A checksum that is wrong, in the bytes that the comparison has.
+    # A checksum that is wrong, in the bytes that the comparison has; and another zero byte or none in a text.
     broken = fresh('ff-all.mkv', None)
     at = broken.bytes.find(b'\xbf\x84', broken.bytes.find(b'\x16\x54\xae\x6b', 300))
-    broken.bytes = broken.bytes[:at + 2] + bytes([broken.bytes[at + 2] ^ 1]) + broken.bytes[at + 3:]
     facts += 1
-    if not broken.all().wrong:
+    if not with_byte(broken, at + 2, broken.bytes[at + 2] ^ 1).all().wrong:
         missed += 1
         print('selftest: not noticed: a wrong checksum')
+    said = fresh('hand-padded.mkv', None).tools
+    for text, k, byte in ZEROS:
+        one = fresh('hand-padded.mkv', said)
+        facts += 1
+        if not with_byte(one, one.bytes.index(text) + k, byte).all().wrong:
+            missed += 1
+            print('selftest: not noticed: byte %d of %r is %d' % (k, text, byte))
     print('selftest: %d changed answers and %d changed facts, %d not noticed' % (tried, facts, missed))
     return 1 if missed else 0
 
@@ -373,7 +404,7 @@ def run(folder, asker, run_rows, run_parts, Comparison, tools):
 
 # Recordings of which every answer of the viewer is changed: with everything, and the odd ones.
 VIEWED = ['mm-shown.mkv', 'pe-targets.mkv', 'ff-all.mkv', 'mm-picture.mkv', 'mm-no-seek.mkv', 'pe-hidden.mkv',
-          'mm-hidden.mkv', 'hand-stale.mkv', 'hand-cut-end.mkv', 'hand-live.mkv', 'hand-twice.mkv',
+          'mm-hidden.mkv', 'hand-stale.mkv', 'hand-cut-end.mkv', 'hand-live.mkv', 'hand-twice.mkv', 'hand-padded.mkv',
           'killed-mkvmerge.mkv', 'killed-plain.mkv']
 
 
@@ -386,7 +417,8 @@ def value_changes(value):
     if isinstance(value, int):
         return [value + 1, None]
     if isinstance(value, str):
-        return [value + 'x', value[1:]] if value else ['x']
+        # A text that begins or ends a letter too late or too early, or has a zero byte.
+        return sorted({value + 'x', value + '\0', value[1:], value[:-1]} - {value})
     if isinstance(value, list):
         return ([value[:-1]] if value else []) + ([value[1::-1] + value[2:]] if len(value) > 1 else [])
     # An object that is not there.
@@ -406,15 +438,35 @@ def json_changes(value, where=''):
         yield where, {**value, 'more': None}
 
 
+def text_changes(value, data, where=''):
+    """The same JSON with one text that has zero bytes in the recording cut elsewhere, for each such text: not at all,
+    at its end alone, behind the first zero byte, and before the last; or with the zero bytes alone left out."""
+    if isinstance(value, dict) and isinstance(value.get('value'), str):
+        payload = data[value['at']:value['at'] + value['length']]
+        first = payload.find(b'\0')
+        others = [payload, payload.rstrip(b'\0'), payload[:first + 1], payload[:payload.rfind(b'\0')],
+                  payload.replace(b'\0', b'')] if first >= 0 else []
+        for text in sorted({other.decode('utf-8') for other in others} - {value['value']}):
+            yield where, {**value, 'value': text}
+    inner = value.items() if isinstance(value, dict) else enumerate(value) if isinstance(value, list) else []
+    for key, member in inner:
+        for place, change in text_changes(member, data, '%s/%s' % (where, key)):
+            other = copy.copy(value)
+            other[key] = change
+            yield place, other
+
+
 def line_changes(text):
-    """Lines swapped, left out, told twice, set in by two spaces more or less, without a mark, or with another number.
-    A number in the name of an element is left alone: the tools have other names."""
+    """Lines swapped, left out, told twice, set in by two spaces more or less, without a mark, with another number, or
+    with a zero byte at the end of a text. A number in the name of an element is left alone: the tools have other
+    names."""
     lines = text.split('\n')
     for k, line in enumerate(lines[:-1]):
         others = [[], [line, line], ['  ' + line]] + ([[line[2:]]] if line.startswith('  ') else [])
         others += [[line.replace(mark, '', 1)] for mark in (' hidden', ' disabled', ' default', ': the entry is stale')
                    if mark in line]
-        others += [[line + mark] for mark in (' hidden', ' disabled')]
+        others += [[line + mark] for mark in (' hidden', ' disabled', '\\x00', '\0')]
+        others += [[line[:m.start()] + '\\x00' + line[m.start():]] for m in re.finditer('"', line)]
         others += [[line[:m.start()] + str(int(m.group()) + 1) + line[m.end():]]
                    for m in re.finditer(r'(?<![A-Za-z0-9-])\d+', line)]
         others += [[line.replace(old, new, 1)] for old, new in
@@ -436,8 +488,9 @@ def error_changes(text):
             yield '\n'.join(lines[:k] + [line[:m.start()] + str(int(m.group()) + 1) + line[m.end():]] + lines[k + 1:])
 
 
-def viewer_changes(words, answer):
-    """What is changed, in words, and the changed answer: status, standard output and standard error."""
+def viewer_changes(words, answer, data):
+    """What is changed, in words, and the changed answer: status, standard output and standard error. `data` is the
+    recording."""
     status, out, err = answer
     yield 'status', (1 - status, out, err)
     yield from (('standard error as ' + change, (status, out, change)) for change in error_changes(err))
@@ -445,7 +498,9 @@ def viewer_changes(words, answer):
         yield 'cut short', (status, out[:-3], err)
         yield 'a key twice', (status, out.replace('"level": 0', '"level": 0, "level": 0', 1)
                               if '"level": 0' in out else out.replace('{', '{"length": 0, ', 1), err)
-        yield from ((place, (status, json.dumps(change), err)) for place, change in json_changes(json.loads(out)))
+        told = json.loads(out)
+        for place, change in (*json_changes(told), *text_changes(told, data)):
+            yield place, (status, json.dumps(change), err)
     else:
         yield from (('as ' + change, (status, change, err)) for change in line_changes(out))
 
@@ -521,6 +576,15 @@ def viewer_facts(tools):
 
     out = [('a name', 'mm-shown.mkv', chapter('ChapterString', 'x')),
            ('a nested name', 'mm-shown.mkv', chapter('ChapterString', 'x', 1)),
+           *[('a name before zero bytes', 'hand-padded.mkv', chapter('ChapterString', text, k)) for k, text in
+             ((0, 'ROM\0'), (0, 'RO'), (2, 'SPLot 2023.10'), (4, 'gone'), (5, 'a name'), (6, 'the first'),
+              (8, 'll but the first letter'))],
+           *[('a text before zero bytes', 'hand-padded.mkv', tag(name, text)) for name, text in
+             (('Name', 'RAIL_'), ('String', '5 V at J4'), ('TargetType', 'SEASONS'), ('TagLanguageIETF', 'es-MX'))],
+           *[('a text before zero bytes', 'hand-padded.mkv', track(name, text)) for name, text in
+             (('track_name', 'Camera over'), ('codec_id', 'V_MPEG4/ISO/SP\0'))],
+           *[('a text before zero bytes', 'hand-padded.mkv', file(name, text)) for name, text in
+             (('file_name', 'nameless.txt'), ('content_type', 'text/x-log'), ('description', 'soon'))],
            ('a start', 'mm-shown.mkv', chapter('ChapterTimeStart', '00:00:00.600000001')),
            ('an end', 'mm-shown.mkv', chapter('ChapterTimeEnd', '00:00:00.900000001')),
            ('a uid', 'mm-shown.mkv', chapter('ChapterUID', '1')),
@@ -560,8 +624,8 @@ def viewer_facts(tools):
             ('written twice', 'hand-twice.mkv', same_twice),
             ('rows', 'large-over.mkv', small_part),
             ('unfilled', 'gst-killed.mkv', filled),
-            ('zero bytes', 'ff-all.mkv', lambda said: setattr([e for e in said.tags.iter('String') if (e.text or '')
-                                                               .startswith('00:')][0], 'text', '00:00')),
+            ('a text before zero bytes', 'ff-all.mkv', lambda said: setattr([
+                e for e in said.tags.iter('String') if (e.text or '').startswith('00:')][0], 'text', '00:00')),
             ('languages', 'mm-shown.mkv', chapter('ChapLanguageIETF', 'fr', -1)),
             ('description', 'mm-shown.mkv', file('description', 'x')),
             ('default', 'pe-settings.mkv', track('language', 'ger')),
@@ -595,7 +659,7 @@ def run_viewer(folder, view, Viewed, tools):
             return 1
         count = 0
         for words, answer in seen.items():
-            for what, change in viewer_changes(words, answer):
+            for what, change in viewer_changes(words, answer, plain.bytes):
                 one = fresh(name)
                 one.change = lambda asked, said: change if asked == words else said
                 count += 1
@@ -618,5 +682,11 @@ def run_viewer(folder, view, Viewed, tools):
         if not noticed(fresh(name, said)):
             missed += 1
             print('selftest: %s: not noticed: a changed fact on %s' % (name, reason))
+    for text, k, byte in ZEROS:
+        one = fresh('hand-padded.mkv')
+        facts += 1
+        if not noticed(with_byte(one, one.bytes.index(text) + k, byte)):
+            missed += 1
+            print('selftest: not noticed: byte %d of %r is %d' % (k, text, byte))
     print('selftest: %d changed answers of the viewer and %d changed facts, %d not noticed' % (tried, facts, missed))
     return 1 if missed else 0
