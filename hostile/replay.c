@@ -104,23 +104,22 @@ static void told_place(uz_place said, lent in) {
     tell_rows(said.rows, in);
 }
 
-static void told_range(uint64_t row, uz_range said) {
+static void tell_range(const char *call, uint64_t row, uz_range said) {
     if (!telling)
         return;
     if (said.refused != UZ_ACCEPTED)
-        printf("payload %" PRIu64 ": refused %" PRIu64 "\n", row, said.refused);
+        printf("%s %" PRIu64 ": refused %" PRIu64 "\n", call, row, said.refused);
     else
-        printf("payload %" PRIu64 ": at %" PRIu64 " length %" PRIu64 "\n", row, said.at,
+        printf("%s %" PRIu64 ": at %" PRIu64 " length %" PRIu64 "\n", call, row, said.at,
                said.length);
 }
 
+static void told_range(uint64_t row, uz_range said) {
+    tell_range("payload", row, said);
+}
+
 static void told_text(uint64_t row, uz_range said) {
-    if (!telling)
-        return;
-    if (said.refused != UZ_ACCEPTED)
-        printf("text %" PRIu64 ": refused %" PRIu64 "\n", row, said.refused);
-    else
-        printf("text %" PRIu64 ": at %" PRIu64 " length %" PRIu64 "\n", row, said.at, said.length);
+    tell_range("text", row, said);
 }
 
 // ---- Files ----

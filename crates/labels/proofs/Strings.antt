@@ -1,5 +1,5 @@
--- A display's string comes from a text row, whose shown text is the label (`StageIsShown`, `FirstIsShown`). Assumes
--- nothing.
+-- A display's string comes from a text row, and the label goes by the row's shown text (`StageIsShown`,
+-- `FirstIsShown`). Assumes nothing.
 use Prim.Native.Nat.{ℕ, _+_, _-_, _*_, _<_}
 use mathlib.Core.Path.{_≡_, refl, sym, ap, ap₂, _∙_, subst}
 use mathlib.Core.List.{List}
