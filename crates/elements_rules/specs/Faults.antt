@@ -41,6 +41,8 @@ pub data Errand : Type 0 where
   -- To read an element: with so many rows in the table, under a parent id, at a depth, with so many rows taken, and so
   -- many bytes left in its master.
   toElement : Mode → (cap parent depth rows left : ℕ) → Errand
+  -- To tell whether an element of that parent id and depth holds an address, with so many bytes left in its master.
+  toOwner : (parent depth left : ℕ) → Errand
   -- To go over a child of the segment, with so many bytes left there, unless its id is one of these.
   toPass : (stops : List ℕ) (left : ℕ) → Errand
   -- To find an element of that id at the address that an entry names.
@@ -63,6 +65,8 @@ pub data NoHeader (s : List ℕ) (at : ℕ) (c : Cause) : Errand → Type 0 wher
   headerOfElement :
       (mode : Mode) (cap parent depth rows left : ℕ) → elementHeader s at ≡ refusedHeader c
       → NoHeader s at c (toElement mode cap parent depth rows left)
+  headerAsked :
+      (parent depth left : ℕ) → elementHeader s at ≡ refusedHeader c → NoHeader s at c (toOwner parent depth left)
   headerPassed :
       (stops : List ℕ) (left : ℕ) → elementHeader s at ≡ refusedHeader c → NoHeader s at c (toPass stops left)
   headerFound : (id : ℕ) → elementHeader s at ≡ refusedHeader c → NoHeader s at c (toFind id)
@@ -78,12 +82,16 @@ pub data NoBody (s : List ℕ) (at : ℕ) (c : Cause) : Errand → Type 0 where
       (id parent from size : ℕ) → bodyOf s from size (kindUnder id parent) ≡ refusedBody c
       → NoBody s at c (toBody id parent from size at)
 
--- It is larger than what was left: an element that was read whole, or a child that is passed over.
+-- It is larger than what was left: an element that was read whole, one that may hold an address and is not too deep,
+-- or a child that is passed over.
 pub data Larger (s : List ℕ) (at : ℕ) : Errand → Type 0 where
   largerElement :
       (mode : Mode) (cap parent depth rows left : ℕ) (f : Forest)
       → element s mode cap (depths - depth) parent at rows ≡ done f → left < span f
       → Larger s at (toElement mode cap parent depth rows left)
+  largerAsked :
+      (parent depth left : ℕ) → depth < depths → Standing s at (λ h. left < h .length + h .size)
+      → Larger s at (toOwner parent depth left)
   largerPassed :
       (stops : List ℕ) (left : ℕ)
       → Standing s at (λ h. (member (h .id) stops ≡ false) × (left < h .length + h .size))
@@ -94,6 +102,7 @@ pub data Deeper (s : List ℕ) (at : ℕ) : Errand → Type 0 where
   deeperElement :
       (mode : Mode) (cap parent rows left : ℕ) → Standing s at (λ h. Unit)
       → Deeper s at (toElement mode cap parent depths rows left)
+  deeperAsked : (parent left : ℕ) → Standing s at (λ h. Unit) → Deeper s at (toOwner parent depths left)
 
 -- It finds the table full, and is not too deep.
 pub data Full (s : List ℕ) (at : ℕ) : Errand → Type 0 where

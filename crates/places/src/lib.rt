@@ -3,4 +3,5 @@
 // The public call is `whose_byte`.
 mod whose;
 
+pub use whose::is_within;
 pub use whose::whose_byte;

@@ -19,7 +19,7 @@ use rowstore::is_allowed;
 use rowstore::row_at;
 
 // Whether the address is one of `size` bytes from `start` on; start plus size may pass 2^64.
-fn is_within(start: u64, size: u64, address: u64) -> bool
+pub fn is_within(start: u64, size: u64, address: u64) -> bool
     ensures { λ r. ⌜ r ≡ within start size address ⌝ }
 {
     if address < start {

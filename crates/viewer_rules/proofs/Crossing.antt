@@ -6,11 +6,14 @@ use Rattle.places_rules.specs.Promise.{RangePromise, WhosePromise, rangeTold}
 use Rattle.places_rules.specs.Promise.{whoseTold}
 use Rattle.places_rules.specs.declared.payload.RangeReply.{RangeReply}
 use Rattle.places_rules.specs.declared.whose.WhoseReply.{WhoseReply}
+use Rattle.owner_rules.specs.Promise.{OwnerPromise, ChainPromise}
+use Rattle.owner_rules.specs.declared.owner.OwnerReply.{OwnerReply}
 use Rattle.search_rules.specs.Part.{PartPromise, partTold}
 use Rattle.search_rules.specs.declared.part.PartReply.{PartReply}
 use Rattle.shown_rules.specs.Promise.{TextPromise}
-use Rattle.viewer_rules.specs.Faces.{partFace, rangeFace, placeFace}
+use Rattle.viewer_rules.specs.Faces.{partFace, rangeFace, placeFace, ownedFace}
 use Rattle.viewer_rules.specs.Promise.{UzPartPromise, UzRangePromise, UzTextPromise, UzPlacePromise}
+use Rattle.viewer_rules.specs.Promise.{UzOwnerPromise, UzChainPromise}
 
 pub part-crosses :
     (s : List ℕ) (part : ℕ) (t : List ℕ) (r : PartReply) (t′ : List ℕ)
@@ -32,3 +35,13 @@ pub place-crosses :
     → WhosePromise s start size parent x t r t′ → UzPlacePromise s start size parent x t
     (placeFace (whoseTold r)) t′
 place-crosses s start size parent x t r t′ p = record { reply = ap placeFace (p .reply); table = p .table }
+
+pub owner-crosses :
+    (s : List ℕ) (start size parent x : ℕ) (r : OwnerReply)
+    → OwnerPromise s start size parent x r → UzOwnerPromise s start size parent x (ownedFace r)
+owner-crosses s start size parent x r p = record { reply = ap ownedFace (p .reply) }
+
+pub chain-crosses :
+    (s : List ℕ) (start size parent x : ℕ) (t : List ℕ) (r : OwnerReply) (t′ : List ℕ)
+    → ChainPromise s start size parent x t r t′ → UzChainPromise s start size parent x t (ownedFace r) t′
+chain-crosses s start size parent x t r t′ p = record { reply = ap ownedFace (p .reply); links = p .links }

@@ -4,7 +4,10 @@ use Rattle.refusals.specs.Causes.{causeNumber, causeId}
 use Rattle.refusals.specs.Reply.{Reply, accepted, refusal}
 use Rattle.bodies_rules.specs.declared.body.Range.{Range}
 use Rattle.places_rules.specs.Whose.{Whose, byHeader, byPayload}
+use Rattle.owner_rules.specs.declared.owner.OwnerReply.{OwnerReply}
+use Rattle.owner_rules.specs.declared.owner.OwnerReply.the-variants.{Header, Payload, Refused}
 use Rattle.search_rules.specs.Part.{PartTold, foundPart, absentPart}
+use Rattle.viewer_rules.specs.declared.owned.UzOwned.{UzOwned}
 use Rattle.viewer_rules.specs.declared.part.UzPart.{UzPart}
 use Rattle.viewer_rules.specs.declared.range.UzRange.{UzRange}
 use Rattle.viewer_rules.specs.declared.whose.UzPlace.{UzPlace}
@@ -37,3 +40,11 @@ placeFace (accepted (byPayload row rows)) =
     record { refused = 0; «refused_at» = 0; row = row; «in_payload» = 1; rows = rows }
 placeFace (refusal e) =
     record { refused = causeNumber (e .cause); «refused_at» = e .address; row = 0; «in_payload» = 0; rows = 0 }
+
+abbrev pub ownedFace : OwnerReply → UzOwned
+ownedFace (Header address depth) =
+    record { refused = 0; «refused_at» = 0; at = address; «in_payload» = 0; depth = depth }
+ownedFace (Payload address depth) =
+    record { refused = 0; «refused_at» = 0; at = address; «in_payload» = 1; depth = depth }
+ownedFace (Refused e) =
+    record { refused = causeNumber (e .cause); «refused_at» = e .address; at = 0; «in_payload» = 0; depth = 0 }

@@ -8,9 +8,12 @@ use Rattle.elements_rules.specs.Promise.{tableOf as readTable}
 use Rattle.places_rules.specs.Payload.{payloadRange}
 use Rattle.places_rules.specs.Promise.{valuesOf}
 use Rattle.places_rules.specs.Whose.{askedOf, whoseOf}
+use Rattle.owner_rules.specs.Owner.{ownerOf, chainOf}
+use Rattle.owner_rules.specs.Promise.{ownerTold, linksOf}
 use Rattle.search_rules.specs.Part.{searchOf, replyOf, tableOf}
 use Rattle.shown_rules.specs.Shown.{textRange}
-use Rattle.viewer_rules.specs.Faces.{partFace, rangeFace, placeFace}
+use Rattle.viewer_rules.specs.Faces.{partFace, rangeFace, placeFace, ownedFace}
+use Rattle.viewer_rules.specs.declared.owned.UzOwned.{UzOwned}
 use Rattle.viewer_rules.specs.declared.part.UzPart.{UzPart}
 use Rattle.viewer_rules.specs.declared.range.UzRange.{UzRange}
 use Rattle.viewer_rules.specs.declared.whose.UzPlace.{UzPlace}
@@ -29,3 +32,11 @@ pub record UzPlacePromise
     (s : List ℕ) (start size parent x : ℕ) (t : List ℕ) (r : UzPlace) (t′ : List ℕ) : Type 0 where
   pub reply : r ≡ placeFace (whoseOf start x (askedOf s start size parent x (length t)))
   pub table : t′ ≡ readTable start (length t) (askedOf s start size parent x (length t))
+
+pub record UzOwnerPromise (s : List ℕ) (start size parent x : ℕ) (r : UzOwned) : Type 0 where
+  pub reply : r ≡ ownedFace (ownerTold (ownerOf s start size parent x))
+
+pub record UzChainPromise
+    (s : List ℕ) (start size parent x : ℕ) (t : List ℕ) (r : UzOwned) (t′ : List ℕ) : Type 0 where
+  pub reply : r ≡ ownedFace (ownerTold (chainOf s start size parent x (length t)))
+  pub links : t′ ≡ linksOf (length t) (chainOf s start size parent x (length t))

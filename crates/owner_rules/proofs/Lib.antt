@@ -1,0 +1,7 @@
+-- Proofs about the definitions of `owner`: its laws at one header, and its theorems.
+pub mod Cases
+pub mod Steps
+pub mod Links
+pub mod Walking
+pub mod Asked
+pub mod Turns

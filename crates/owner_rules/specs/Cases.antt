@@ -1,0 +1,58 @@
+-- Worked questions and their replies, as one table: those that document 02, C-16, turns on.
+use Prim.Native.Nat.{ℕ, zero, suc, _+_, _^_, _-_}
+use mathlib.Core.Path.{_≡_}
+use mathlib.Core.List.{List, [], _∷_}
+use Rattle.refusals.specs.Reply.{ByNumber, given, refused, byNumber}
+use Rattle.owner_rules.specs.Owner.{Owned, Part, header, payload, ownerOf}
+
+-- The bytes, start, size and parent of a payload in them, an address, and the reply.
+pub data Case : Type 0 where
+  case : List ℕ → (start size parent x : ℕ) → ByNumber Owned → Case
+
+-- Every case of a table holds.
+abbrev pub Hold : List Case → Type 0
+Hold [] = Unit
+Hold (case s start size parent x reply ∷ cases) = (byNumber (ownerOf s start size parent x) ≡ reply) × Hold cases
+
+abbrev is : Part → (address : ℕ) → List ℕ → ByNumber Owned
+is part address masters = given (record { part = part; address = address; masters = masters })
+
+-- A refusal's number and address.
+abbrev breaks : (number address : ℕ) → ByNumber Owned
+breaks number address = refused number 0 address
+
+-- So many masters, each in the one before, the innermost around bytes; n is how many these are.
+abbrev nested : (count n : ℕ) → List ℕ → List ℕ
+nested zero n s = s
+nested (suc count) n s = nested count (n + 2) (0xB6 ∷ (0x80 + n) ∷ s)
+
+abbrev pub cases : List Case
+cases =
+    -- 3 for an element that passes its master's end, before the address is looked for
+    case (0xEC ∷ 0x82 ∷ 0x00 ∷ []) 0 2 0 0 (breaks 3 0)
+    ∷ case (0xA0 ∷ 0x83 ∷ 0x0F ∷ 0x80 ∷ 0xEC ∷ []) 0 4 0 2 (breaks 3 0)
+    -- no body is looked at, and its bytes need not exist
+    ∷ case (0x45 ∷ 0xA3 ∷ 0x81 ∷ 0xFF ∷ []) 0 4 0 3 (is payload 0 [])
+    ∷ case (0xEC ∷ 0x84 ∷ 0x00 ∷ []) 0 6 0 5 (is payload 0 [])
+    -- it stops at the address
+    ∷ case (0xEC ∷ 0x80 ∷ 0x00 ∷ []) 0 3 0 0 (is header 0 [])
+    ∷ case (0xEC ∷ 0x80 ∷ 0x00 ∷ []) 0 3 0 2 (breaks 1 2)
+    -- a header that is refused
+    ∷ case (0xEC ∷ 0x80 ∷ 0x0F ∷ 0x80 ∷ []) 0 4 0 3 (breaks 2 2)
+    ∷ case (0xEC ∷ 0x00 ∷ 0x01 ∷ []) 0 3 0 0 (breaks 3 0)
+    -- a byte of a tag's name, in the tag, from the file's start on; and one past the last element
+    ∷ case (0x67 ∷ 0xC8 ∷ 0x84 ∷ 0x45 ∷ 0xA3 ∷ 0x81 ∷ 0x41 ∷ []) 0 (2 ^ 64 - 1) 0 6 (is payload 3 (0 ∷ []))
+    ∷ case (0x67 ∷ 0xC8 ∷ 0x84 ∷ 0x45 ∷ 0xA3 ∷ 0x81 ∷ 0x41 ∷ []) 0 (2 ^ 64 - 1) 0 7 (breaks 1 7)
+    -- the small set of a parent: below Tracks E0 is no master
+    ∷ case (0xE0 ∷ 0x82 ∷ 0xEC ∷ 0x80 ∷ []) 0 4 0x1654AE6B 2 (is payload 0 [])
+    ∷ case (0xE0 ∷ 0x82 ∷ 0xEC ∷ 0x80 ∷ []) 0 4 0xAE 2 (is header 2 (0 ∷ []))
+    -- depth 15 holds an address, depth 16 is refused
+    ∷ case (nested 15 2 (0xEC ∷ 0x80 ∷ [])) 0 32 0 31
+    (is header 30 (0 ∷ 2 ∷ 4 ∷ 6 ∷ 8 ∷ 10 ∷ 12 ∷ 14 ∷ 16 ∷ 18 ∷ 20 ∷ 22 ∷ 24 ∷ 26 ∷ 28 ∷ []))
+    ∷ case (nested 16 2 (0xEC ∷ 0x80 ∷ [])) 0 34 0 33 (breaks 12 32)
+    ∷ case (nested 16 2 (0xEC ∷ 0x80 ∷ [])) 0 34 0 31 (is header 30
+    (0 ∷ 2 ∷ 4 ∷ 6 ∷ 8 ∷ 10 ∷ 12 ∷ 14 ∷ 16 ∷ 18 ∷ 20 ∷ 22 ∷ 24 ∷ 26 ∷ 28 ∷ []))
+    -- 14, then 15
+    ∷ case (0xEC ∷ 0x80 ∷ []) 3 1 0 0 (breaks 14 0)
+    ∷ case (0xEC ∷ 0x80 ∷ []) 2 1 0 0 (breaks 15 0)
+    ∷ []

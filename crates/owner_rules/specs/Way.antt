@@ -1,0 +1,65 @@
+-- How the question comes to an element, and when that holds the address: the relation that the theorems on `owner` go
+-- by (document 02, C-16).
+use Prim.Native.Nat.{ℕ, _+_, _-_, _≤_, _<_}
+use mathlib.Core.Path.{_≡_}
+use mathlib.Core.List.{List, [], _∷_}
+use mathlib.Core.Bool.{true}
+use lib.ListN.{length}
+use Rattle.refusals.specs.declared.refusal.Refusal.{Refusal}
+use Rattle.header.specs.Header.{heading}
+use Rattle.header.specs.declared.cursor.Header.{Header}
+use Rattle.kinds.specs.Kinds.{numberOf, kindUnder}
+use Rattle.elements_rules.specs.Reading.{elementHeader, depths}
+use Rattle.elements_rules.specs.Holds.{within}
+use Rattle.elements_rules.specs.Promise.{allowed}
+use Rattle.elements_rules.specs.Faults.{Errand, toOwner, Honest}
+use Rattle.owner_rules.specs.Owner.{Part, header, payload, Owned, taken}
+
+abbrev pub IsMaster : Header → (parent : ℕ) → Type 0
+IsMaster h parent = numberOf (kindUnder (h .id) parent) ≡ 1
+
+-- The way to an element, from the elements at a place that have that depth, that parent id and so many bytes left. What
+-- it went past ends at the address or before it; what it went into is a master whose payload holds the address. Each of
+-- these has a header, is not too deep, and is not larger than what was left. `masters` are those that it went into.
+pub data Way (s : List ℕ) (x : ℕ) : (depth parent at left : ℕ) → (masters : List ℕ) → ℕ → Errand → Type 0 where
+  here : (depth parent at left : ℕ) → Way s x depth parent at left [] at (toOwner parent depth left)
+  past :
+      (depth parent at left : ℕ) (masters : List ℕ) (a : ℕ) (e : Errand) (h : Header)
+      → elementHeader s at ≡ heading h → depth < depths → taken h ≤ left → at + taken h ≤ x
+      → Way s x depth parent (at + taken h) (left - taken h) masters a e
+      → Way s x depth parent at left masters a e
+  into :
+      (depth parent at left : ℕ) (masters : List ℕ) (a : ℕ) (e : Errand) (h : Header)
+      → elementHeader s at ≡ heading h → depth < depths → taken h ≤ left
+      → at + h .length ≤ x → x < at + taken h → IsMaster h parent
+      → Way s x (depth + 1) (h .id) (at + h .length) (h .size) masters a e
+      → Way s x depth parent at left (at ∷ masters) a e
+
+-- An element under a parent id, with its header at an address, holds x by that part: its header, or its payload if it
+-- is no master there.
+abbrev pub Holds : Part → (parent at : ℕ) → Header → (x : ℕ) → Type 0
+Holds header parent at h x = (at ≤ x) × (x < at + h .length)
+Holds payload parent at h x = (at + h .length ≤ x) × (x < at + taken h) × (IsMaster h parent → ⊥)
+
+-- It holds the address, and the way leads there: a header stands at the address that is named, under the chain of
+-- masters that is named, not too deep and not larger than what was left.
+pub record OwnedBy (s : List ℕ) (start size parent x : ℕ) (o : Owned) : Type 0 where
+  pub arguments : allowed s start 0 ≡ true
+  pub inside : within start size x ≡ true
+  -- Its parent id, and what its master had left.
+  pub under : ℕ
+  pub left : ℕ
+  pub way : Way s x 0 parent start size (o .masters) (o .address) (toOwner under (length (o .masters)) left)
+  pub low : length (o .masters) < depths
+  pub head : Header
+  pub stands : elementHeader s (o .address) ≡ heading head
+  pub fits : taken head ≤ left
+  pub holds : Holds (o .part) under (o .address) head x
+
+-- What the question comes to, from the payload that the caller named.
+abbrev pub Comes : List ℕ → (start size parent x : ℕ) → ℕ → Errand → Type 0
+Comes s start size parent x a e = (masters : List ℕ) × Way s x 0 parent start size masters a e
+
+-- A refusal of the question.
+abbrev pub HonestOwner : List ℕ → (start size parent x : ℕ) → Refusal → Type 0
+HonestOwner s start size parent x e = Honest s (Comes s start size parent x) e
