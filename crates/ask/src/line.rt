@@ -4,6 +4,7 @@ ghost use lib.ListN.{length};
 use crate::ask_body::body;
 use crate::ask_header::header;
 use crate::ask_kind::kind;
+use crate::ask_owner::owner;
 use crate::ask_part::part;
 use crate::ask_payload::payload;
 use crate::ask_range::range;
@@ -29,9 +30,12 @@ const SHOWN: usize = 19;
 
 const LABEL: usize = 20;
 
+// The question behind those of records, texts and labels.
+const OWNER: usize = 21;
+
 // The answer to a line, and its line feed. The list has for each question its name, its form
 // (crates/questions/src/asked.rt has the letters), and the words that its answer may have. Its order is that of the
-// numbers in `base`, and from `attachment` on in crates/replies/src/records.rt.
+// numbers in `base`, and from `attachment` to `shown` in crates/replies/src/records.rt.
 pub fn answer(
     line: &[u8],
     recording: &mut [u8; 65536],
@@ -62,7 +66,8 @@ pub fn answer(
         hearing visual text original commentary lacing duration name language codec private codecname settings none \
         rate channels depth width height dwidth dheight interlaced stereo gamma\n\
         shown asptrb text\n\
-        label gwb label\n";
+        label gwb label\n\
+        owner aspdb header payload\n";
     let n = put_answer(list, line, recording, table, out, held);
     out::put(out, n, b"\n")
 }
@@ -153,6 +158,7 @@ fn base(question: usize, asked: Asked, recording: &[u8], table: &mut [u64]) -> T
         6 => part(asked, recording, table),
         7 => payload(asked, recording, table),
         8 => range(asked, recording, table),
+        OWNER => owner(asked, recording),
         _ => record(question, asked, recording, table),
     }
 }
