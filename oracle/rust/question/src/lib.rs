@@ -163,6 +163,13 @@ pub enum Question {
         payload: Payload,
         k: u64,
     },
+    Owner {
+        start: u64,
+        size: u64,
+        parent: u32,
+        address: u64,
+        bytes: Vec<u8>,
+    },
 }
 
 /// Takes a line apart, its line feed already removed. `None`: a bad question.
@@ -279,6 +286,13 @@ pub fn parse(line: &[u8]) -> Option<Question> {
         (b"track", 6) => Question::Track {
             k: number(w[4])?,
             payload: payload(w)?,
+        },
+        (b"owner", 6) => Question::Owner {
+            start: number(w[1])?,
+            size: number(w[2])?,
+            parent: id(w[3])?,
+            address: number(w[4])?,
+            bytes: bytes(w[5])?,
         },
         _ => return None,
     })

@@ -1,6 +1,7 @@
 //! Judges answers: ours against the oracle's, a stored list, the worked cases.
 
 mod files;
+mod owner;
 mod part;
 mod reading;
 mod records;

@@ -45,7 +45,7 @@ pub const CRATE: Terms = Terms {
 pub const MOST_AT_ONCE: u64 = 1 << 32;
 
 /// The depth of the first row that is too deep.
-const TOO_DEEP: u64 = 16;
+pub const TOO_DEEP: u64 = 16;
 
 /// How a reading ends that is not accepted.
 #[derive(Clone, Copy, PartialEq)]

@@ -20,14 +20,13 @@ pub fn due(question: &Question) -> Option<Due> {
             let told = track_type(*number);
             Some(told_by(told, told, None))
         }
-        // The port adds this question, and the crate has no answer to it.
         Question::Label {
             range,
             label,
             bytes,
         } => {
             let told = stage_label(*range, label, bytes);
-            Some(told_by(&told, "no answer", Some("added")))
+            Some(added(&told))
         }
         _ => {
             let (payload, parent) = payload_of(question)?;
@@ -51,6 +50,11 @@ pub fn due(question: &Question) -> Option<Due> {
             Some(told_by(&ours, &theirs, exception))
         }
     }
+}
+
+/// Our answer to a question that the port adds, which the crate has no answer to.
+pub fn added(ours: &str) -> Due {
+    told_by(ours, "no answer", Some("added"))
 }
 
 /// Whether two answers tell the same track but for the five marks, of which ours are

@@ -4,7 +4,7 @@
 use crate::reading::MOST_AT_ONCE;
 use crate::refusal::{parted, plain};
 use crate::table::{Due, NOWHERE};
-use crate::{part, records, table};
+use crate::{owner, part, records, table};
 use question::{parse, Question};
 
 /// A question with the answers of ours and of the two builds of the oracle.
@@ -62,7 +62,8 @@ pub const NAMES: [&str; 12] = [
 
 /// Those of a header or body question, each with its rule. The element table and
 /// the records have the first five, and the search the first nine. Of the last three the
-/// label has the first, and a track and shown text have theirs beside the first five.
+/// label and the owner of an address have the first, and a track and shown text have theirs
+/// beside the first five.
 /// There the judge's own reading says what is due.
 const RULES: [(&str, Rule); 3] = [
     ("argument", argument),
@@ -209,12 +210,13 @@ fn equality(case: &Case) -> Verdict {
     }
 }
 
-/// The answers due to a question about the element table, the search or a record;
-/// `None` for any other.
+/// The answers due to a question about the element table, the search, a record or the
+/// owner of an address; `None` for any other.
 pub fn due(question: &Question) -> Option<Due> {
     table::due(question)
         .or_else(|| part::due(question))
         .or_else(|| records::due(question))
+        .or_else(|| owner::due(question))
 }
 
 /// There every answer is known beforehand, ours with the address of a refusal. A crate that
