@@ -13,6 +13,7 @@ mod header;
 mod kind;
 mod label;
 mod list;
+mod owner;
 mod part;
 mod payload;
 mod random;
@@ -35,7 +36,7 @@ use std::io::{self, BufWriter, Write};
 type Kind = fn(seed: u64, j: u64, random: &mut Random) -> Vec<u8>;
 
 /// The kinds that can be asked for, by their word.
-const KINDS: [(&str, Kind); 21] = [
+const KINDS: [(&str, Kind); 22] = [
     ("header", header::question),
     ("kind", kind::question),
     ("utf8", utf8::question),
@@ -57,17 +58,19 @@ const KINDS: [(&str, Kind); 21] = [
     ("label", label::label),
     ("shown", shown::question),
     ("track", record::track),
+    ("owner", owner::question),
 ];
 
 /// The kinds that have a whole list; the records and what goes with them have one, but
 /// for the tracks.
-const WHOLE: [(&str, List); 6] = [
+const WHOLE: [(&str, List); 7] = [
     ("kind", kind::WHOLE),
     ("utf8", utf8::WHOLE),
     ("read", read::WHOLE),
     ("part", part::WHOLE),
     ("record", record::WHOLE),
     ("track", track::WHOLE),
+    ("owner", owner::WHOLE),
 ];
 
 fn main() {

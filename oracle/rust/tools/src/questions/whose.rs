@@ -36,7 +36,7 @@ pub fn question(_seed: u64, j: u64, random: &mut Random) -> Vec<u8> {
 }
 
 /// An address: mostly an end of a header or payload, or one byte further.
-fn address(asked: &Asked, random: &mut Random) -> u64 {
+pub fn address(asked: &Asked, random: &mut Random) -> u64 {
     let end = asked.start.wrapping_add(asked.size);
     if !asked.spots.is_empty() && !random.once_in(8) {
         let spot = random.one_of(&asked.spots);
