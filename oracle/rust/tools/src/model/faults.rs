@@ -248,6 +248,89 @@ at-eleven-first: 11 carries the first head's address
 at-eleven-nothing: 11 carries 0 where nothing is at the address
 ";
 
+/// Those of the address question without a table.
+pub const OWNER: &str = "\
+owner-end-plus: an element holds the first byte behind it
+owner-end-minus: an element does not hold the last byte of its payload
+owner-end-wraps: the end of the payload wraps at 2^64
+owner-end-held: the payload ends where the recording ends
+owner-header-short: the last byte of a header belongs to the payload
+owner-header-id: the bytes of a size belong to the payload
+owner-overrun-header: an address in a header is told before the overrun
+owner-overrun-body: an address in a payload is told before the overrun
+owner-overrun-leaf: a leaf may overrun its master
+owner-overrun-master: a master may overrun its own
+owner-overrun-late: 3 for a master is given after what is in it
+owner-overrun-size: the header does not count for an overrun
+owner-overrun-full: an element that fills what is left is an overrun
+owner-depth-never: 12 is not given
+owner-depth-first: 12 is given before the header
+owner-depth-late: 12 is given after 3 for an overrun
+owner-depth-leaf: 12 is given for a master alone
+owner-depth-held: 12 is given for the element that holds the address alone
+owner-into-leaf: a leaf is gone into
+owner-into-binary: bytes are gone into
+owner-body-there: the payload that holds the address has to exist
+owner-byte-there: the byte at the address has to exist
+owner-body-sized: 4, 5 and 6 are given for the payload that holds the address
+owner-body-text: 7 is given for the payload that holds the address
+owner-skipped-there: the bytes of an element before the address have to exist
+owner-skipped-body: a leaf before the address is checked
+owner-skipped-master: a master before the address is read
+owner-reads-on: what stands behind the address is read
+owner-full: the whole payload has to be accepted
+owner-rows: 13 is given for the 4,097th header
+owner-ones: a size of all ones is refused
+owner-at-body: a payload is told by its own address
+owner-at-master: the master's address is told
+owner-at-relative: an address is told from the start of the payload
+owner-at-row: how many headers came before is told
+owner-table: a refusal tells of a table
+";
+
+/// Those of the element table that a reader without one could have too.
+pub const SHARED_TABLE: [&str; 39] = [
+    "overrun-never",
+    "overrun-outer",
+    "depth-17",
+    "depth-15",
+    "start-past",
+    "start-at-end",
+    "outer-parent",
+    "full-set",
+    "small-set-deep",
+    "unknown-size",
+    "narrow-size",
+    "zero-run",
+    "header-end",
+    "outer-row",
+    "early-15",
+    "late-15",
+    "start-15",
+    "end-15",
+    "wrapped-15",
+    "missing-15",
+    "at-none",
+    "at-none-14",
+    "at-zero",
+    "at-32",
+    "at-hex",
+    "at-header-master",
+    "at-header-before",
+    "at-header-size",
+    "at-header-end",
+    "at-overrun-master",
+    "at-overrun-end",
+    "at-overrun-behind",
+    "at-depth-master",
+    "at-depth-outer",
+    "at-limits-payload",
+    "at-14",
+    "at-14-end",
+    "at-15",
+    "at-15-start",
+];
+
 /// Those of the records, the label and the track types.
 pub const RECORD: &str = "\
 record-parent: a record's payload is read under its part's id

@@ -1,13 +1,14 @@
 //! A model of our reader, to test the judge and the stored lists with: `model` answers the
 //! questions on standard input as documents 01 and 02 order, `model FAULT` with one fault.
 //! `model faults` tells the faults, `model faults SORT` those of one sort: of single headers
-//! and bodies, of the element table and the search, of records, and of tracks. It shares no
-//! reading with the judge.
+//! and bodies, of the element table and the search, of the owner of an address, of records,
+//! and of tracks. It shares no reading with the judge.
 
 mod ended;
 mod faults;
 mod label;
 mod lent;
+mod owner;
 mod places;
 mod records;
 mod refusal;
@@ -15,12 +16,15 @@ mod search;
 mod single;
 mod track;
 
-use faults::{RECORD, SHARED, SINGLE, TABLE, TRACK};
+use faults::{OWNER, RECORD, SHARED, SHARED_TABLE, SINGLE, TABLE, TRACK};
 use lent::{Lent, Read};
 use question::{parse, rows_in, Question};
 use refusal::{refusal, Refusal};
 use std::io::{self, BufRead, BufWriter, Write};
 use tools::ids::kind;
+
+/// The sorts of faults.
+const SORTS: [&str; 5] = [SINGLE, TABLE, OWNER, RECORD, TRACK];
 
 /// The fault of this run, or none.
 #[derive(Clone, Copy)]
@@ -37,14 +41,21 @@ fn main() {
     let arguments: Vec<String> = std::env::args().skip(1).collect();
     let done = match &arguments[..] {
         [] => answer_all(Fault(None)),
-        [word] if word == "faults" => tell(&[SINGLE, TABLE, RECORD, TRACK]),
+        [word] if word == "faults" => tell(&SORTS),
         [word, sort] if word == "faults" && sort == "single" => tell(&[SINGLE]),
         [word, sort] if word == "faults" && sort == "table" => tell(&[TABLE]),
+        [word, sort] if word == "faults" && sort == "owner" => {
+            tell(&[OWNER, &shared(TABLE, &SHARED_TABLE)])
+        }
         [word, sort] if word == "faults" && sort == "record" => tell(&[RECORD]),
-        [word, sort] if word == "faults" && sort == "track" => tell(&[TRACK, &shared()]),
+        [word, sort] if word == "faults" && sort == "track" => {
+            tell(&[TRACK, &shared(RECORD, &SHARED)])
+        }
         [word] if known(word).is_some() => answer_all(Fault(known(word))),
         _ => {
-            eprintln!("usage: model [FAULT]\n       model faults [single|table|record|track]");
+            eprintln!(
+                "usage: model [FAULT]\n       model faults [single|table|owner|record|track]"
+            );
             std::process::exit(2);
         }
     };
@@ -58,9 +69,9 @@ fn tell(faults: &[&str]) -> io::Result<()> {
     io::stdout().write_all(faults.concat().as_bytes())
 }
 
-/// The lines of the faults that tracks share with the other records.
-fn shared() -> String {
-    let shared = RECORD.lines().filter(|line| SHARED.contains(&named(line)));
+/// The lines of the faults of a sort that another sort shares, by their names.
+fn shared(sort: &str, names: &[&str]) -> String {
+    let shared = sort.lines().filter(|line| names.contains(&named(line)));
     shared.map(|line| format!("{line}\n")).collect()
 }
 
@@ -71,8 +82,7 @@ fn named(line: &str) -> &str {
 
 /// The fault of that name.
 fn known(word: &str) -> Option<&'static str> {
-    let sorts = [SINGLE, TABLE, RECORD, TRACK];
-    let mut names = sorts.into_iter().flat_map(str::lines).map(named);
+    let mut names = SORTS.into_iter().flat_map(str::lines).map(named);
     names.find(|name| *name == word)
 }
 
@@ -179,6 +189,22 @@ fn answer(question: &Question, fault: Fault) -> String {
         Question::Range { table, row, bytes } => {
             let range = places::range(table, *row, bytes.len() as u64, fault);
             told(range.map(|(from, length)| format!("at {from}+{length}")))
+        }
+        Question::Owner {
+            start,
+            size,
+            parent,
+            address,
+            bytes,
+        } => {
+            let read = Read::new(*start, *size, *parent, bytes);
+            let table = if fault.is("owner-table") {
+                " table 0"
+            } else {
+                ""
+            };
+            let owner = owner::owner(&read, *address, fault);
+            owner.unwrap_or_else(|refusal| refusal.told(None, table, fault))
         }
         Question::TrackType { number } => label::track_type(*number, fault).to_string(),
         Question::Label {

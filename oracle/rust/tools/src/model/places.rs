@@ -12,7 +12,7 @@ use tools::ids::{BINARY_KIND, STRING_KIND, UTF8_KIND};
 /// in the answer.
 pub fn whose(lent: &mut Lent, read: &Read, address: u64, fault: Fault) -> Result<String, Refusal> {
     let outside = outside(read, address, fault);
-    let nowhere = refusal(15, 0).or(fault, &[("at-15", address), ("at-15-start", read.start)]);
+    let nowhere = nowhere(read, address, fault);
     if outside && fault.is("early-15") {
         return Err(nowhere);
     }
@@ -39,8 +39,13 @@ pub fn whose(lent: &mut Lent, read: &Read, address: u64, fault: Fault) -> Result
     Ok(format!("row {number} {which} "))
 }
 
+/// 15 for such an address.
+pub fn nowhere(read: &Read, address: u64, fault: Fault) -> Refusal {
+    refusal(15, 0).or(fault, &[("at-15", address), ("at-15-start", read.start)])
+}
+
 /// Whether an address is outside of the payload that is read.
-fn outside(read: &Read, address: u64, fault: Fault) -> bool {
+pub fn outside(read: &Read, address: u64, fault: Fault) -> bool {
     if fault.is("wrapped-15") {
         return address < read.start || address >= read.start.wrapping_add(read.size);
     }
