@@ -2,6 +2,12 @@
 pub mod Cases
 pub mod Steps
 pub mod Links
+pub mod Headers
 pub mod Walking
 pub mod Asked
 pub mod Turns
+pub mod Sound
+pub mod Found
+pub mod Unique
+pub mod Alone
+pub mod Refusals

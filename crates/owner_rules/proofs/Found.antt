@@ -1,0 +1,68 @@
+-- An element that holds the address, where the way leads to it, is named (`OwnerFound`). Assumes nothing.
+use Prim.Native.Nat.{ℕ, zero, suc, _+_, _-_, _≤_, _<_}
+use mathlib.Core.Path.{_≡_, refl, sym, ap, _∙_, subst}
+use mathlib.Core.List.{List, []}
+use native.Mathlib.Omega.{arith}
+use lib.ListN.{length}
+use Rattle.refusals.specs.Reply.{accepted}
+use Rattle.header.specs.Header.{heading}
+use Rattle.header.specs.declared.cursor.Header.{Header}
+use Rattle.header.proofs.Inside.{header-inside}
+use Rattle.elements_rules.specs.Reading.{elementHeader, depths}
+use Rattle.elements_rules.specs.Faults.{Errand, toOwner}
+use Rattle.owner_rules.specs.Owner.{Part, header, payload, Owned, inMaster, taken, own, ownerAt, ownerOf}
+use Rattle.owner_rules.specs.Promise.{ownerTold}
+use Rattle.owner_rules.specs.Way.{Way, here, past, into, Holds, OwnedBy}
+use Rattle.owner_rules.specs.Theorems.{OwnerFound}
+use Rattle.owner_rules.proofs.Steps.{in-header, in-payload, in-master, behind}
+use Rattle.owner_rules.proofs.Walking.{inside}
+use Rattle.owner_rules.proofs.Asked.{owner-walks}
+
+module _ (s : List ℕ) (x : ℕ) where
+  -- The element at hand holds the address.
+  own-found : (p : Part) (most depth parent at left : ℕ) (h : Header) → elementHeader s at ≡ heading h
+      → depth < depths → taken h ≤ left → Holds p parent at h x
+      → ownerAt s x (suc most) depth parent at left ≡ own p at
+  own-found header most depth parent at left h q d l k = in-header s x most depth parent at left h q d l (k .1)
+  own-found payload most depth parent at left h q d l k =
+      in-payload s x most depth parent at left h q d l (k .0) (k .1) (k .2)
+
+  -- It is found from wherever the way leads to it.
+  way-found :
+      (p : Part) (h : Header) (under last deep most depth parent at left : ℕ) (ms : List ℕ) (a : ℕ) (e : Errand)
+      → Way s x depth parent at left ms a e → e ≡ toOwner under deep last → elementHeader s a ≡ heading h
+      → deep < depths → taken h ≤ last → Holds p under a h x → left ≤ most → at ≤ x → x < at + left
+      → ownerAt s x most depth parent at left ≡ accepted (record { part = p; address = a; masters = ms })
+  way-found p h under last deep zero depth parent at left ms a e w i q d f k m low high = absurd (omega arith)
+  way-found p h under last deep (suc most) depth parent at left _ _ _ (here _ _ _ _) i q d f k m low high =
+      let same : parent ≡ under = cc in
+      let depth-is : depth ≡ deep = cc in
+      let left-is : left ≡ last = cc in
+      own-found p most depth parent at left h q (omega arith) (omega arith)
+      (subst (λ (u : ℕ). Holds p u at h x) (sym same) k)
+  way-found p h under last deep (suc most) depth parent at left ms a e (past _ _ _ _ _ _ _ g j c l b w) i q d f k m
+      low high =
+      let one = header-inside s at g j .0 in
+      behind s x most depth parent at left g j c l (omega arith) b
+      ∙ way-found p h under last deep most depth parent (at + taken g) (left - taken g) ms a e w i q d f k
+      (omega arith) b (omega arith)
+  way-found p h under last deep (suc most) depth parent at left _ a e (into _ _ _ _ ms _ _ g j c l b t n w) i q d f k
+      m low high =
+      let one = header-inside s at g j .0 in
+      in-master s x most depth parent at left g j c l b t n
+      ∙ ap (inMaster at)
+      (way-found p h under last deep most (depth + 1) (g .id) (at + g .length) (g .size) ms a e w i q d f k
+      (omega arith) b (omega arith))
+
+-- ---- the theorem
+
+pub owned-found : (s : List ℕ) (start size parent x : ℕ) (o : Owned) → OwnedBy s start size parent x o
+    → ownerOf s start size parent x ≡ accepted o
+owned-found s start size parent x o k =
+    let (low, high) = inside start size x (k .inside) in
+    owner-walks s start size parent x (k .arguments) (k .inside)
+    ∙ way-found s x (o .part) (k .head) (k .under) (k .left) (length (o .masters)) size 0 parent start size
+    (o .masters) (o .address) _ (k .way) refl (k .stands) (k .low) (k .fits) (k .holds) (omega arith) low high
+
+pub owner-found : OwnerFound
+owner-found s start size parent x o r k p = p .reply ∙ ap ownerTold (owned-found s start size parent x o k)

@@ -1,0 +1,217 @@
+-- Every reply is an element that holds the address, or an honest refusal (`OwnerAnswers`). Assumes nothing.
+use Prim.Native.Nat.{ℕ, zero, suc, _+_, _-_, _≤_, _<_}
+use mathlib.Core.Path.{_≡_, refl, sym, ap, _∙_, subst}
+use mathlib.Core.List.{List, [], _∷_}
+use mathlib.Core.Logic.{_⊎_, inl, inr}
+use mathlib.Core.Bool.{Bool, true, false}
+use native.Mathlib.Nat.{zero-add}
+use native.Mathlib.Omega.{arith}
+use lib.ListN.{length}
+use Rattle.refusals.specs.Refusals.{because}
+use Rattle.refusals.specs.Reply.{Reply, accepted, refusal}
+use Rattle.refusals.specs.declared.refusal.Cause.{Cause}
+use Rattle.refusals.specs.declared.refusal.Cause.the-variants.{Overrun, TooDeep, BadArgument, Outside}
+use Rattle.refusals.specs.declared.refusal.Refusal.{Refusal}
+use Rattle.header.specs.Header.{heading}
+use Rattle.header.specs.declared.cursor.Header.{Header}
+use Rattle.header.proofs.Inside.{header-inside}
+use Rattle.elements_rules.specs.Reading.{elementHeader, depths}
+use Rattle.elements_rules.specs.Holds.{within}
+use Rattle.elements_rules.specs.Promise.{allowed}
+use Rattle.elements_rules.specs.Faults.{Errand, toOwner, headerAsked, largerAsked, deeperAsked, Deeper, Fault}
+use Rattle.elements_rules.specs.Faults.{FaultThere, there, callers}
+use Rattle.elements_rules.proofs.Faults.{header-fault}
+use Rattle.owner_rules.specs.Owner.{Part, header, payload, Owned, inMaster, taken, own, ownerAt, ownerOf}
+use Rattle.owner_rules.specs.Promise.{ownerTold}
+use Rattle.owner_rules.specs.Way.{IsMaster, Way, here, past, into, Holds}
+use Rattle.owner_rules.specs.Theorems.{Answer, owned, refused, OwnerAnswers}
+use Rattle.owner_rules.specs.declared.owner.OwnerReply.{OwnerReply}
+use Rattle.owner_rules.proofs.Steps.{no-header, too-deep, too-large, in-header, in-payload, in-master, behind}
+use Rattle.owner_rules.proofs.Walking.{inside}
+use Rattle.owner_rules.proofs.Asked.{owner-broken, owner-outside, owner-walks}
+use Rattle.owner_rules.proofs.Headers.{at-header}
+
+module _ (s : List ℕ) (x : ℕ) where
+  -- An element that holds the address, and the way to it from a place.
+  record OwnedFrom (depth parent at left : ℕ) (o : Owned) : Type 0 where
+    under : ℕ
+    last : ℕ
+    way : Way s x depth parent at left (o .masters) (o .address) (toOwner under (depth + length (o .masters)) last)
+    low : depth + length (o .masters) < depths
+    head : Header
+    stands : elementHeader s (o .address) ≡ heading head
+    fits : taken head ≤ last
+    holds : Holds (o .part) under (o .address) head x
+
+  -- What the walk comes to from a place.
+  abbrev From : (depth parent at left : ℕ) → ℕ → Errand → Type 0
+  From depth parent at left a e = (masters : List ℕ) × Way s x depth parent at left masters a e
+
+  abbrev Shows : (depth parent at left : ℕ) → Reply Owned → Type 0
+  Shows depth parent at left (accepted o) = OwnedFrom depth parent at left o
+  Shows depth parent at left (refusal e) = FaultThere s (From depth parent at left) e
+
+  module _ (depth parent at left : ℕ) (h : Header) (q : elementHeader s at ≡ heading h) (d : depth < depths)
+      (l : taken h ≤ left)
+    where
+    -- The element at hand holds the address.
+    shows-own : (p : Part) → Holds p parent at h x → Shows depth parent at left (own p at)
+    shows-own p k =
+        let e : depth ≡ depth + 0 = omega arith in
+        record {
+          under = parent;
+          last = left;
+          way =
+              subst (λ (n : ℕ). Way s x depth parent at left [] at (toOwner parent n left)) e
+              (here depth parent at left);
+          low = omega arith;
+          head = h;
+          stands = q;
+          fits = l;
+          holds = k;
+        }
+
+    -- What is shown behind an element is shown from it.
+    shows-past : at + taken h ≤ x → (r : Reply Owned) → Shows depth parent (at + taken h) (left - taken h) r
+        → Shows depth parent at left r
+    shows-past b (accepted o) k = record {
+      under = k .under;
+      last = k .last;
+      way = past depth parent at left (o .masters) (o .address) _ h q d l b (k .way);
+      low = k .low;
+      head = k .head;
+      stands = k .stands;
+      fits = k .fits;
+      holds = k .holds;
+    }
+    shows-past b (refusal e) k = record {
+      errand = k .errand;
+      reached = (k .reached .0, past depth parent at left (k .reached .0) (e .address) (k .errand) h q d l b
+          (k .reached .1));
+      fault = k .fault;
+    }
+
+    -- What is shown inside a master is shown from it.
+    shows-into : at + h .length ≤ x → x < at + taken h → IsMaster h parent → (r : Reply Owned)
+        → Shows (depth + 1) (h .id) (at + h .length) (h .size) r → Shows depth parent at left (inMaster at r)
+    shows-into a b m (accepted o) k =
+        let n = length (o .masters) in
+        let e : depth + 1 + n ≡ depth + suc n = omega arith in
+        let low = k .low in
+        record {
+          under = k .under;
+          last = k .last;
+          way =
+              into depth parent at left (o .masters) (o .address) _ h q d l a b m
+              (subst
+              (λ (z : ℕ).
+              Way s x (depth + 1) (h .id) (at + h .length) (h .size) (o .masters) (o .address)
+              (toOwner (k .under) z (k .last)))
+              e (k .way));
+          low = omega arith;
+          head = k .head;
+          stands = k .stands;
+          fits = k .fits;
+          holds = k .holds;
+        }
+    shows-into a b m (refusal e) k = record {
+      errand = k .errand;
+      reached = (at ∷ k .reached .0, into depth parent at left (k .reached .0) (e .address) (k .errand) h q d l a b m
+          (k .reached .1));
+      fault = k .fault;
+    }
+
+  -- The element at hand is at fault.
+  shows-fault : (depth parent at left : ℕ) (c : Cause) → Fault s at (toOwner parent depth left) c
+      → Shows depth parent at left (refusal (because c at))
+  shows-fault depth parent at left c f =
+      record { errand = toOwner parent depth left; reached = ([], here depth parent at left); fault = f }
+
+  shows : (most depth parent at left : ℕ) → left ≤ most → at ≤ x → x < at + left → depth ≤ depths
+      → Shows depth parent at left (ownerAt s x most depth parent at left)
+  shows zero depth parent at left m low high few = absurd (omega arith)
+  shows (suc most) depth parent at left m low high few =
+      at-header s x depth parent at left
+      (λ c q.
+      told (no-header s x most depth parent at left c q)
+      (shows-fault depth parent at left c
+      (header-fault s at (toOwner parent depth left) (λ b v. headerAsked parent depth left v) c q)))
+      (λ h q d.
+      told (too-deep s x most depth parent at left h q d)
+      (let z : depths ≡ depth = omega arith in
+      shows-fault depth parent at left TooDeep
+      (subst (λ (j : ℕ). Deeper s at (toOwner parent j left)) z (deeperAsked parent left (h, q, tt)))))
+      (λ h q d l.
+      told (too-large s x most depth parent at left h q d l)
+      (shows-fault depth parent at left Overrun (largerAsked parent depth left d (h, q, l))))
+      (λ h q d l a.
+      told (in-header s x most depth parent at left h q d l a)
+      (shows-own depth parent at left h q d l header (low, a)))
+      (λ h q d l a b k.
+      told (in-payload s x most depth parent at left h q d l a b k)
+      (shows-own depth parent at left h q d l payload (a, b, k)))
+      (λ h q d l a b k.
+      let one = header-inside s at h q .0 in
+      told (in-master s x most depth parent at left h q d l a b k)
+      (shows-into depth parent at left h q d l a b k
+      (ownerAt s x most (depth + 1) (h .id) (at + h .length) (h .size))
+      (shows most (depth + 1) (h .id) (at + h .length) (h .size) (omega arith) a (omega arith) (omega arith))))
+      (λ h q d l a b.
+      let one = header-inside s at h q .0 in
+      told (behind s x most depth parent at left h q d l a b)
+      (shows-past depth parent at left h q d l b (ownerAt s x most depth parent (at + taken h) (left - taken h))
+      (shows most depth parent (at + taken h) (left - taken h) (omega arith) b (omega arith) few)))
+    where
+      told : {r : Reply Owned} → ownerAt s x (suc most) depth parent at left ≡ r → Shows depth parent at left r
+          → Shows depth parent at left (ownerAt s x (suc most) depth parent at left)
+      told e k = subst (Shows depth parent at left) (sym e) k
+
+-- ---- the theorem
+
+module _ (s : List ℕ) (start size parent x : ℕ) (r : OwnerReply) where
+  abbrev Answered : Type 0
+  Answered = Answer s start size parent x r
+
+  -- 14 and 15 are the caller's.
+  by-caller : (c : Cause) → (c ≡ BadArgument) ⊎ (c ≡ Outside) → r ≡ ownerTold (refusal (because c 0)) → Answered
+  by-caller c i e = refused (because c 0) (callers i refl) e
+
+  walked : allowed s start 0 ≡ true → within start size x ≡ true → (o : Reply Owned)
+      → Shows s x 0 parent start size o → r ≡ ownerTold o → Answered
+  walked a w (accepted o) k e =
+      let z : 0 + length (o .masters) ≡ length (o .masters) = zero-add (length (o .masters)) in
+      let low = k .low in
+      owned o
+      (record {
+        arguments = a;
+        inside = w;
+        under = k .under;
+        left = k .last;
+        way =
+            subst
+            (λ (n : ℕ). Way s x 0 parent start size (o .masters) (o .address) (toOwner (k .under) n (k .last))) z
+            (k .way);
+        low = omega arith;
+        head = k .head;
+        stands = k .stands;
+        fits = k .fits;
+        holds = k .holds;
+      })
+      e
+  walked a w (refusal e) k i = refused e (there k) i
+
+  by-tests : r ≡ ownerTold (ownerOf s start size parent x) → (a : Bool) → allowed s start 0 ≡ a
+      → (w : Bool) → within start size x ≡ w → Answered
+  by-tests p false i w j =
+      by-caller BadArgument (inl refl) (p ∙ ap ownerTold (owner-broken s start size parent x i))
+  by-tests p true i false j =
+      by-caller Outside (inr refl) (p ∙ ap ownerTold (owner-outside s start size parent x i j))
+  by-tests p true i true j =
+      let (low, high) = inside start size x j in
+      walked i j (ownerAt s x size 0 parent start size)
+      (shows s x size 0 parent start size (omega arith) low high (omega arith))
+      (p ∙ ap ownerTold (owner-walks s start size parent x i j))
+
+pub owner-answers : OwnerAnswers
+owner-answers s start size parent x r p =
+    by-tests s start size parent x r (p .reply) (allowed s start 0) refl (within start size x) refl
