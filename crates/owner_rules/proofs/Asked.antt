@@ -102,7 +102,7 @@ bytes-allowed s start a = limits.within s start 0 a .bytes
 -- ---- what the code promises of the chain
 
 -- What is told as a refusal is one.
-told-refused : (o : Reply Owned) (e : Refusal) → Refused e ≡ ownerTold o → o ≡ refusal e
+pub told-refused : (o : Reply Owned) (e : Refusal) → Refused e ≡ ownerTold o → o ≡ refusal e
 told-refused (refusal e′) e q = let i : e′ ≡ e = cc in ap refusal i
 told-refused (accepted o) e q = by (o .part) q
   where

@@ -11,3 +11,6 @@ pub mod Found
 pub mod Unique
 pub mod Alone
 pub mod Refusals
+pub mod Forest
+pub mod Same
+pub mod Chains

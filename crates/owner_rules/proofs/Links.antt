@@ -7,7 +7,11 @@ use native.Mathlib.Omega.{arith}
 use lib.ListN.{length, take, set, length-set}
 use lib.Dec.{ltb}
 use borrow.Author.Tests.{lt-ltb, le-ltb, ltb-true, ltb-false}
+use Rattle.refusals.specs.Reply.{accepted, refusal}
+use Rattle.refusals.specs.declared.refusal.Refusal.{Refusal}
 use Rattle.elements_rules.specs.Promise.{zeros}
+use Rattle.owner_rules.specs.Owner.{Owned, chain}
+use Rattle.owner_rules.specs.Promise.{linksOf}
 use Rattle.owner_rules.specs.Contract.{linked}
 
 -- The first n of zeros are n zeros.
@@ -59,3 +63,13 @@ link-grows (suc n) (suc k) (m ∷ ms) a l =
 pub link-more : (n : ℕ) (ms : List ℕ) (a : ℕ)
     → linked (take n (ms ++ zeros n)) (length ms) a ≡ take n ((ms ++ (a ∷ [])) ++ zeros n)
 link-more n ms a = link-grows n n ms a (omega arith)
+
+-- ---- the chain of an answer
+
+pub links-owned : (n : ℕ) (o : Owned) → linksOf n (accepted o) ≡ take n (chain o ++ zeros n)
+unfolding linksOf
+links-owned n o = refl
+
+pub links-refused : (n : ℕ) (e : Refusal) → linksOf n (refusal e) ≡ zeros n
+unfolding linksOf
+links-refused n e = refl

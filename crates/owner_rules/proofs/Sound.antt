@@ -54,72 +54,78 @@ module _ (s : List ℕ) (x : ℕ) where
   module _ (depth parent at left : ℕ) (h : Header) (q : elementHeader s at ≡ heading h) (d : depth < depths)
       (l : taken h ≤ left)
     where
-    -- The element at hand holds the address.
-    shows-own : (p : Part) → Holds p parent at h x → Shows depth parent at left (own p at)
-    shows-own p k =
-        let e : depth ≡ depth + 0 = omega arith in
-        record {
-          under = parent;
-          last = left;
-          way =
-              subst (λ (n : ℕ). Way s x depth parent at left [] at (toOwner parent n left)) e
-              (here depth parent at left);
-          low = omega arith;
-          head = h;
-          stands = q;
-          fits = l;
-          holds = k;
-        }
+      -- The element at hand holds the address.
+      shows-own : (p : Part) → Holds p parent at h x → Shows depth parent at left (own p at)
+      shows-own p k =
+          let e : depth ≡ depth + 0 = omega arith in
+          record {
+            under = parent;
+            last = left;
+            way =
+                subst (λ (n : ℕ). Way s x depth parent at left [] at (toOwner parent n left)) e
+                (here depth parent at left);
+            low = omega arith;
+            head = h;
+            stands = q;
+            fits = l;
+            holds = k;
+          }
 
-    -- What is shown behind an element is shown from it.
-    shows-past : at + taken h ≤ x → (r : Reply Owned) → Shows depth parent (at + taken h) (left - taken h) r
-        → Shows depth parent at left r
-    shows-past b (accepted o) k = record {
-      under = k .under;
-      last = k .last;
-      way = past depth parent at left (o .masters) (o .address) _ h q d l b (k .way);
-      low = k .low;
-      head = k .head;
-      stands = k .stands;
-      fits = k .fits;
-      holds = k .holds;
-    }
-    shows-past b (refusal e) k = record {
-      errand = k .errand;
-      reached = (k .reached .0, past depth parent at left (k .reached .0) (e .address) (k .errand) h q d l b
-          (k .reached .1));
-      fault = k .fault;
-    }
+      -- What is shown behind an element is shown from it.
+      shows-past : at + taken h ≤ x → (r : Reply Owned) → Shows depth parent (at + taken h) (left - taken h) r
+          → Shows depth parent at left r
+      shows-past b (accepted o) k = record {
+        under = k .under;
+        last = k .last;
+        way = past depth parent at left (o .masters) (o .address) _ h q d l b (k .way);
+        low = k .low;
+        head = k .head;
+        stands = k .stands;
+        fits = k .fits;
+        holds = k .holds;
+      }
+      shows-past b (refusal e) k = record {
+        errand = k .errand;
+        reached = (
+          k .reached .0,
+          past depth parent at left (k .reached .0) (e .address) (k .errand) h q d l b
+              (k .reached .1),
+        );
+        fault = k .fault;
+      }
 
-    -- What is shown inside a master is shown from it.
-    shows-into : at + h .length ≤ x → x < at + taken h → IsMaster h parent → (r : Reply Owned)
-        → Shows (depth + 1) (h .id) (at + h .length) (h .size) r → Shows depth parent at left (inMaster at r)
-    shows-into a b m (accepted o) k =
-        let n = length (o .masters) in
-        let e : depth + 1 + n ≡ depth + suc n = omega arith in
-        let low = k .low in
-        record {
-          under = k .under;
-          last = k .last;
-          way =
-              into depth parent at left (o .masters) (o .address) _ h q d l a b m
-              (subst
-              (λ (z : ℕ).
-              Way s x (depth + 1) (h .id) (at + h .length) (h .size) (o .masters) (o .address)
-              (toOwner (k .under) z (k .last)))
-              e (k .way));
-          low = omega arith;
-          head = k .head;
-          stands = k .stands;
-          fits = k .fits;
-          holds = k .holds;
-        }
-    shows-into a b m (refusal e) k = record {
-      errand = k .errand;
-      reached = (at ∷ k .reached .0, into depth parent at left (k .reached .0) (e .address) (k .errand) h q d l a b m
-          (k .reached .1));
-      fault = k .fault;
-    }
+      -- What is shown inside a master is shown from it.
+      shows-into : at + h .length ≤ x → x < at + taken h → IsMaster h parent → (r : Reply Owned)
+          → Shows (depth + 1) (h .id) (at + h .length) (h .size) r → Shows depth parent at left (inMaster at r)
+      shows-into a b m (accepted o) k =
+          let n = length (o .masters) in
+          let e : depth + 1 + n ≡ depth + suc n = omega arith in
+          let low = k .low in
+          record {
+            under = k .under;
+            last = k .last;
+            way =
+                into depth parent at left (o .masters) (o .address) _ h q d l a b m
+                (subst
+                (λ (z : ℕ).
+                Way s x (depth + 1) (h .id) (at + h .length) (h .size) (o .masters) (o .address)
+                (toOwner (k .under) z (k .last)))
+                e (k .way));
+            low = omega arith;
+            head = k .head;
+            stands = k .stands;
+            fits = k .fits;
+            holds = k .holds;
+          }
+      shows-into a b m (refusal e) k = record {
+        errand = k .errand;
+        reached = (
+          at ∷ k .reached .0,
+          into depth parent at left (k .reached .0) (e .address) (k .errand) h q d l a b m
+              (k .reached .1),
+        );
+        fault = k .fault;
+      }
 
   -- The element at hand is at fault.
   shows-fault : (depth parent at left : ℕ) (c : Cause) → Fault s at (toOwner parent depth left) c

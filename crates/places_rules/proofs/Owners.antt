@@ -127,7 +127,7 @@ found (r ∷ rs) k total x q =
 -- ---- the question
 
 -- What was asked and read: the address lies in the payload, and the payload was read.
-asked-done : (s : List ℕ) (start size parent x numbers : ℕ) (f : Forest)
+pub asked-done : (s : List ℕ) (start size parent x numbers : ℕ) (f : Forest)
     → askedOf s start size parent x numbers ≡ done f
     → (within start size x ≡ true) × (readOf s start size parent numbers ≡ done f)
 unfolding askedOf readOf
@@ -137,7 +137,7 @@ asked-done s start size parent x numbers f q =
     (not-false _ (b .0), passes _ _ _ (a .0) ∙ b .1)
 
 -- The table holds the rows that were read.
-table-rows : (s : List ℕ) (start size parent x : ℕ) (t : List ℕ) (r : WhoseReply) (t′ : List ℕ) (f : Forest)
+pub table-rows : (s : List ℕ) (start size parent x : ℕ) (t : List ℕ) (r : WhoseReply) (t′ : List ℕ) (f : Forest)
     → WhosePromise s start size parent x t r t′ → askedOf s start size parent x (length t) ≡ done f
     → rowsOf t′ (count f) ≡ rows 0 0 start 0 f
 unfolding tableOf
