@@ -1,17 +1,14 @@
 -- Only headers on the way count (`HeadersAlone`). Assumes nothing.
-use Prim.Native.Nat.{ℕ, zero, suc, _+_, _-_, _≤_, _<_}
+use Prim.Native.Nat.{ℕ, zero, suc, _+_, _-_}
 use mathlib.Core.Path.{_≡_, refl, sym, ap, _∙_}
 use mathlib.Core.List.{List, [], _∷_}
 use mathlib.Core.Bool.{Bool, true, false}
-use Rattle.header.specs.Header.{heading}
-use Rattle.header.specs.declared.cursor.Header.{Header}
-use Rattle.elements_rules.specs.Reading.{elementHeader, depths}
+use Rattle.elements_rules.specs.Reading.{elementHeader}
 use Rattle.elements_rules.specs.Holds.{within}
-use Rattle.elements_rules.specs.Promise.{allowed}
 use Rattle.elements_rules.specs.Faults.{Errand}
 use Rattle.owner_rules.specs.Owner.{inMaster, taken, ownerAt, ownerOf}
 use Rattle.owner_rules.specs.Promise.{ownerTold}
-use Rattle.owner_rules.specs.Way.{IsMaster, Way, here, past, into}
+use Rattle.owner_rules.specs.Way.{Way, here, past, into}
 use Rattle.owner_rules.specs.Theorems.{HeadersAlone}
 use Rattle.owner_rules.proofs.Steps.{no-header, too-deep, too-large, in-header, in-payload, in-master, behind}
 use Rattle.owner_rules.proofs.Asked.{owner-outside, owner-walks}

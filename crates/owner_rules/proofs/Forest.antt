@@ -1,13 +1,12 @@
 -- In a tree that stands the walk ends at one of its rows, and its masters are that row's parents. Assumes nothing.
 use Prim.Native.Nat.{ℕ, zero, suc, _+_, _-_, _≤_, _<_}
-use mathlib.Core.Path.{_≡_, refl, sym, ap, _∙_, subst}
+use mathlib.Core.Path.{_≡_, sym, ap, _∙_, subst}
 use mathlib.Core.List.{List, [], _∷_, _++_, append-nil, append-assoc}
 use native.Mathlib.Omega.{arith}
 use lib.ListN.{length, length-append}
 use Rattle.refusals.specs.Reply.{accepted}
-use Rattle.header.specs.declared.cursor.Header.{Header}
 use Rattle.header.proofs.Inside.{header-inside}
-use Rattle.kinds.specs.Kinds.{numberOf, kindUnder}
+use Rattle.kinds.specs.Kinds.{numberOf}
 use Rattle.elements_rules.specs.Forest.{Element, Forest, none, node, whole, span, count, deep}
 use Rattle.elements_rules.specs.Reading.{depths}
 use Rattle.elements_rules.specs.Rows.{rowOf, rows, nth}
@@ -19,7 +18,7 @@ use Rattle.places_rules.specs.Whose.{holderIn}
 use Rattle.places_rules.specs.declared.whose.Holder.{Holder}
 use Rattle.places_rules.specs.declared.whose.Holder.the-variants.{Header as RowHeader, Payload as RowPayload}
 use Rattle.places_rules.proofs.Spots.{holder-header, holder-payload}
-use Rattle.owner_rules.specs.Owner.{Part, header, payload, Owned, inMaster, own, ownerAt}
+use Rattle.owner_rules.specs.Owner.{Part, header, payload, Owned, inMaster, ownerAt}
 use Rattle.owner_rules.specs.Way.{IsMaster}
 use Rattle.owner_rules.specs.Theorems.{Above, below}
 use Rattle.owner_rules.proofs.Steps.{in-header, in-payload, in-master, behind}

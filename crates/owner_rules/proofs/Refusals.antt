@@ -1,11 +1,10 @@
 -- A refusal is one of those that the request names (`OwnerRefusals`). Assumes nothing.
 use Prim.Native.Nat.{ℕ}
-use mathlib.Core.Path.{_≡_, refl, sym, subst}
+use mathlib.Core.Path.{_≡_, refl, subst}
 use mathlib.Core.List.{List, [], _∷_}
 use mathlib.Core.Logic.{_⊎_, inl, inr}
 use mathlib.Core.Bool.{Bool, true, false}
 use native.Mathlib.Omega.{arith}
-use lib.ListN.{length}
 use Rattle.refusals.specs.Causes.{causeNumber}
 use Rattle.refusals.specs.declared.refusal.Cause.{Cause}
 use Rattle.refusals.specs.declared.refusal.Cause.the-variants as C
@@ -16,12 +15,11 @@ use Rattle.elements_rules.specs.Faults.{Errand, toHeader, toBody, toElement, to
 use Rattle.elements_rules.specs.Faults.{Fault, NoBody, bodyOfElement, bodyNamed, Full, fullElement, Other, otherFound}
 use Rattle.elements_rules.specs.Faults.{Far, farFollowed, farLookedUp, Again, againFollowed, Many, manyFollowed}
 use Rattle.elements_rules.specs.Faults.{there, callers}
-use Rattle.owner_rules.specs.Owner.{Part, header, payload}
-use Rattle.owner_rules.specs.Promise.{ownerIs}
+use Rattle.owner_rules.specs.Owner.{ownerOf}
 use Rattle.owner_rules.specs.Way.{Way, here, past, into, HonestOwner}
-use Rattle.owner_rules.specs.Theorems.{Answer, owned, refused, OwnerRefusals}
-use Rattle.owner_rules.specs.declared.owner.OwnerReply.the-variants.{Refused}
-use Rattle.owner_rules.proofs.Sound.{owner-answers}
+use Rattle.owner_rules.specs.Theorems.{OwnerRefusals}
+use Rattle.owner_rules.proofs.Asked.{told-refused}
+use Rattle.owner_rules.proofs.Sound.{owner-honest}
 
 abbrev Few : ℕ → Type 0
 Few n = member n (1 ∷ 2 ∷ 3 ∷ 12 ∷ 14 ∷ 15 ∷ []) ≡ true
@@ -107,14 +105,10 @@ module _ (s : List ℕ) (start size parent x : ℕ) where
       (subst (λ (y : Errand). Fault s (e .address) y (e .cause)) i (k .fault))
   of-honest e (callers i z) = of-callers (e .cause) i
 
-  of-answer : (e : Refusal) → Answer s start size parent x (Refused e) → Few (causeNumber (e .cause))
-  of-answer e (owned o k i) = by (o .part) i
-    where
-      by : (p : Part) → Refused e ≡ ownerIs p (o .address) (length (o .masters)) → Few (causeNumber (e .cause))
-      by header w = let z : _≡_ {A = ℕ} 0 1 = cc in absurd (let y : ⊥ = omega arith in y)
-      by payload w = let z : _≡_ {A = ℕ} 0 1 = cc in absurd (let y : ⊥ = omega arith in y)
-  of-answer e (refused e′ k i) = let j : e′ ≡ e = cc in rw j at (of-honest e′ k)
-
 pub owner-refusals : OwnerRefusals
-owner-refusals s start size parent x e p =
-    (listed e, of-answer s start size parent x e (owner-answers s start size parent x (Refused e) p))
+owner-refusals s start size parent x e p = (
+  listed e,
+  of-honest s start size parent x e
+      (owner-honest s start size parent x e
+      (told-refused (ownerOf s start size parent x) e (p .reply))),
+)

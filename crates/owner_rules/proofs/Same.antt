@@ -1,6 +1,6 @@
 -- On each payload that the full read accepts the reply is that of the full question (`SameOwner`), and the chain is the
 -- row and its parents (`ChainOfParents`). Assumes nothing.
-use Prim.Native.Nat.{ℕ, suc, _+_, _-_, _≤_, _<_}
+use Prim.Native.Nat.{ℕ, _+_, _-_, _≤_, _<_}
 use mathlib.Core.Path.{_≡_, refl, sym, ap, _∙_, subst}
 use mathlib.Core.List.{List, [], _∷_, _++_}
 use mathlib.Core.Logic.{_⊎_, inl, inr, ⊎-elim}
@@ -10,15 +10,13 @@ use native.Mathlib.Omega.{arith}
 use lib.ListN.{length, take}
 use borrow.Author.Tests.{le-leb, not-false}
 use Rattle.refusals.specs.Refusals.{outside}
-use Rattle.refusals.specs.Reply.{Reply, accepted, refusal}
-use Rattle.refusals.specs.declared.refusal.Refusal.{Refusal}
-use Rattle.elements_rules.specs.Forest.{Forest, span, count, deep}
-use Rattle.elements_rules.specs.Reading.{Outcome, done, refused, depths}
+use Rattle.refusals.specs.Reply.{accepted, refusal}
+use Rattle.elements_rules.specs.Forest.{Forest, count}
+use Rattle.elements_rules.specs.Reading.{Outcome, done, refused}
 use Rattle.elements_rules.specs.Rows.{rows, rowAt, rowsOf, nth}
 use Rattle.elements_rules.specs.Holds.{within, isLeaf, inHeader, inLeaf}
-use Rattle.elements_rules.specs.Promise.{allowed, zeros, readOf, ReadPromise}
+use Rattle.elements_rules.specs.Promise.{allowed, zeros, readOf}
 use Rattle.elements_rules.specs.declared.row.Row.{Row}
-use Rattle.elements_rules.specs.declared.reply.ReadReply.the-variants.{Rows}
 use Rattle.elements_rules.proofs.Limits as limits
 use Rattle.elements_rules.proofs.Outcomes.{passes, refuses, of-refuse}
 use Rattle.elements_rules.proofs.Forests.{length-rows}
@@ -35,14 +33,14 @@ use Rattle.places_rules.specs.declared.whose.WhoseReply.the-variants.{Header as
 use Rattle.places_rules.specs.declared.whose.WhoseReply.the-variants.{Refused as NoRow}
 use Rattle.places_rules.proofs.Unique.{replied, replied-back}
 use Rattle.places_rules.proofs.Owners.{asked-done, table-rows, row-owns}
-use Rattle.owner_rules.specs.Owner.{Part, header, payload, Owned, chain, mostLinks, ownerAt, ownerOf, chainOf}
-use Rattle.owner_rules.specs.Promise.{ownerIs, ownerTold, linksOf, OwnerPromise, ChainPromise}
+use Rattle.owner_rules.specs.Owner.{Part, header, payload, Owned, chain, mostLinks, ownerAt, ownerOf}
+use Rattle.owner_rules.specs.Promise.{ownerIs, ownerTold, linksOf, ChainPromise}
 use Rattle.owner_rules.specs.Theorems.{byAddress, SameOwner, Above, outermost, ChainOfRow, ChainOfParents}
 use Rattle.owner_rules.specs.declared.owner.OwnerReply.{OwnerReply}
 use Rattle.owner_rules.proofs.Links.{links-owned}
 use Rattle.owner_rules.proofs.Walking.{inside}
 use Rattle.owner_rules.proofs.Asked.{owner-outside, owner-walks, chain-owner}
-use Rattle.owner_rules.proofs.Forest.{holderOf, RowOf, Owner, forest-owner}
+use Rattle.owner_rules.proofs.Forest.{holderOf, Owner, forest-owner}
 
 -- ---- the limits, and one row
 

@@ -22,14 +22,17 @@ use Rattle.elements_rules.specs.Faults.{Errand, toOwner, headerAsked, largerAsk
 use Rattle.elements_rules.specs.Faults.{FaultThere, there, callers}
 use Rattle.elements_rules.proofs.Faults.{header-fault}
 use Rattle.owner_rules.specs.Owner.{Part, header, payload, Owned, inMaster, taken, own, ownerAt, ownerOf}
+use Rattle.owner_rules.specs.Owner.{mostLinks, chainOf}
 use Rattle.owner_rules.specs.Promise.{ownerTold}
-use Rattle.owner_rules.specs.Way.{IsMaster, Way, here, past, into, Holds}
+use Rattle.owner_rules.specs.Way.{IsMaster, Way, here, past, into, Holds, HonestOwner}
 use Rattle.owner_rules.specs.Theorems.{Answer, owned, refused, OwnerAnswers}
 use Rattle.owner_rules.specs.declared.owner.OwnerReply.{OwnerReply}
+use Rattle.owner_rules.specs.declared.owner.OwnerReply.the-variants.{Refused}
 use Rattle.owner_rules.proofs.Steps.{no-header, too-deep, too-large, in-header, in-payload, in-master, behind}
 use Rattle.owner_rules.proofs.Walking.{inside}
-use Rattle.owner_rules.proofs.Asked.{owner-broken, owner-outside, owner-walks}
-use Rattle.owner_rules.proofs.Headers.{at-header}
+use Rattle.owner_rules.proofs.Asked.{owner-broken, owner-outside, owner-walks, chain-long, chain-owner}
+use Rattle.owner_rules.proofs.Asked.{told-refused}
+use Rattle.owner_rules.proofs.Headers.{either, at-header}
 
 module _ (s : List ℕ) (x : ℕ) where
   -- An element that holds the address, and the way to it from a place.
@@ -221,3 +224,27 @@ module _ (s : List ℕ) (start size parent x : ℕ) (r : OwnerReply) where
 pub owner-answers : OwnerAnswers
 owner-answers s start size parent x r p =
     by-tests s start size parent x r (p .reply) (allowed s start 0) refl (within start size x) refl
+
+-- ---- refusals alone
+
+module _ (s : List ℕ) (start size parent x : ℕ) where
+  pub owner-honest : (e : Refusal) → ownerOf s start size parent x ≡ refusal e → HonestOwner s start size parent x e
+  owner-honest e q = by (owner-answers s start size parent x (Refused e) (record { reply = sym (ap ownerTold q) }))
+    where
+      by : Answer s start size parent x (Refused e) → HonestOwner s start size parent x e
+      by (owned o k i) =
+          let w = told-refused (accepted o) e i in
+          let z : _≡_ {A = ℕ} 0 1 = cc in absurd (let y : ⊥ = omega arith in y)
+      by (refused e′ k i) = let j : e′ ≡ e = cc in subst (HonestOwner s start size parent x) j k
+
+  pub chain-honest : (links : ℕ) (e : Refusal) → chainOf s start size parent x links ≡ refusal e
+      → HonestOwner s start size parent x e
+  chain-honest links e q =
+      either mostLinks links
+      (λ l.
+      let k = chain-long s start size parent x links l in
+      subst (HonestOwner s start size parent x) (same (sym k ∙ q)) (callers (inl refl) refl))
+      (λ l. owner-honest e (sym (chain-owner s start size parent x links l) ∙ q))
+    where
+      same : {a b : Refusal} → _≡_ {A = Reply Owned} (refusal a) (refusal b) → a ≡ b
+      same i = cc

@@ -1,11 +1,10 @@
 -- The question at one header: what each test leads to. Assumes nothing.
-use Prim.Native.Nat.{ℕ, zero, suc, _+_, _-_, _≤_, _<_}
-use mathlib.Core.Path.{_≡_, refl}
+use Prim.Native.Nat.{ℕ, suc, _+_, _-_, _≤_, _<_}
+use mathlib.Core.Path.{_≡_}
 use mathlib.Core.List.{List}
-use lib.Dec.{ltb, leb, eqb}
 use borrow.Author.Tests.{lt-ltb, le-ltb, le-leb, lt-leb, eq-eqb, ne-eqb}
 use Rattle.refusals.specs.Refusals.{because, overrun, tooDeep}
-use Rattle.refusals.specs.Reply.{Reply, accepted, refusal}
+use Rattle.refusals.specs.Reply.{Reply, refusal}
 use Rattle.refusals.specs.declared.refusal.Cause.{Cause}
 use Rattle.header.specs.Header.{heading}
 use Rattle.header.specs.Header.{refused as refusedHeader}

@@ -4,7 +4,7 @@ use mathlib.Core.Path.{_≡_, sym, ap, _∙_, subst}
 use mathlib.Core.List.{List}
 use native.Mathlib.Omega.{arith}
 use lib.ListN.{length}
-use Rattle.refusals.specs.Refusals.{because, overrun, tooDeep}
+use Rattle.refusals.specs.Refusals.{overrun, tooDeep}
 use Rattle.refusals.specs.Reply.{refusal}
 use Rattle.refusals.specs.declared.refusal.Refusal.{Refusal}
 use Rattle.header.specs.Promise.{mostBytes}
@@ -14,12 +14,11 @@ use Rattle.header.specs.declared.cursor.HeaderRead.{HeaderRead}
 use Rattle.header.specs.declared.cursor.HeaderRead.the-variants.{Read, Refused as HeaderRefused}
 use Rattle.header.proofs.Inside.{HeaderThere, header-there, header-refused}
 use Rattle.elements_rules.specs.Reading.{elementHeaderRead, depths}
-use Rattle.owner_rules.specs.Owner.{header, payload, taken}
+use Rattle.owner_rules.specs.Owner.{header, payload}
 use Rattle.owner_rules.specs.Way.{IsMaster}
 use Rattle.owner_rules.specs.Contract.{linked, WalkMet}
 use Rattle.owner_rules.specs.declared.owner.OwnerReply.{OwnerReply}
 use Rattle.owner_rules.specs.declared.owner.OwnerReply.the-variants.{Header, Payload, Refused}
-use Rattle.owner_rules.proofs.Links.{length-linked}
 use Rattle.owner_rules.proofs.Steps.{no-header}
 use Rattle.owner_rules.proofs.Steps as steps
 use Rattle.owner_rules.proofs.Walking.{Walking, walk-refused, walk-ends, walk-into, walk-past}

@@ -1,6 +1,6 @@
 -- The walk of the code: what it has yet to find, and the chain that it has kept. Assumes nothing.
 use Prim.Native.Nat.{ℕ, zero, suc, _+_, _-_, _≤_, _<_}
-use mathlib.Core.Path.{_≡_, refl, sym, ap, _∙_, subst}
+use mathlib.Core.Path.{_≡_, refl, sym, ap, _∙_}
 use mathlib.Core.List.{List, [], _∷_, _++_, append-nil, append-assoc}
 use mathlib.Core.Bool.{Bool, true, false, _&&_}
 use native.Mathlib.Omega.{arith}
@@ -19,7 +19,6 @@ use Rattle.owner_rules.specs.Owner.{Part, Owned, inMaster, taken, own, o
 use Rattle.owner_rules.specs.Promise.{ownerIs, ownerTold, linksOf}
 use Rattle.owner_rules.specs.Way.{IsMaster}
 use Rattle.owner_rules.specs.Contract.{linked, WalkMet}
-use Rattle.owner_rules.specs.declared.owner.OwnerReply.{OwnerReply}
 use Rattle.owner_rules.specs.declared.owner.OwnerReply.the-variants.{Refused}
 use Rattle.owner_rules.proofs.Steps.{in-master, behind}
 use Rattle.owner_rules.proofs.Links.{take-zeros, length-linked, link-more}

@@ -1,5 +1,5 @@
--- Each number of a reply crosses to C under its own name (`PartNamed`, `RangeNamed`, `TextNamed`, `PlaceNamed`).
--- Assumes nothing.
+-- Each number of a reply crosses to C under its own name (`PartNamed`, `RangeNamed`, `TextNamed`, `PlaceNamed`,
+-- `OwnerNamed`, `ChainNamed`). Assumes nothing.
 use mathlib.Core.Path.{_≡_, refl, ap, sym, _∙_}
 use Rattle.places_rules.specs.Promise.{rangeTold, whoseTold}
 use Rattle.places_rules.specs.declared.payload.RangeReply.{RangeReply}
@@ -9,9 +9,9 @@ use Rattle.places_rules.specs.declared.whose.WhoseReply.the-variants.{Header, P
 use Rattle.search_rules.specs.Part.{partTold}
 use Rattle.search_rules.specs.declared.part.PartReply.{PartReply}
 use Rattle.search_rules.specs.declared.part.PartReply.the-variants.{Found, Absent, Refused as NoPart}
-use Rattle.viewer_rules.specs.Faces.{partFace, rangeFace, placeFace}
+use Rattle.viewer_rules.specs.Faces.{partFace, rangeFace, placeFace, ownedFace}
 use Rattle.viewer_rules.specs.Theorems.{partNamed, rangeNamed, placeNamed, PartNamed, RangeNamed, TextNamed}
-use Rattle.viewer_rules.specs.Theorems.{PlaceNamed}
+use Rattle.viewer_rules.specs.Theorems.{PlaceNamed, OwnerNamed, ChainNamed}
 
 part-face : (q : PartReply) → partFace (partTold q) ≡ partNamed q
 part-face (Found at size rows heads) = refl
@@ -38,3 +38,10 @@ text-named s t row q r p u = u .reply ∙ ap rangeFace (sym (p .reply)) ∙ rang
 
 pub place-named : PlaceNamed
 place-named s start size parent x t q r t′ u′ p u = u .reply ∙ ap placeFace (sym (p .reply)) ∙ place-face q
+
+pub owner-named : OwnerNamed
+owner-named s start size parent x q r p u = u .reply ∙ ap ownedFace (sym (p .reply))
+
+pub chain-named : ChainNamed
+chain-named s start size parent x t q r t′ u′ p u =
+    (u .reply ∙ ap ownedFace (sym (p .reply)), u .links ∙ sym (p .links))

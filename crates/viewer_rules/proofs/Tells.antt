@@ -1,5 +1,5 @@
 -- `refused` is 0 for an accepted reply alone, and else one of document 01's numbers (`PartTells`, `RangeTells`,
--- `TextTells`, `PlaceTells`); an id crosses with 8 alone (`IdAlone`). Assumes nothing.
+-- `TextTells`, `PlaceTells`, `OwnerTells`, `ChainTells`); an id crosses with 8 alone (`IdAlone`). Assumes nothing.
 use Prim.Native.Nat.{ℕ}
 use mathlib.Core.Path.{_≡_, refl, ap, sym, _∙_, subst}
 use native.Mathlib.Omega.{arith}
@@ -11,10 +11,14 @@ use Rattle.bodies_rules.specs.declared.body.Range.{Range}
 use Rattle.places_rules.specs.Payload.{payloadRange}
 use Rattle.places_rules.specs.Promise.{valuesOf}
 use Rattle.places_rules.specs.Whose.{Whose, byHeader, byPayload, askedOf, whoseOf}
+use Rattle.owner_rules.specs.Owner.{Part, header, payload, Owned, ownerOf, chainOf}
+use Rattle.owner_rules.specs.Promise.{ownerIs, ownerTold}
 use Rattle.search_rules.specs.Part.{PartTold, foundPart, absentPart, searchOf, replyOf}
 use Rattle.shown_rules.specs.Shown.{textRange}
-use Rattle.viewer_rules.specs.Faces.{partFace, rangeFace, placeFace}
-use Rattle.viewer_rules.specs.Theorems.{Tells, PartTells, RangeTells, TextTells, PlaceTells, IdAlone}
+use Rattle.viewer_rules.specs.Faces.{partFace, rangeFace, placeFace, ownedFace}
+use Rattle.viewer_rules.specs.Theorems.{Tells, PartTells, RangeTells, TextTells, PlaceTells, OwnerTells}
+use Rattle.viewer_rules.specs.Theorems.{ChainTells, IdAlone}
+use Rattle.viewer_rules.specs.declared.owned.UzOwned.{UzOwned}
 use Rattle.viewer_rules.specs.declared.part.UzPart.{UzPart}
 use Rattle.viewer_rules.specs.declared.range.UzRange.{UzRange}
 use Rattle.viewer_rules.specs.declared.whose.UzPlace.{UzPlace}
@@ -64,6 +68,26 @@ pub place-tells : PlaceTells
 place-tells s start size parent x t r t′ p =
     let reply = whoseOf start x (askedOf s start size parent x (length t)) in
     subst (Tells reply) (place-crossed reply ∙ ap (λ (y : UzPlace). y .refused) (sym (p .reply))) (tells reply)
+
+-- Of an owner, with the chain or without.
+owned-crossed : (reply : Reply Owned) → crossed reply ≡ ownedFace (ownerTold reply) .refused
+owned-crossed (refusal e) = refl
+owned-crossed (accepted o) = by (o .part)
+  where
+    by : (p : Part) → 0 ≡ ownedFace (ownerIs p (o .address) (length (o .masters))) .refused
+    by header = refl
+    by payload = refl
+
+owned-said : (reply : Reply Owned) (r : UzOwned) → r ≡ ownedFace (ownerTold reply) → Tells reply (r .refused)
+owned-said reply r e =
+    subst (Tells reply) (owned-crossed reply ∙ ap (λ (y : UzOwned). y .refused) (sym e)) (tells reply)
+
+pub owner-tells : OwnerTells
+owner-tells s start size parent x r p = owned-said (ownerOf s start size parent x) r (p .reply)
+
+pub chain-tells : ChainTells
+chain-tells s start size parent x t r t′ p =
+    owned-said (chainOf s start size parent x (length t)) r (p .reply)
 
 face-id : (reply : Reply PartTold) → (partFace reply .id ≡ 0 → ⊥) → partFace reply .refused ≡ 8
 face-id (accepted (foundPart at size rows heads)) some = absurd (some refl)

@@ -1,12 +1,14 @@
 -- Any two answers that a promise of the C face permits are equal (`OneUzPart`, `OneUzRange`, `OneUzText`,
--- `OneUzPlace`). Assumes nothing.
+-- `OneUzPlace`, `OneUzOwner`, `OneUzChain`). Assumes nothing.
 use Prim.Native.Nat.{ℕ}
 use mathlib.Core.Path.{sym, ap, _∙_}
 use Rattle.elements_rules.specs.Promise.{tableOf as readTable}
 use Rattle.places_rules.specs.Whose.{askedOf, whoseOf}
+use Rattle.owner_rules.specs.Owner.{chainOf}
+use Rattle.owner_rules.specs.Promise.{ownerTold, linksOf}
 use Rattle.search_rules.specs.Part.{searchOf, replyOf, tableOf}
-use Rattle.viewer_rules.specs.Faces.{partFace, placeFace}
-use Rattle.viewer_rules.specs.Theorems.{OneUzPart, OneUzRange, OneUzText, OneUzPlace}
+use Rattle.viewer_rules.specs.Faces.{partFace, placeFace, ownedFace}
+use Rattle.viewer_rules.specs.Theorems.{OneUzPart, OneUzRange, OneUzText, OneUzPlace, OneUzOwner, OneUzChain}
 
 pub part-unique : OneUzPart
 part-unique s part t u r r′ t′ u′ l p q = (
@@ -24,4 +26,13 @@ pub place-unique : OneUzPlace
 place-unique s start size parent x t u r r′ t′ u′ l p q = (
   p .reply ∙ ap (λ (n : ℕ). placeFace (whoseOf start x (askedOf s start size parent x n))) l ∙ sym (q .reply),
   p .table ∙ ap (λ (n : ℕ). readTable start n (askedOf s start size parent x n)) l ∙ sym (q .table),
+)
+
+pub owner-unique : OneUzOwner
+owner-unique s start size parent x r r′ p q = p .reply ∙ sym (q .reply)
+
+pub chain-unique : OneUzChain
+chain-unique s start size parent x t u r r′ t′ u′ l p q = (
+  p .reply ∙ ap (λ (n : ℕ). ownedFace (ownerTold (chainOf s start size parent x n))) l ∙ sym (q .reply),
+  p .links ∙ ap (λ (n : ℕ). linksOf n (chainOf s start size parent x n)) l ∙ sym (q .links),
 )

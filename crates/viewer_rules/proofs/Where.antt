@@ -1,5 +1,5 @@
--- Number and address of a refusal cross together, and it is honest (`PartTellsWhere`, `PlaceTellsWhere`). Assumes
--- nothing.
+-- Number and address of a refusal cross together, and it is honest (`PartTellsWhere`, `PlaceTellsWhere`,
+-- `OwnerTellsWhere`, `ChainTellsWhere`). Assumes nothing.
 use Prim.Native.Nat.{ℕ, _/_}
 use mathlib.Core.Path.{_≡_, refl, sym, subst}
 use mathlib.Core.List.{List}
@@ -14,11 +14,17 @@ use Rattle.elements_rules.specs.Promise.{keeping}
 use Rattle.elements_rules.specs.Faults.{Errand, Honest, Comes}
 use Rattle.places_rules.specs.Whose.{Whose, byHeader, byPayload, askedOf, whoseOf}
 use Rattle.places_rules.proofs.Honest.{places-honest}
+use Rattle.owner_rules.specs.Owner.{Part, header, payload, Owned, ownerOf, chainOf}
+use Rattle.owner_rules.specs.Promise.{ownerIs, ownerTold}
+use Rattle.owner_rules.specs.Way.{Comes as OwnerComes, HonestOwner}
+use Rattle.owner_rules.proofs.Sound.{owner-honest, chain-honest}
 use Rattle.search_rules.specs.Part.{PartTold, foundPart, absentPart, searchOf, replyOf}
 use Rattle.search_rules.specs.Faults.{SearchComes}
 use Rattle.search_rules.proofs.Faults.{search-honest}
-use Rattle.viewer_rules.specs.Faces.{partFace, placeFace}
-use Rattle.viewer_rules.specs.Theorems.{TellsWhere, PartTellsWhere, PlaceTellsWhere}
+use Rattle.viewer_rules.specs.Faces.{partFace, placeFace, ownedFace}
+use Rattle.viewer_rules.specs.Theorems.{TellsWhere, PartTellsWhere, PlaceTellsWhere, OwnerTellsWhere}
+use Rattle.viewer_rules.specs.Theorems.{ChainTellsWhere}
+use Rattle.viewer_rules.specs.declared.owned.UzOwned.{UzOwned}
 use Rattle.viewer_rules.specs.declared.part.UzPart.{UzPart}
 use Rattle.viewer_rules.specs.declared.whose.UzPlace.{UzPlace}
 
@@ -63,3 +69,34 @@ place-tells-where s start size parent x t r t′ p =
     by (refusal e) k =
         broke s Here e
         (places-honest .owner s start size parent x t e _ (record { reply = sym k; table = refl }))
+
+-- Of an owner, with the chain or without: what is refused is honest.
+module _ (s : List ℕ) (start size parent x : ℕ) (reply : Reply Owned)
+    (honest : (e : Refusal) → reply ≡ refusal e → HonestOwner s start size parent x e)
+  where
+    abbrev Here : ℕ → Errand → Type 0
+    Here = OwnerComes s start size parent x
+
+    owned-where : (r : UzOwned) → r ≡ ownedFace (ownerTold reply) → TellsWhere s Here (r .refused) (r .«refused_at»)
+    owned-where r p =
+        subst (λ (z : UzOwned). TellsWhere s Here (z .refused) (z .«refused_at»)) (sym p) (by reply refl)
+      where
+        by-part : (o : Owned) (p : Part)
+            → TellsWhere s Here (ownedFace (ownerIs p (o .address) (length (o .masters))) .refused)
+            (ownedFace (ownerIs p (o .address) (length (o .masters))) .«refused_at»)
+        by-part o header = fine s Here
+        by-part o payload = fine s Here
+
+        by : (z : Reply Owned) → reply ≡ z
+            → TellsWhere s Here (ownedFace (ownerTold z) .refused) (ownedFace (ownerTold z) .«refused_at»)
+        by (accepted o) k = by-part o (o .part)
+        by (refusal e) k = broke s Here e (honest e k)
+
+pub owner-tells-where : OwnerTellsWhere
+owner-tells-where s start size parent x r p =
+    owned-where s start size parent x (ownerOf s start size parent x) (owner-honest s start size parent x) r (p .reply)
+
+pub chain-tells-where : ChainTellsWhere
+chain-tells-where s start size parent x t r t′ p =
+    owned-where s start size parent x (chainOf s start size parent x (length t))
+    (chain-honest s start size parent x (length t)) r (p .reply)

@@ -16,13 +16,20 @@ use Rattle.places_rules.specs.declared.payload.RangeReply.{RangeReply}
 use Rattle.places_rules.specs.declared.payload.RangeReply.the-variants.{Range, Refused as NoRange}
 use Rattle.places_rules.specs.declared.whose.WhoseReply.{WhoseReply}
 use Rattle.places_rules.specs.declared.whose.WhoseReply.the-variants.{Header, Payload, Refused as NoRow}
+use Rattle.owner_rules.specs.Owner.{ownerOf, chainOf}
+use Rattle.owner_rules.specs.Promise.{OwnerPromise, ChainPromise}
+use Rattle.owner_rules.specs.Way.{Comes as OwnerComes}
+use Rattle.owner_rules.specs.declared.owner.OwnerReply.{OwnerReply}
 use Rattle.search_rules.specs.Part.{searchOf, replyOf, PartPromise}
 use Rattle.search_rules.specs.Faults.{SearchComes}
 use Rattle.search_rules.specs.declared.part.PartReply.{PartReply}
 use Rattle.search_rules.specs.declared.part.PartReply.the-variants.{Found, Absent, Refused as NoPart}
 use Rattle.shown_rules.specs.Shown.{textRange}
 use Rattle.shown_rules.specs.Promise.{TextPromise}
+use Rattle.viewer_rules.specs.Faces.{ownedFace}
 use Rattle.viewer_rules.specs.Promise.{UzPartPromise, UzRangePromise, UzTextPromise, UzPlacePromise}
+use Rattle.viewer_rules.specs.Promise.{UzOwnerPromise, UzChainPromise}
+use Rattle.viewer_rules.specs.declared.owned.UzOwned.{UzOwned}
 use Rattle.viewer_rules.specs.declared.part.UzPart.{UzPart}
 use Rattle.viewer_rules.specs.declared.range.UzRange.{UzRange}
 use Rattle.viewer_rules.specs.declared.whose.UzPlace.{UzPlace}
@@ -46,6 +53,17 @@ abbrev pub OneUzPlace : Type 0
 OneUzPlace =
     (s : List ℕ) (start size parent x : ℕ) (t u : List ℕ) (r r′ : UzPlace) (t′ u′ : List ℕ) → length t ≡ length u
     → UzPlacePromise s start size parent x t r t′ → UzPlacePromise s start size parent x u r′ u′
+    → (r ≡ r′) × (t′ ≡ u′)
+
+abbrev pub OneUzOwner : Type 0
+OneUzOwner =
+    (s : List ℕ) (start size parent x : ℕ) (r r′ : UzOwned)
+    → UzOwnerPromise s start size parent x r → UzOwnerPromise s start size parent x r′ → r ≡ r′
+
+abbrev pub OneUzChain : Type 0
+OneUzChain =
+    (s : List ℕ) (start size parent x : ℕ) (t u : List ℕ) (r r′ : UzOwned) (t′ u′ : List ℕ) → length t ≡ length u
+    → UzChainPromise s start size parent x t r t′ → UzChainPromise s start size parent x u r′ u′
     → (r ≡ r′) × (t′ ≡ u′)
 
 -- ---- `refused` tells a refusal
@@ -82,6 +100,16 @@ PlaceTells =
     → UzPlacePromise s start size parent x t r t′
     → Tells (whoseOf start x (askedOf s start size parent x (length t))) (r .refused)
 
+abbrev pub OwnerTells : Type 0
+OwnerTells =
+    (s : List ℕ) (start size parent x : ℕ) (r : UzOwned)
+    → UzOwnerPromise s start size parent x r → Tells (ownerOf s start size parent x) (r .refused)
+
+abbrev pub ChainTells : Type 0
+ChainTells =
+    (s : List ℕ) (start size parent x : ℕ) (t : List ℕ) (r : UzOwned) (t′ : List ℕ)
+    → UzChainPromise s start size parent x t r t′ → Tells (chainOf s start size parent x (length t)) (r .refused)
+
 -- An id crosses with 8 alone: what a C caller finds in `id` beside another number, or beside none, is 0.
 abbrev pub IdAlone : Type 0
 IdAlone =
@@ -114,6 +142,18 @@ PlaceTellsWhere =
     (s : List ℕ) (start size parent x : ℕ) (t : List ℕ) (r : UzPlace) (t′ : List ℕ)
     → UzPlacePromise s start size parent x t r t′
     → TellsWhere s (Comes s keeping (length t / width) 0 parent start size 0) (r .refused) (r .«refused_at»)
+
+abbrev pub OwnerTellsWhere : Type 0
+OwnerTellsWhere =
+    (s : List ℕ) (start size parent x : ℕ) (r : UzOwned)
+    → UzOwnerPromise s start size parent x r
+    → TellsWhere s (OwnerComes s start size parent x) (r .refused) (r .«refused_at»)
+
+abbrev pub ChainTellsWhere : Type 0
+ChainTellsWhere =
+    (s : List ℕ) (start size parent x : ℕ) (t : List ℕ) (r : UzOwned) (t′ : List ℕ)
+    → UzChainPromise s start size parent x t r t′
+    → TellsWhere s (OwnerComes s start size parent x) (r .refused) (r .«refused_at»)
 
 -- ---- each number crosses under its own name
 
@@ -164,3 +204,15 @@ abbrev pub PlaceNamed : Type 0
 PlaceNamed =
     (s : List ℕ) (start size parent x : ℕ) (t : List ℕ) (q : WhoseReply) (r : UzPlace) (t′ u′ : List ℕ)
     → WhosePromise s start size parent x t q t′ → UzPlacePromise s start size parent x t r u′ → r ≡ placeNamed q
+
+abbrev pub OwnerNamed : Type 0
+OwnerNamed =
+    (s : List ℕ) (start size parent x : ℕ) (q : OwnerReply) (r : UzOwned)
+    → OwnerPromise s start size parent x q → UzOwnerPromise s start size parent x r → r ≡ ownedFace q
+
+-- The chain is the very same too.
+abbrev pub ChainNamed : Type 0
+ChainNamed =
+    (s : List ℕ) (start size parent x : ℕ) (t : List ℕ) (q : OwnerReply) (r : UzOwned) (t′ u′ : List ℕ)
+    → ChainPromise s start size parent x t q t′ → UzChainPromise s start size parent x t r u′
+    → (r ≡ ownedFace q) × (u′ ≡ t′)

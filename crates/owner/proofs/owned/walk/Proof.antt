@@ -2,7 +2,6 @@
 use mathlib.Core.Path.{sym, _∙_}
 use native.Mathlib.Omega.{arith}
 use borrow.Author.Needs.{needs}
-use Rattle.kinds.proofs.Numbers.{promised-kind}
 use Rattle.owner_rules.proofs.Walking.{Walking, walk-begins}
 use Rattle.owner_rules.proofs.Turns.{turn-refused, turn-fits, turn-deep, turn-large, turn-header, turn-payload}
 use Rattle.owner_rules.proofs.Turns.{turn-into, turn-past, turn-takes, turn-ends}
