@@ -41,8 +41,8 @@ fn is_asked(recording: &[u8], start: u64, links: usize) -> bool
     links as u64 <= DEPTHS
 }
 
-// The walk to the element that holds the address, which is in the payload. The chain is kept in a cleared slice; after a
-// refusal it is as far as the walk came.
+// The walk to the element that holds the address, which is in the payload. The chain is kept in a cleared slice; after
+// a refusal it is as far as the walk came.
 fn walk(
     recording: &[u8],
     start: u64,
@@ -82,15 +82,14 @@ fn walk(
                     });
                 }
                 let past = address - here;
-                if past < headed.header.length {
-                    keep_link(chain, depth, here);
-                    return OwnerReply::Header {
-                        address: here,
-                        depth,
-                    };
-                }
                 if past < taken {
                     keep_link(chain, depth, here);
+                    if past < headed.header.length {
+                        return OwnerReply::Header {
+                            address: here,
+                            depth,
+                        };
+                    }
                     let id = headed.header.id;
                     if kind_of(id, above).number() != MASTER {
                         return OwnerReply::Payload {

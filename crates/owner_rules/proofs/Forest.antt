@@ -119,7 +119,8 @@ module _ (s : List ℕ) (x : ℕ) (all : List Row) where
         }
 
         module _ (a : at + e .header .length ≤ x) where
-          by-payload : x < at + whole e → (IsMaster (e .header) parent → ⊥) → Owner (suc most) depth parent at left outer
+          by-payload : x < at + whole e → (IsMaster (e .header) parent → ⊥)
+              → Owner (suc most) depth parent at left outer
           by-payload b k =
               let one = header-inside s at (e .header) (i .head) .0 in
               record {

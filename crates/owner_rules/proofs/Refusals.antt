@@ -11,7 +11,8 @@ use Rattle.refusals.specs.declared.refusal.Cause.the-variants as C
 use Rattle.refusals.specs.declared.refusal.Refusal.{Refusal}
 use Rattle.refusals.proofs.Listed.{listed}
 use Rattle.kinds.specs.Kinds.{member}
-use Rattle.elements_rules.specs.Faults.{Errand, toHeader, toBody, toElement, toOwner, toPass, toFind, toFollow, toLookUp}
+use Rattle.elements_rules.specs.Faults.{Errand, toHeader, toBody, toElement, toOwner, toPass, toFind, toFollow}
+use Rattle.elements_rules.specs.Faults.{toLookUp}
 use Rattle.elements_rules.specs.Faults.{Fault, NoBody, bodyOfElement, bodyNamed, Full, fullElement, Other, otherFound}
 use Rattle.elements_rules.specs.Faults.{Far, farFollowed, farLookedUp, Again, againFollowed, Many, manyFollowed}
 use Rattle.elements_rules.specs.Faults.{there, callers}

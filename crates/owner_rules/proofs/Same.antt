@@ -27,7 +27,8 @@ use Rattle.elements_rules.proofs.Readback.{accepted-read}
 use Rattle.places_rules.specs.Whose.{byHeader, byPayload, holderIn, askedOf, whoseOf}
 use Rattle.places_rules.specs.Promise.{whoseTold, WhosePromise}
 use Rattle.places_rules.specs.Theorems.{Owner as RowOwner}
-use Rattle.places_rules.specs.declared.whose.Holder.the-variants.{Header as HeaderHolds, Payload as PayloadHolds, Neither}
+use Rattle.places_rules.specs.declared.whose.Holder.the-variants.{Header as HeaderHolds, Payload as PayloadHolds}
+use Rattle.places_rules.specs.declared.whose.Holder.the-variants.{Neither}
 use Rattle.places_rules.specs.declared.whose.WhoseReply.{WhoseReply}
 use Rattle.places_rules.specs.declared.whose.WhoseReply.the-variants.{Header as RowHeader, Payload as RowPayload}
 use Rattle.places_rules.specs.declared.whose.WhoseReply.the-variants.{Refused as NoRow}
@@ -254,12 +255,15 @@ same-owner s start size parent x t n u w t′ r d p g =
   where
     by : (f : Forest) → readOf s start size parent (length t) ≡ done f → (b : Bool) → within start size x ≡ b
         → r ≡ byAddress t′ w
-    by f o true i = g .reply ∙ same-reply s start size parent x t w t′ f p (asked-inside s start size parent x (length t) f o i)
+    by f o true i =
+        g .reply
+        ∙ same-reply s start size parent x t w t′ f p (asked-inside s start size parent x (length t) f o i)
     by f o false i =
+        let a = start-allowed s start size parent x (length t) f o in
+        let e = asked-outside s start size parent x (length t) f o i in
         let none : w ≡ NoRow outside
-        = sym (replied-back w) ∙ ap replied (p .reply ∙ ap (whoseOf start x) (asked-outside s start size parent x (length t) f o i)) in
-        g .reply ∙ ap ownerTold (owner-outside s start size parent x (start-allowed s start size parent x (length t) f o) i)
-        ∙ ap (byAddress t′) (sym none)
+        = sym (replied-back w) ∙ ap replied (p .reply ∙ ap (whoseOf start x) e) in
+        g .reply ∙ ap ownerTold (owner-outside s start size parent x a i) ∙ ap (byAddress t′) (sym none)
 
 pub chain-of-parents : ChainOfParents
 chain-of-parents s start size parent x t row total w t′ c r c′ p e g l =

@@ -78,6 +78,13 @@ module _
               walk-ends s start size parent x t c at left above depth w header c′ k
               (λ m. steps.in-header s x m depth above at left (e .header) (read-here .head) d l (omega arith))
 
+          pub turn-past : size-of ≤ x - at
+              → Walking s start size parent x t c (at + size-of) (left - size-of) above depth
+          turn-past b =
+              let some = read-here .some in
+              let low = w .low in
+              walk-past s start size parent x t c at left above depth w (e .header) (read-here .head) d l (omega arith)
+
           module _ (a : e .header .length ≤ x - at) where
             -- The address is not in the header: it lies behind it.
             behind-header : at + e .header .length ≤ x
@@ -100,14 +107,6 @@ module _
                 (sym (read-here .behind))
                 (walk-into s start size parent x t c at left above depth w (e .header) c′ (read-here .head) d l
                 behind-header (omega arith) m k)
-
-            pub turn-past : size-of ≤ x - at
-                → Walking s start size parent x t c (at + size-of) (left - size-of) above depth
-            turn-past b =
-                let some = read-here .some in
-                let low = w .low in
-                walk-past s start size parent x t c at left above depth w (e .header) (read-here .head) d l
-                (omega arith)
 
     -- While the address lies ahead, something is left.
     pub turn-ends : (r : OwnerReply) → left ≤ 0 → Met r c

@@ -55,38 +55,36 @@ returns-3 c =
 
 returns-4 : tie.Need-returns-4 Inv-loop μ-loop
 returns-4 c =
-    let k = c .before .before in
+    let k = c .before .before .before .before in
     let g = k .before .before in
-    let i = g .before .before in
+    let i = g .before in
     let f = i .before .before in
     let b = f .before .before in
     let d = b .before .before in
     let w = d .before .before .loop .inv in
     turn-header _ _ _ _ _ _ _ _ _ _ _ w _ (sym (b .headed .given .1) ∙ d .element-header .ensures) (f .if1 .left)
-    (i .if2 .left) _ (g .if3 .taken) (k .keep-link .ensures)
+    (i .if2 .left) _ (c .if4 .taken) (k .keep-link .ensures)
 
 returns-5 : tie.Need-returns-5 Inv-loop μ-loop
 returns-5 c =
     let n = c .before in
-    let k = n .before .before .before .before in
-    let h = k .before .before in
-    let g = h .before in
-    let i = g .before .before in
+    let h = n .before .before in
+    let k = h .before .before .before .before in
+    let g = k .before .before in
+    let i = g .before in
     let f = i .before .before in
     let b = f .before .before in
     let d = b .before .before in
     let w = d .before .before .loop .inv in
     turn-payload _ _ _ _ _ _ _ _ _ _ _ w _ (sym (b .headed .given .1) ∙ d .element-header .ensures) (f .if1 .left)
-    (i .if2 .left) (g .if3 .left) _ (h .if4 .taken)
-    (λ m. c .if5 .taken (n .number .ensures ∙ n .before .kind-of .ensures .reply ∙ m)) (k .keep-link2 .ensures)
+    (i .if2 .left) (h .if4 .left) _ (g .if3 .taken)
+    (λ m. c .if5 .taken (n .number .ensures ∙ n .before .kind-of .ensures .reply ∙ m)) (k .keep-link .ensures)
 
 loop-less : tie.Need-loop-less Inv-loop μ-loop
 loop-less c =
-    let n = c .before .before in
-    let k = n .before .before .before .before in
-    let h = k .before .before in
-    let g = h .before in
-    let i = g .before .before in
+    let k = c .before .before .before .before .before .before .before .before in
+    let g = k .before .before in
+    let i = g .before in
     let f = i .before .before in
     let b = f .before .before in
     let d = b .before .before in
@@ -97,25 +95,23 @@ loop-less c =
 loop-again : tie.Need-loop-again Inv-loop μ-loop
 loop-again c =
     let n = c .before .before in
-    let k = n .before .before .before .before in
-    let h = k .before .before in
-    let g = h .before in
-    let i = g .before .before in
+    let h = n .before .before in
+    let k = h .before .before .before .before in
+    let g = k .before .before in
+    let i = g .before in
     let f = i .before .before in
     let b = f .before .before in
     let d = b .before .before in
     let w = d .before .before .loop .inv in
     turn-into _ _ _ _ _ _ _ _ _ _ _ w _ (sym (b .headed .given .1) ∙ d .element-header .ensures) (f .if1 .left)
-    (i .if2 .left) (g .if3 .left) _ (h .if4 .taken)
+    (i .if2 .left) (h .if4 .left) _ (g .if3 .taken)
     (sym (n .before .kind-of .ensures .reply) ∙ sym (n .number .ensures) ∙ c .before .if5 .left)
-    (k .keep-link2 .ensures)
+    (k .keep-link .ensures)
 
 loop-less-2 : tie.Need-loop-less-2 Inv-loop μ-loop
 loop-less-2 c =
-    let g = c .before in
-    let i = g .before .before in
-    let f = i .before .before in
-    let b = f .before .before in
+    let i = c .before in
+    let b = i .before .before .before .before in
     let d = b .before .before in
     let w = d .before .before .loop .inv in
     let some = turn-takes _ _ _ _ _ _ _ _ _ _ _ w _ (sym (b .headed .given .1) ∙ d .element-header .ensures) in
@@ -123,22 +119,21 @@ loop-less-2 c =
 
 loop-again-2 : tie.Need-loop-again-2 Inv-loop μ-loop
 loop-again-2 c =
-    let g = c .before in
-    let i = g .before .before in
+    let i = c .before in
     let f = i .before .before in
     let b = f .before .before in
     let d = b .before .before in
     let w = d .before .before .loop .inv in
     turn-past _ _ _ _ _ _ _ _ _ _ _ w _ (sym (b .headed .given .1) ∙ d .element-header .ensures) (f .if1 .left)
-    (i .if2 .left) (g .if3 .left) (c .if4 .left)
+    (i .if2 .left) (c .if3 .left)
 
 returns-6 : tie.Need-returns-6 Inv-loop μ-loop
 returns-6 c = turn-ends _ _ _ _ _ _ _ _ _ _ _ (c .before .loop .inv) _ (c .loop-test .left)
 
 pub walk-spec : {M : Type 1} → statement M
 walk-spec =
-    tie.close (tie.spec Inv-loop μ-loop loop-holds (λ c κs. search needs) (λ c. search needs) (λ c. search needs) returns (λ c. search needs)
-    (λ c. search needs) returns-2 add-taken (λ c. search needs) returns-3 (λ c. search needs) (λ c κs. search needs)
-    (λ c. search needs) returns-4 (λ c κs. search needs) (λ c κs. search needs) (λ c κs. search needs)
-    (λ c. search needs) returns-5 (λ c. search needs) loop-less loop-again (λ c. search needs) loop-less-2 loop-again-2
-    (λ c. search needs) returns-6)
+    tie.close (tie.spec Inv-loop μ-loop loop-holds (λ c κs. search needs) (λ c. search needs) (λ c. search needs)
+    returns (λ c. search needs) (λ c. search needs) returns-2 add-taken (λ c. search needs) returns-3 (λ c. search needs)
+    (λ c κs. search needs) (λ c. search needs) returns-4 (λ c κs. search needs) (λ c κs. search needs)
+    (λ c. search needs) returns-5 (λ c. search needs) loop-less loop-again (λ c. search needs)
+    loop-less-2 loop-again-2 (λ c. search needs) returns-6)
