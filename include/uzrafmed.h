@@ -2,12 +2,12 @@
   uzrafmed.h - the C face of Uzrafmed, a verified reader of Matroska's element structure.
 
   It implements the rules of docs/01-scope.md, which comments here call document 01, as later requests change them
-  (docs/DECISIONS.md: a row has eight numbers where document 01 has seven, a refusal has an address, and a shown text
-  ends before its first zero byte). Those rules rest on RFC 8794 (sizes, integers, floats, dates, the end of a text),
-  RFC 9559 (the ids) and RFC 3629 (UTF-8). It is proved that every call ends and answers, on all bytes and all numbers,
-  as the definitions in crates/NAME/specs say, which are written from document 01 and these requests.
-  docs/TRUSTED.md lists what has to be believed; this header, which is written by hand, is in it. What is asked of the
-  caller is in "What every call asks and promises" below.
+  (docs/DECISIONS.md: a row has eight numbers where document 01 has seven, a refusal has an address, a shown text ends
+  before its first zero byte, and the address question can be put without a table). Those rules rest on RFC 8794 (sizes,
+  integers, floats, dates, the end of a text), RFC 9559 (the ids) and RFC 3629 (UTF-8). It is proved that every call
+  ends and answers, on all bytes and all numbers, as the definitions in crates/NAME/specs say, which are written from
+  document 01 and these requests. docs/TRUSTED.md lists what has to be believed; this header, which is written by hand,
+  is in it. What is asked of the caller is in "What every call asks and promises" below.
 
   The library is for x86-64 programs under System V's calling convention. Of the C library it needs memset and its
   like (memcpy, memmove, memcmp) and nothing else. `tools/install PREFIX` installs it as libuzrafmed.a and
@@ -18,12 +18,14 @@
   Without installing: `rt staticlib viewer` writes the proved calls to target/staticlib/libviewer.a, and
   viewer/refusals.c has the words.
 
-  There are four proved calls, and a table of words:
+  There are six proved calls, and a table of words:
 
       uz_find_part       finds Tracks, Attachments, Chapters or Tags, and reads it into a table of rows
       uz_row_payload     tells where in the recording the payload of a row is
       uz_shown_text      tells where the text of a row is, as it is shown to a person
       uz_whose_byte      reads a payload into a table, and names the row that holds an address
+      uz_owner           names the element that holds an address, without a table
+      uz_owner_chain     the same, and the masters around that element
       uz_refusal_words   tells what a refusal means, what its address is and what to do; plain C, not proved
 
   A whole program, which prints the address and the shown text of every chapter string of a recording, and its own
@@ -92,18 +94,19 @@ int main(int count, char **words) {
 
   What every call asks and promises.
 
-  - `recording` points to `length` bytes and `table` to `numbers` numbers. Neither may be NULL, not even for a
-    count of 0; then it may point anywhere else. The table is aligned as a uint64_t is. The two do not overlap.
-    The counts are true: a table whose count is refused is filled with zeros all the same.
+  - `recording` points to `length` bytes, `table` to `numbers` numbers and `chain` to `links` numbers. None of them may
+    be NULL, not even for a count of 0; then it may point anywhere else. Table and chain are aligned as a uint64_t is.
+    Neither overlaps the recording. The counts are true: a table or chain whose count is refused is filled with zeros
+    all the same.
   - The recording is only read, and only its `length` bytes. Nothing is allocated, nothing is kept after the
     call, there is no global state. Calls may run at the same time, on the same recording too, if each that writes
-    a table has one that no other call uses meanwhile. A call takes less than 16 kilobytes of stack (measured, not
-    proved).
+    a table or a chain has one that no other call uses meanwhile. A call takes less than 16 kilobytes of stack
+    (measured, not proved).
   - Damaged or hostile bytes are answered like any others: the call ends, with an answer or a refusal.
   - A refusal is a number from 1 to 15 in `refused`. Every other number of the reply is then 0, but `id` for 8 and
-    `refused_at`, and every number of a table that the call was to write is 0. After acceptance `refused` and
-    `refused_at` are 0, and the numbers of the table beyond the last row are 0. No other outcome exists, and equal
-    arguments get equal answers.
+    `refused_at`, and every number of a table or chain that the call was to write is 0. After acceptance `refused` and
+    `refused_at` are 0, and so are the numbers of the table beyond the last row, or of the chain behind its last
+    address. No other outcome exists, and equal arguments get equal answers.
   - The tests come in a fixed order, so a recording with two faults gets one number, always the same: 14 comes
     before all else, then 15, then the others in the order in which the reader meets the elements.
 
@@ -111,14 +114,16 @@ int main(int count, char **words) {
 
   - That the bytes stay the same. A mapped file that another program writes or cuts short while a call runs may
     give any answer, or a signal of the operating system. Read it into memory where that can happen.
-  - What happens on a NULL pointer, a wrong count, a misaligned table or an overlap: the call may crash.
+  - What happens on a NULL pointer, a wrong count, a misaligned table or chain, or an overlap: the call may crash.
   - That an id is one that Matroska knows. Every id of one to four bytes is accepted; one that is not in document
     01's list has the kind binary. What the elements mean is not looked at: a chapter may lack its name.
   - That a size of all ones is unknown: it is a plain number here, as document 01 says. Live recordings are
     therefore often refused with 1 or 3.
   - Speed. The time of a search is at most about 64 times that of one pass over the recording, of the address question
-    about one pass; skipped elements are not touched. A shown text takes one pass over itself, however long the payload
-    goes on behind it, and uz_row_payload no pass at all.
+    about one pass; skipped elements are not touched. Without a table it looks at headers alone, and its time grows with
+    how many stand before the address, each master around it with the siblings before it; what they hold is not touched.
+    A shown text takes one pass over itself, however long the payload goes on behind it, and uz_row_payload no pass at
+    all.
 */
 #ifndef UZRAFMED_H
 #define UZRAFMED_H
@@ -137,6 +142,7 @@ extern "C" {
 #define UZ_MOST_NUMBERS (UZ_MOST_ROWS * UZ_WIDTH) /* the most numbers of a table */
 #define UZ_MOST_HEADS 64                          /* the most seek heads that a search reads */
 #define UZ_MOST_DEPTH 15                          /* the largest depth of a row */
+#define UZ_MOST_LINKS 16                          /* the most addresses of a chain */
 
 /* The four parts that uz_find_part takes. */
 #define UZ_TRACKS UINT32_C(0x1654AE6B)
@@ -144,8 +150,8 @@ extern "C" {
 #define UZ_CHAPTERS UINT32_C(0x1043A770)
 #define UZ_TAGS UINT32_C(0x1254C367)
 
-/* The parent ids that uz_find_part reads the elements of each part under. uz_whose_byte gives the same rows if it is
-   asked with the same one. */
+/* The parent ids that uz_find_part reads the elements of each part under. uz_whose_byte gives the same rows, and
+   uz_owner the element of one of them, if it is asked with the same one. */
 #define UZ_UNDER_TRACKS UINT32_C(0xAE)
 #define UZ_UNDER_ATTACHMENTS UINT32_C(0x61A7)
 #define UZ_UNDER_CHAPTERS UINT32_C(0x45B9)
@@ -226,6 +232,15 @@ typedef struct uz_place {
     uint64_t in_payload; /* 1 if its payload holds the address (it is a leaf row), 0 if its header does */
     uint64_t rows;       /* how many rows were written */
 } uz_place;
+
+/* The reply of uz_owner and uz_owner_chain. */
+typedef struct uz_owned {
+    uint64_t refused;    /* 0, or the number of the refusal; then the others are 0, but `refused_at` */
+    uint64_t refused_at; /* for 1, 2, 3 and 12 the address where it broke, which may be 0 or past the end; else 0 */
+    uint64_t at;         /* the address of the header of the element that holds the byte */
+    uint64_t in_payload; /* 1 if its payload holds the byte (it is no master), 0 if its header does */
+    uint64_t depth;      /* how many masters stand around it in the payload that was asked for, 0 to UZ_MOST_DEPTH */
+} uz_owned;
 
 /*
   Finds a part of a recording and reads its payload into the table.
@@ -360,6 +375,63 @@ uz_range uz_shown_text(const uint8_t *recording, size_t length, const uint64_t *
 */
 uz_place uz_whose_byte(const uint8_t *recording, size_t length, uint64_t start, uint64_t size, uint32_t parent,
                        uint64_t address, uint64_t *table, size_t numbers);
+
+/*
+  Names the element that holds `address`, in the payload of `size` bytes from the address `start` on: the address
+  question without a table, for one byte at once. Take uz_whose_byte where the rows are wanted too.
+
+  Headers are read from the front of the payload. An element that ends before the address is passed over by its size; a
+  master that holds the address is gone into, and its headers are read likewise, up to the element that has the address
+  in its header, or that is no master and has it in its payload. Start, size and parent are those of uz_whose_byte. To
+  ask of the whole file, start is 0, size UINT64_MAX and parent 0: then the EBML header, the segment, seek heads and
+  Clusters are elements like others, and depths count from there.
+
+  On a payload that uz_whose_byte accepts both name the same: `at` is the address of its row, `in_payload` is its
+  in_payload, and `depth` is the depth of that row. But no body is looked at, not even that of the element itself: it
+  may be no number, text or date of its kind, and the recording may end within it. What stands behind the address is not
+  read either. So there is a reply for many payloads that uz_whose_byte refuses.
+
+  Owns: nothing. Reads: of the recording the headers that it comes to. Writes: nothing.
+
+  Refusals, in this order: 14, 15, then those of each header as it is met, before the address is looked for in it:
+     1  the recording ends before the header does
+     2  the id has more than four bytes
+     3  the size has more than eight bytes
+    12  the element would lie at depth 16
+     3  the element, header and payload, is larger than what its master, or the payload, had left
+    14  length exceeds UZ_MOST_BYTES, or start exceeds length
+    15  address is not one of the `size` bytes from start on
+  There is no 13, and none of 4 to 11.
+
+  What `refused_at` is, by the number:
+     1, 2, 3, 12  where that header begins; for an element that is too large its own header, not its master's
+    14, 15  0
+
+  Not promised: that start is the begin of an element, or that the payload of the element lies in the recording: `at`
+  does, with the whole header, and the address may lie behind the recording's end. start + size may exceed the
+  recording or 2^64-1.
+*/
+uz_owned uz_owner(const uint8_t *recording, size_t length, uint64_t start, uint64_t size, uint32_t parent,
+                  uint64_t address);
+
+/*
+  The same reply as that of uz_owner, and the chain of elements down to the byte: chain[0] is the address of the header
+  of the outermost element that holds it, each further one lies directly in the one before, and chain[depth] is `at`.
+  All but the last are masters. Zeros follow.
+
+  `links` is 0 to UZ_MOST_LINKS, and UZ_MOST_LINKS are always enough. If it is not more than depth, the first `links`
+  addresses are written, and depth tells how many masters there are.
+
+  Owns: nothing. Reads: of the recording the headers that it comes to. Writes: every number of the chain.
+
+  Refusals: those of uz_owner, in the same order, at the same addresses; 14 also if links exceeds UZ_MOST_LINKS. Every
+  number of the chain is then 0.
+
+  Not promised: what uz_owner does not promise. 0 is also the address of the first byte, so it is `depth` that tells
+  where the chain ends, not a zero.
+*/
+uz_owned uz_owner_chain(const uint8_t *recording, size_t length, uint64_t start, uint64_t size, uint32_t parent,
+                        uint64_t address, uint64_t *chain, size_t links);
 
 /*
   Tells what the number of a refusal means and where its address points, in words for a person. Every number has an

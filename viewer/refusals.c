@@ -74,11 +74,9 @@ static const uz_words table[] = {
     [UZ_BAD_ARGUMENT] =
         {"BAD_ARGUMENT",
          "the recording is longer than 4,294,967,295 bytes, a place is past its end, a table has "
-         "no "
-         "whole rows or more than 4,096, the part is none of the four, or a row is not in the "
-         "table "
-         "or its range not in the recording; where a text is asked for, also if the row is no text "
-         "row",
+         "no whole rows or more than 4,096, a chain has more than 16 addresses, the part is none "
+         "of the four, or a row is not in the table or its range not in the recording; where a "
+         "text is asked for, also if the row is no text row",
          "a length, part, start or row that was given is out of bounds, or the row is no text",
          "nowhere: it is 0, since the fault is in what was asked",
          "the program that asked is at fault: hold its numbers to uzrafmed.h"},
