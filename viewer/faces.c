@@ -1,11 +1,12 @@
-// A test of the four calls of include/uzrafmed.h, by a program that trusts none of them.
+// A test of the six calls of include/uzrafmed.h, by a program that trusts none of them.
 //
 //   faces [FILE..]   tests worked cases, limits, and damage to a recording made here and each file
 //
 // Recordings lie in memory that can only be read, tables in memory that is inaccessible on both
 // sides: right before the first number or right after the last one, in turn. A read past a
 // recording's end or a write past a table's end so ends the program. Every reply is held to what
-// the header says of all replies, and worked cases to their numbers.
+// the header says of all replies, and worked cases to their numbers; the owner of a byte also to a
+// walk over the headers that is written here once more.
 //
 // Prints what is wrong, and last 'faces: N checks, 0 wrong'. Status 1 if anything is wrong.
 #define _DEFAULT_SOURCE
@@ -63,6 +64,7 @@ static recording placed(const uint8_t *bytes, size_t length, bool front) {
 // Room for more numbers than a table may have, and for the tables of the random tests.
 static arena large_tables;
 static arena small_tables;
+static arena chains;
 
 // ---- The calls, and what holds of all their replies ----
 
@@ -100,12 +102,38 @@ static uz_part find_part(recording from, uint32_t part, lent to) {
     return said;
 }
 
+// Both calls for the owner of a byte. The chain is lent in `to`.
+static uz_owned owner(recording from, pointed asked, lent to) {
+    uz_owned said = uz_owner(from.bytes, from.length, asked.start, asked.size, asked.parent,
+                             asked.address);
+    uz_owned chained = uz_owner_chain(from.bytes, from.length, asked.start, asked.size,
+                                      asked.parent, asked.address, to.table, to.numbers);
+    way down;
+    uz_owned due = due_owner(from, asked, &down);
+    check_owned(from, asked, said);
+    check(same_owned(said, due), "the owner by the rule");
+    check_chain(to, chained, due, &down);
+    return said;
+}
+
+// The same with a chain of any length, at either end of its memory.
+static uz_owned any_owner(recording from, pointed asked) {
+    static size_t turn;
+    turn++;
+    return owner(from, asked, lend(chains, turn % (UZ_MOST_LINKS + 2), turn % 3 == 0));
+}
+
 static uz_place whose_byte(recording from, uint64_t start, uint64_t size, uint32_t parent,
                            uint64_t address, lent to) {
     uz_place said =
         uz_whose_byte(from.bytes, from.length, start, size, parent, address, to.table, to.numbers);
     check_place(from, start, size, address, to, said);
     check_rows(from, said.rows, to);
+    pointed asked = {start, size, parent, address};
+    lent chain = lend(chains, UZ_MOST_LINKS, address % 2 != 0);
+    uz_owned owned = owner(from, asked, chain);
+    if (said.refused == UZ_ACCEPTED)
+        check(is_row_of(to, said, owned, chain), "the owner is the row that was named");
     return said;
 }
 
@@ -837,6 +865,224 @@ static void test_places(void) {
     check(cell(to, 1, UZ_ID) == 0xE0 && cell(to, 1, UZ_KIND) == UZ_BINARY, "E0 is binary there");
 }
 
+// ---- The owner without a table ----
+
+typedef struct {
+    const char *bytes;
+    pointed asked;
+    uz_owned due;
+    uint64_t chain[3]; // its first three numbers
+} owner_case;
+
+// clang-format off
+static const owner_case owner_cases[] = {
+    // A setting of the bench below a tag, and a text of it; its master's payload alone.
+    {"67C88C45A3847261696C4487823556", {0, 15, 0x7373, 8}, {0, 0, 3, 1, 1}, {0, 3, 0}},
+    {"67C88C45A3847261696C4487823556", {0, 15, 0x7373, 0}, {0, 0, 0, 0, 0}, {0, 0, 0}},
+    {"67C88C45A3847261696C4487823556", {0, 15, 0x7373, 12}, {0, 0, 10, 0, 1}, {0, 10, 0}},
+    {"67C88C45A3847261696C4487823556", {3, 12, 0x67C8, 14}, {0, 0, 10, 1, 0}, {10, 0, 0}},
+    // Document 02's 8 bytes: a master in a master, a leaf in that and one behind both.
+    {"A084A082EC80EC80", {0, 8, 0, 5}, {0, 0, 4, 0, 2}, {0, 2, 4}},
+    {"A084A082EC80EC80", {0, 8, 0, 3}, {0, 0, 2, 0, 1}, {0, 2, 0}},
+    {"A084A082EC80EC80", {0, 8, 0, 6}, {0, 0, 6, 0, 0}, {6, 0, 0}},
+    {"A084A082EC80EC80", {2, 4, 0xA0, 5}, {0, 0, 4, 0, 1}, {2, 4, 0}},
+    // An element that is too large is refused at once, though its header has the address.
+    {"EC8200", {0, 2, 0, 0}, {3, 0, 0, 0, 0}, {0, 0, 0}},
+    {"A0830F80EC", {0, 4, 0, 2}, {3, 0, 0, 0, 0}, {0, 0, 0}},
+    {"A084EC8141EC8041", {0, 8, 0, 5}, {3, 5, 0, 0, 0}, {0, 0, 0}},
+    {"A085EC80EC8241", {0, 7, 0, 2}, {0, 0, 2, 0, 1}, {0, 2, 0}},
+    {"A085EC80EC8241", {0, 7, 0, 4}, {3, 4, 0, 0, 0}, {0, 0, 0}},
+    {"EC01FFFFFFFFFFFFFF", {0, 9, 0, 0}, {3, 0, 0, 0, 0}, {0, 0, 0}},
+    // A header that reads past its master's end.
+    {"A081EC8041", {0, 5, 0, 2}, {3, 2, 0, 0, 0}, {0, 0, 0}},
+    // No body is looked at: a text that is none, numbers of other lengths, a leaf that is cut off.
+    {"45A381FF", {0, 4, 0, 3}, {0, 0, 0, 1, 0}, {0, 0, 0}},
+    {"838900", {0, 11, 0, 9}, {0, 0, 0, 1, 0}, {0, 0, 0}},
+    {"B581004461810042", {0, 8, 0, 3}, {0, 0, 3, 0, 0}, {3, 0, 0}},
+    {"EC8400", {0, 6, 0, 5}, {0, 0, 0, 1, 0}, {0, 0, 0}},
+    {"A0FFEC84", {0, 129, 0, 7}, {0, 0, 2, 1, 1}, {0, 2, 0}},
+    {"18538067FFEC01FFFFFFFFFFFFF5", {0, UINT64_MAX, 0, 0}, {0, 0, 0, 0, 0}, {0, 0, 0}},
+    {"18538067FFEC01FFFFFFFFFFFFF5", {0, UINT64_MAX, 0, 6}, {3, 5, 0, 0, 0}, {0, 0, 0}},
+    // What stands behind the address is not read.
+    {"EC8000", {0, 3, 0, 0}, {0, 0, 0, 0, 0}, {0, 0, 0}},
+    {"EC8000", {0, 3, 0, 2}, {1, 2, 0, 0, 0}, {0, 0, 0}},
+    {"EC800F80", {0, 4, 0, 1}, {0, 0, 0, 0, 0}, {0, 0, 0}},
+    {"EC800F80", {0, 4, 0, 2}, {2, 2, 0, 0, 0}, {0, 0, 0}},
+    {"EC80EC0001", {0, 5, 0, 3}, {3, 2, 0, 0, 0}, {0, 0, 0}},
+    // What a sibling holds is not read: a long id, and a child that would be too large.
+    {"A0820F80EC80", {0, 6, 0, 4}, {0, 0, 4, 0, 0}, {4, 0, 0}},
+    {"A082EC82EC80", {0, 6, 0, 5}, {0, 0, 4, 0, 0}, {4, 0, 0}},
+    // A sibling that is passed over ends behind the recording: the next header is not there.
+    {"EC84", {0, 20, 0, 7}, {1, 6, 0, 0, 0}, {0, 0, 0}},
+    {"EC0180000000000000EC80", {0, UINT64_MAX, 0, UINT64_C(36028797018963977)},
+     {1, UINT64_C(36028797018963977), 0, 0, 0}, {0, 0, 0}},
+    // Masters by the parent: E0 below Tracks is none, and the address is in its payload.
+    {"1654AE6B84E082B080", {0, 9, SEGMENT, 7}, {0, 0, 5, 1, 1}, {0, 5, 0}},
+    {"1654AE6B84E082B080", {5, 4, UZ_UNDER_TRACKS, 7}, {0, 0, 7, 0, 1}, {5, 7, 0}},
+    {"AE82B080", {0, 4, UZ_TRACKS, 2}, {0, 0, 2, 0, 1}, {0, 2, 0}},
+    {"AE82B080", {0, 4, UZ_TAGS, 2}, {0, 0, 0, 1, 0}, {0, 0, 0}},
+    {"692482B080", {0, 5, 0x1549A966, 3}, {0, 0, 3, 0, 1}, {0, 3, 0}},
+    {"45B982B080", {0, 5, UZ_CHAPTERS, 3}, {0, 0, 3, 0, 1}, {0, 3, 0}},
+    {"61A782B080", {0, 5, UZ_ATTACHMENTS, 3}, {0, 0, 3, 0, 1}, {0, 3, 0}},
+    {"737382B080", {0, 5, UZ_TAGS, 3}, {0, 0, 3, 0, 1}, {0, 3, 0}},
+    // 12 comes behind the header's own faults, and before what is left.
+    {"AEA0AE9EAE9CAE9AAE98AE96AE94AE92AE90AE8EAE8CAE8AAE88AE86AE84AE82EC80",
+     {0, 34, 0, 33}, {12, 32, 0, 0, 0}, {0, 0, 0}},
+    {"AEA0AE9EAE9CAE9AAE98AE96AE94AE92AE90AE8EAE8CAE8AAE88AE86AE84AE82EC81",
+     {0, 34, 0, 32}, {12, 32, 0, 0, 0}, {0, 0, 0}},
+    {"AEA0AE9EAE9CAE9AAE98AE96AE94AE92AE90AE8EAE8CAE8AAE88AE86AE84AE820F80",
+     {0, 34, 0, 33}, {2, 32, 0, 0, 0}, {0, 0, 0}},
+    {"AE9EAE9CAE9AAE98AE96AE94AE92AE90AE8EAE8CAE8AAE88AE86AE84AE82EC80",
+     {0, 32, 0, 31}, {0, 0, 30, 0, 15}, {0, 2, 4}},
+    // 14 for the start, then 15, before anything in the recording.
+    {"EC80", {3, 2, 0, 3}, {14, 0, 0, 0, 0}, {0, 0, 0}},
+    {"EC80", {UINT64_MAX, 1, 0, UINT64_MAX}, {14, 0, 0, 0, 0}, {0, 0, 0}},
+    {"EC80", {2, 0, 0, 2}, {15, 0, 0, 0, 0}, {0, 0, 0}},
+    {"EC80", {2, 1, 0, 2}, {1, 2, 0, 0, 0}, {0, 0, 0}},
+    {"0F80", {0, 2, 0, 2}, {15, 0, 0, 0, 0}, {0, 0, 0}},
+    {"0F80", {1, 1, 0, 0}, {15, 0, 0, 0, 0}, {0, 0, 0}},
+    {"0F80", {0, 2, 0, UINT64_MAX}, {15, 0, 0, 0, 0}, {0, 0, 0}},
+    {"0F80", {0, 2, 0, 1}, {2, 0, 0, 0, 0}, {0, 0, 0}},
+    {"", {0, 0, 0, 0}, {15, 0, 0, 0, 0}, {0, 0, 0}},
+    {"", {0, UINT64_MAX, 0, 0}, {1, 0, 0, 0, 0}, {0, 0, 0}},
+    // start + size beyond 2^64, and the last address that there is.
+    {"00EC80", {1, UINT64_MAX, 0, 2}, {0, 0, 1, 0, 0}, {1, 0, 0}},
+    {"00EC80", {1, UINT64_MAX, 0, UINT64_MAX}, {1, 3, 0, 0, 0}, {0, 0, 0}},
+};
+// clang-format on
+
+static void test_owners(void) {
+    for (size_t i = 0; i < sizeof owner_cases / sizeof *owner_cases; i++) {
+        const owner_case *now = &owner_cases[i];
+        about = now->bytes;
+        for (unsigned front = 0; front < 2; front++) {
+            recording from = hex(now->bytes, front != 0);
+            lent chain = lend(chains, UZ_MOST_LINKS, front != 0);
+            check(same_owned(owner(from, now->asked, chain), now->due), "the worked owner");
+            check(memcmp(chain.table, now->chain, sizeof now->chain) == 0, "the worked chain");
+        }
+    }
+}
+
+// Masters in each other, to the deepest: chains of every length that is taken, and longer ones.
+static void test_links(void) {
+    about = "a chain of masters";
+    static const size_t more[] = {UZ_MOST_LINKS + 1, UZ_MOST_LINKS + 2, UZ_MOST_NUMBERS};
+    written *to = clean();
+    for (unsigned left = UZ_MOST_DEPTH; left > 0; left--) {
+        put_byte(to, 0xAE);
+        put_byte(to, 0x80 | 2 * left);
+    }
+    put_hex(to, "EC80");
+    recording from = placed(to->bytes, to->length, false);
+    for (uint64_t address = 0; address < from.length; address++) {
+        pointed asked = {0, from.length, 0, address};
+        uz_owned due = {0, 0, address / 2 * 2, 0, address / 2};
+        for (size_t links = 0; links <= UZ_MOST_LINKS; links++) {
+            lent chain = lend(chains, links, links % 2 != 0);
+            check(same_owned(owner(from, asked, chain), due), "an owner in masters");
+            for (size_t i = 0; i < links; i++)
+                check(chain.table[i] == (i <= due.depth ? 2 * i : 0), "a link is a header");
+        }
+        for (size_t i = 0; i < sizeof more / sizeof *more; i++)
+            owner(from, asked, lend(large_tables, more[i], i % 2 != 0));
+    }
+    // 14 for the chain comes before 15.
+    pointed outside = {0, from.length, 0, from.length};
+    owner(from, outside, lend(chains, UZ_MOST_LINKS + 1, false));
+}
+
+// Nothing but headers is looked at: the recording goes on behind the last of them, on a page that
+// is inaccessible.
+static void test_unread(void) {
+    about = "bodies that are not there";
+    static const struct {
+        const char *headers;
+        uz_owned due;
+    } asked[] = {
+        {"EC08FFFFFFF0", {0, 0, 0, 1, 0}},         {"45A308FFFFFFF0", {0, 0, 0, 1, 0}},
+        {"838F", {0, 0, 0, 1, 0}},                 {"A01FFFFFF0EC1FFFFF00", {0, 0, 5, 1, 1}},
+        {"44611FFFFFF0", {0, 0, 0, 1, 0}},         {"18538067FFEC8041A290", {0, 0, 7, 1, 1}},
+        {"1F43B6751FFFFFFFA38F", {0, 0, 8, 1, 1}},
+    };
+    for (size_t i = 0; i < sizeof asked / sizeof *asked; i++) {
+        recording from = hex(asked[i].headers, false);
+        uint64_t behind = from.length;
+        from.length = (size_t)UZ_MOST_BYTES;
+        for (uint64_t k = 0; k < 3; k++) {
+            pointed byte = {0, UINT64_MAX, 0, behind + k * 5};
+            check(same_owned(any_owner(from, byte), asked[i].due), "a body is not looked at");
+        }
+    }
+}
+
+// What is passed over is not looked at either: a page between two headers is inaccessible, and all
+// of it is the first one's body.
+static void test_passed_over(void) {
+    about = "a body between two headers";
+    static const uint8_t passed[][4] = {{0xEC, 0x21, 0, 0}, {0xA0, 0x21, 0, 0}, {0x85, 0x21, 0, 0}};
+    static const uint8_t next[] = {0xEC, 0x80};
+    arena all = make_arena(3 * (size_t)PAGE);
+    for (size_t i = 0; i < sizeof passed / sizeof *passed; i++) {
+        allow(all, PROT_READ | PROT_WRITE);
+        recording from = {all.first + PAGE - sizeof *passed, sizeof *passed + PAGE + sizeof next};
+        memcpy(all.first + PAGE - sizeof *passed, passed[i], sizeof *passed);
+        memcpy(all.first + 2 * (size_t)PAGE, next, sizeof next);
+        allow(all, PROT_NONE);
+        arena front = {all.first, PAGE}, back = {all.first + 2 * (size_t)PAGE, PAGE};
+        allow(front, PROT_READ);
+        allow(back, PROT_READ);
+        for (uint64_t k = 0; k < sizeof next; k++) {
+            pointed asked = {0, from.length, 0, sizeof *passed + PAGE + k};
+            uz_owned due = {0, 0, sizeof *passed + PAGE, 0, 0};
+            check(same_owned(any_owner(from, asked), due), "the element behind it");
+        }
+    }
+    munmap(all.first - PAGE, all.size + 2 * (size_t)PAGE);
+}
+
+// Which ids are masters: each of the list, and its neighbours, below each parent that has a set of
+// its own, and below others. The body is an element of no bytes, or two bytes.
+static void test_masters(void) {
+    about = "the masters";
+    static const uint32_t above[] = {0,           SEGMENT, 0x1549A966, UZ_TRACKS, UZ_ATTACHMENTS,
+                                     UZ_CHAPTERS, UZ_TAGS, 0xAE,       UINT32_MAX};
+    for (size_t i = 0; i < sizeof listed_masters / sizeof *listed_masters; i++) {
+        for (uint32_t id = listed_masters[i] - 1; id <= listed_masters[i] + 1; id++) {
+            written *to = clean();
+            put_id(to, id);
+            put_hex(to, "82EC80");
+            recording from = placed(to->bytes, to->length, false);
+            pointed asked = {0, from.length, 0, from.length - 1};
+            for (size_t k = 0; k < sizeof above / sizeof *above; k++) {
+                asked.parent = above[k];
+                any_owner(from, asked);
+                whose_byte(from, 0, from.length, above[k], asked.address,
+                           lend(small_tables, 2 * UZ_WIDTH, false));
+            }
+        }
+    }
+}
+
+// Every byte of a recording by the order of its elements, from the start of the file on.
+static void test_bytes(recording from) {
+    for (uint64_t address = 0; address < from.length; address++) {
+        pointed asked = {0, UINT64_MAX, 0, address};
+        any_owner(from, asked);
+    }
+}
+
+// Every byte of a part that is found, by both address questions.
+static void test_part_bytes(recording from, size_t i) {
+    size_t numbers = small_tables.size / sizeof(uint64_t);
+    uz_part found = find_part(from, parts[i], lend(small_tables, numbers, false));
+    for (uint64_t k = 0; k < found.size; k++) {
+        lent to = lend(small_tables, numbers, k % 2 != 0);
+        uz_place said = whose_byte(from, found.at, found.size, parents[i], found.at + k, to);
+        check(said.refused == UZ_ACCEPTED, "a byte of a file's part");
+    }
+}
+
 // Every byte of every part, and of every master inside it.
 static void test_sample(void) {
     about = "the sample";
@@ -845,6 +1091,7 @@ static void test_sample(void) {
     put_sample(made);
     recording from = placed(made->bytes, made->length, false);
     static uint64_t kept[UZ_MOST_NUMBERS];
+    test_bytes(from);
     for (size_t i = 0; i < 4; i++) {
         size_t numbers = (size_t)rows[i] * UZ_WIDTH;
         lent to = lend(small_tables, numbers, false);
@@ -891,6 +1138,8 @@ static void test_too_long(arena in) {
         check(find_part(none, UZ_TAGS, table).refused == UZ_BAD_ARGUMENT, "part");
         table = lend(small_tables, UZ_WIDTH, false);
         check(whose_byte(none, 0, 1, 0, 0, table).refused == UZ_BAD_ARGUMENT, "whose");
+        pointed first = {0, 1, 0, 0};
+        check(any_owner(none, first).refused == UZ_BAD_ARGUMENT, "owner");
         table = lend(small_tables, UZ_WIDTH, false);
         memset(table.table, 0, UZ_WIDTH * sizeof(uint64_t));
         uz_range range = uz_row_payload(none.bytes, none.length, table.table, table.numbers, 0);
@@ -939,9 +1188,14 @@ static void test_longest(void) {
     check(is_range(shown_text(from, table, 1), UZ_ACCEPTED, length - 2, 2),
           "the last bytes as a text");
     table = lend(small_tables, 2 * UZ_WIDTH, false);
-    uz_place owner = {0, 0, 1, 1, 2};
-    check(same_place(whose_byte(from, length - 7, 7, UZ_UNDER_TAGS, length - 1, table), owner),
+    uz_place due_place = {0, 0, 1, 1, 2};
+    check(same_place(whose_byte(from, length - 7, 7, UZ_UNDER_TAGS, length - 1, table), due_place),
           "the last byte");
+    // The same byte from the start of the file on, and one that nobody may look at.
+    pointed last = {0, UINT64_MAX, 0, length - 1}, passed = {0, length, SEGMENT, length / 2};
+    uz_owned due_last = {0, 0, length - 4, 1, 3}, due_passed = {0, 0, 12, 1, 1};
+    check(same_owned(any_owner(from, last), due_last), "the last byte by the file");
+    check(same_owned(any_owner(from, passed), due_passed), "a byte that is passed over");
 
     test_too_long(all);
     munmap(all.first - PAGE, all.size + 2 * (size_t)PAGE);
@@ -971,6 +1225,19 @@ static size_t damage(uint8_t *bytes, size_t length) {
 static lent lend_any(size_t rows) {
     bool front = any(2) == 0;
     return lend(small_tables, rows * UZ_WIDTH, front);
+}
+
+// Some bytes by the order of the file: any, and one in a payload of any master.
+static void ask_owners(recording from) {
+    for (unsigned n = 0; n < 8; n++) {
+        pointed asked = {0, UINT64_MAX, 0, any(from.length + 2)};
+        any_owner(from, asked);
+        asked.start = any(from.length + 2);
+        asked.size = any(3) == 0 ? UINT64_MAX - any(9) : any(from.length + 2);
+        asked.parent = any(2) == 0 ? 0 : parts[any(4)];
+        asked.address = asked.start + any(any(4) == 0 ? UINT32_MAX : 40);
+        any_owner(from, asked);
+    }
 }
 
 static void ask_damaged(recording from, uint64_t *accepted) {
@@ -1003,6 +1270,7 @@ static void ask_damaged(recording from, uint64_t *accepted) {
     uint32_t parent = above[any(sizeof above / sizeof *above)];
     uint64_t address = start + any(size / 2 + 1);
     whose_byte(from, start, size, parent, address, lend_any((size_t)any(60)));
+    ask_owners(from);
 }
 
 static void test_damage(const char *name, const uint8_t *bytes, size_t length, unsigned copies) {
@@ -1032,8 +1300,14 @@ static void test_file(const char *name) {
         give_up("a file can't be read, or is longer than 1 MiB");
     fclose(file);
     const char *slash = strrchr(name, '/');
-    if (length > 0)
-        test_damage(slash != NULL ? slash + 1 : name, bytes, length, DAMAGED_FILE);
+    about = slash != NULL ? slash + 1 : name;
+    if (length == 0)
+        return;
+    recording from = placed(bytes, length, false);
+    test_bytes(from);
+    for (size_t i = 0; i < 4; i++)
+        test_part_bytes(from, i);
+    test_damage(about, bytes, length, DAMAGED_FILE);
 }
 
 int main(int count, char **words) {
@@ -1042,6 +1316,7 @@ int main(int count, char **words) {
     recordings = make_arena(MOST_FILE);
     large_tables = make_arena((UZ_MOST_NUMBERS + UZ_WIDTH) * sizeof(uint64_t));
     small_tables = make_arena(PAGE);
+    chains = make_arena(PAGE);
     test_example();
     test_after();
     test_parts();
@@ -1053,6 +1328,11 @@ int main(int count, char **words) {
     test_texts();
     test_alone();
     test_places();
+    test_owners();
+    test_links();
+    test_unread();
+    test_passed_over();
+    test_masters();
     test_sample();
     test_longest();
     static written sample;

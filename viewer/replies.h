@@ -1,4 +1,4 @@
-// What the tests of the four calls of include/uzrafmed.h share: memory between inaccessible pages,
+// What the tests of the six calls of include/uzrafmed.h share: memory between inaccessible pages,
 // and what the header says of all replies. A program that includes this defines `check`, which is
 // told each thing that has to hold, and `give_up`, for a test that can't go on.
 #ifndef UZ_REPLIES_H
@@ -382,6 +382,164 @@ static void check_place(recording from, uint64_t start, uint64_t size, uint64_t 
     uz_place owner = {0, 0, 0, 0, 0};
     check(owners(to, said.rows, address, &owner) == 1, "a byte has one owner");
     check(same_place(said, owner), "the row named owns the byte");
+}
+
+// ---- The owner without a table ----
+
+// A byte that is asked for, in a payload.
+typedef struct {
+    uint64_t start, size;
+    uint32_t parent;
+    uint64_t address;
+} pointed;
+
+// The masters of document 01's list. viewer/check holds them to it.
+static const uint32_t listed_masters[] = {
+    0x80,       0x8E,       0x8F,       0xA0,       0xA6,       0xAE,       0xB6,
+    0xB7,       0xBB,       0xC8,       0xDB,       0xE0,       0xE1,       0xE2,
+    0xE3,       0xE4,       0xE8,       0xE9,       0x45B9,     0x4DBB,     0x5034,
+    0x5035,     0x55B0,     0x55D0,     0x5854,     0x61A7,     0x6240,     0x63C0,
+    0x6624,     0x67C8,     0x6911,     0x6924,     0x6944,     0x6D80,     0x7373,
+    0x75A1,     0x7E5B,     0x7E7B,     0x1043A770, 0x114D9B74, 0x1254C367, 0x1549A966,
+    0x1654AE6B, 0x18538067, 0x1941A469, 0x1A45DFA3, 0x1B538667, 0x1C53BB6B, 0x1F43B675,
+};
+
+// Whether an id is a master below a parent: five parents have small sets of their own.
+static bool holds_elements(uint32_t parent, uint64_t id) {
+    switch (parent) {
+    case 0x1549A966:
+        return id == 0x6924;
+    case UZ_TRACKS:
+        return id == 0x6924 || id == 0xAE;
+    case UZ_ATTACHMENTS:
+        return id == 0x61A7;
+    case UZ_CHAPTERS:
+        return id == 0x45B9;
+    case UZ_TAGS:
+        return id == 0x7373;
+    }
+    for (size_t i = 0; i < sizeof listed_masters / sizeof *listed_masters; i++)
+        if (listed_masters[i] == id)
+            return true;
+    return false;
+}
+
+static uz_owned no_owner(uint64_t refused, uint64_t at) {
+    uz_owned due = {refused, at, 0, 0, 0};
+    return due;
+}
+
+// The way down to an element: the header of each that holds it and its own, zeros behind it, and how
+// many bytes may be looked at to find it.
+typedef struct {
+    uint64_t chain[UZ_MOST_LINKS];
+    uint64_t looked_at;
+} way;
+
+// The element that holds the address among siblings, the first of which stands at `at`: they are
+// `depth` masters deep, and have `left` bytes.
+static uz_owned owner_among(recording from, uint64_t at, uint64_t left, uint32_t parent,
+                            uint64_t address, uint64_t depth, way *down) {
+    for (;;) {
+        uint64_t id = 0, size = 0;
+        uint64_t fault = header_fault(from, at);
+        if (fault != UZ_ACCEPTED) {
+            // Zeros run on.
+            down->looked_at += at < from.length ? from.length - at : 0;
+            return no_owner(fault, at);
+        }
+        unsigned length = header(from, at, &id, &size);
+        down->looked_at += length;
+        if (depth > UZ_MOST_DEPTH)
+            return no_owner(UZ_TOO_DEEP, at);
+        if (length > left || size > left - length)
+            return no_owner(UZ_INVALID_SIZE, at);
+        uint64_t behind = address - at;
+        bool inside = behind >= length && behind - length < size;
+        down->chain[depth] = at;
+        if (inside && holds_elements(parent, id))
+            return owner_among(from, at + length, size, (uint32_t)id, address, depth + 1, down);
+        if (inside || behind < length)
+            return (uz_owned){UZ_ACCEPTED, 0, at, inside, depth};
+        at += length + size;
+        left -= length + size;
+    }
+}
+
+// The reply of uz_owner that is due, and the way.
+static uz_owned due_owner(recording from, pointed asked, way *down) {
+    *down = (way){{0}, 0};
+    if (from.length > UZ_MOST_BYTES || asked.start > from.length)
+        return no_owner(UZ_BAD_ARGUMENT, 0);
+    if (asked.address < asked.start || asked.address - asked.start >= asked.size)
+        return no_owner(UZ_OUTSIDE, 0);
+    uz_owned due =
+        owner_among(from, asked.start, asked.size, asked.parent, asked.address, 0, down);
+    for (size_t i = 0; i < UZ_MOST_LINKS; i++)
+        if (due.refused != UZ_ACCEPTED || i > due.depth)
+            down->chain[i] = 0;
+    return due;
+}
+
+static bool same_owned(uz_owned one, uz_owned other) {
+    return one.refused == other.refused && one.refused_at == other.refused_at &&
+           one.at == other.at && one.in_payload == other.in_payload && one.depth == other.depth;
+}
+
+// What holds of every reply of uz_owner, by its own numbers and the header that they name.
+static void check_owned(recording from, pointed asked, uz_owned said) {
+    if (said.refused != UZ_ACCEPTED) {
+        bool header_met = said.refused <= UZ_INVALID_SIZE || said.refused == UZ_TOO_DEEP;
+        check(header_met || said.refused == UZ_BAD_ARGUMENT || said.refused == UZ_OUTSIDE,
+              "owner gives 1, 2, 3, 12, 14 and 15");
+        check((said.at | said.in_payload | said.depth) == 0, "a refused owner is zeros");
+        check(header_met ? said.refused_at >= asked.start : said.refused_at == 0,
+              "an owner is not broken before the start");
+        uint64_t fault = header_met ? header_fault(from, said.refused_at) : UZ_ACCEPTED;
+        check(fault == said.refused || (fault == UZ_ACCEPTED && said.refused >= UZ_INVALID_SIZE),
+              "a header is broken where it says");
+        return;
+    }
+    uint64_t id, size = 0;
+    unsigned length = header(from, said.at, &id, &size);
+    check(said.refused_at == 0, "an owner that is told is broken nowhere");
+    check(asked.address >= asked.start && asked.address - asked.start < asked.size,
+          "an address with an owner is in the payload");
+    check(length > 0 && said.at >= asked.start && said.at <= asked.address,
+          "an owner has a header, at the start or behind it");
+    check(said.in_payload == (asked.address - said.at >= length ? 1 : 0) &&
+              asked.address - said.at < length + (said.in_payload != 0 ? size : 0),
+          "header or payload holds the byte");
+    check(said.depth <= UZ_MOST_DEPTH && said.depth <= (said.at - asked.start) / 2,
+          "each master around an owner has a header");
+}
+
+// What holds of every reply of uz_owner_chain: it is the owner that is due, and so is the chain.
+static void check_chain(lent to, uz_owned said, uz_owned due, const way *down) {
+    check(only_table(to), "owner_chain writes the chain alone");
+    if (to.numbers > UZ_MOST_LINKS) {
+        check(same_owned(said, no_owner(UZ_BAD_ARGUMENT, 0)), "a longer chain is 14");
+        check(all_are(to.table, to.table + to.numbers, 0), "and all its numbers are 0");
+        return;
+    }
+    check(same_owned(said, due), "owner and owner_chain give one reply");
+    for (size_t i = 0; i < to.numbers; i++)
+        check(to.table[i] == down->chain[i], "the chain by the rule");
+}
+
+// Whether an owner is the row that was named in an accepted table, and the chain its parents.
+static bool is_row_of(lent in, uz_place place, uz_owned said, lent chain) {
+    uint64_t row = place.row;
+    if (said.refused != UZ_ACCEPTED || said.in_payload != place.in_payload ||
+        said.at != cell(in, row, UZ_ADDRESS) || said.depth != cell(in, row, UZ_DEPTH))
+        return false;
+    for (uint64_t link = said.depth;; link--) {
+        if (link < chain.numbers && chain.table[link] != cell(in, row, UZ_ADDRESS))
+            return false;
+        if (link == 0)
+            return cell(in, row, UZ_PARENT) == 0;
+        row = cell(in, row, UZ_PARENT) - 1;
+    }
 }
 
 static bool is_range(uz_range said, uint64_t refused, uint64_t at, uint64_t length) {
