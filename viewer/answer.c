@@ -1,8 +1,8 @@
-// Answers questions of docs/ASK.md through the C face: the lines `part`, `whose`, `range` and `shown`, which are put to
-// the four calls of include/uzrafmed.h. So the replies of the C face can be compared with the crate's, as those of `ask`
-// are:
+// Answers questions of docs/ASK.md through the C face: the lines `part`, `whose`, `range`, `shown` and `owner`, which
+// are put to the calls of include/uzrafmed.h. So the replies of the C face can be compared with the crate's, as those
+// of `ask` are:
 //
-//   UZ_ASK=target/viewer/answer oracle/compare 1 20000 part whose range shown
+//   UZ_ASK=target/viewer/answer oracle/compare 1 20000 part whose range shown owner
 //
 // One line of standard input, one line of standard output. A line that is none of these questions, or breaks the rules
 // of docs/ASK.md, is answered `bad question`.
@@ -243,6 +243,30 @@ static bool answer_shown(const question *q)
     return true;
 }
 
+// owner START SIZE PARENT ADDRESS BYTES
+//
+// By both calls. The chain ends with the element, and what it has besides the reply is not asked for: an answer that
+// the two do not share is told as `unlike`, which is no answer of docs/ASK.md.
+static bool answer_owner(const question *q)
+{
+    uint64_t start, size, address, chain[UZ_MOST_LINKS];
+    uint32_t parent;
+    if (q->count != 6 || !decimal(q->words[1], &start) || !decimal(q->words[2], &size) ||
+        !id_of(q->words[3], &parent) || !decimal(q->words[4], &address) || !take_recording(q->words[5]))
+        return false;
+    uz_owned owned = uz_owner(recording, length, start, size, parent, address);
+    uz_owned again = uz_owner_chain(recording, length, start, size, parent, address, chain, UZ_MOST_LINKS);
+    bool alike = owned.refused == again.refused && owned.refused_at == again.refused_at && owned.at == again.at &&
+                 owned.in_payload == again.in_payload && owned.depth == again.depth && owned.depth < UZ_MOST_LINKS;
+    if (!alike || chain[owned.depth] != owned.at)
+        fputs("unlike", stdout);
+    else if (owned.refused != 0)
+        tell_refusal(owned.refused, 0, owned.refused_at, false);
+    else
+        printf("%s %" PRIu64, owned.in_payload != 0 ? "payload" : "header", owned.at);
+    return true;
+}
+
 static bool answered(const question *q)
 {
     if (q->count == 0) return false;
@@ -250,6 +274,7 @@ static bool answered(const question *q)
     if (is(q->words[0], "whose")) return answer_whose(q);
     if (is(q->words[0], "range")) return answer_range(q);
     if (is(q->words[0], "shown")) return answer_shown(q);
+    if (is(q->words[0], "owner")) return answer_owner(q);
     return false;
 }
 
