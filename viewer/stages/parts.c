@@ -25,6 +25,11 @@ void find_parts(const recording *from, part all[PARTS]) {
     }
 }
 
+uz_owned owner_in(const part *in, uint64_t address, uint64_t chain[UZ_MOST_LINKS]) {
+    return uz_owner_chain(in->from->bytes, (size_t)in->from->length, in->reply.at, in->reply.size,
+                          in->parent, address, chain, UZ_MOST_LINKS);
+}
+
 uint64_t cell(const part *in, uint64_t row, unsigned column) {
     return in->table[row * UZ_WIDTH + column];
 }
@@ -35,6 +40,13 @@ uint64_t row_after(const part *in, uint64_t row) {
 
 uint64_t header_of(const part *in, uint64_t row) {
     return cell(in, row, UZ_ADDRESS);
+}
+
+uint64_t row_at(const part *in, uint64_t header) {
+    uint64_t row = 0;
+    while (row + 1 < in->reply.rows && header_of(in, row) != header)
+        row++;
+    return row;
 }
 
 uz_range payload_of(const part *in, uint64_t row) {

@@ -39,34 +39,20 @@ static void tell_entry(const recording *from, const header *segment, const seek_
                there.id == entry->id ? "" : ": the entry is stale");
 }
 
-// The Seek directly in the head that holds a row, or NO_ROW.
-static uint64_t seek_of(const part *head, uint64_t row) {
-    while (cell(head, row, UZ_PARENT) != 0)
-        row = cell(head, row, UZ_PARENT) - 1;
-    return cell(head, row, UZ_ID) == SEEK ? row : NO_ROW;
-}
-
-static void tell_head_byte(const recording *from, const header *segment, const header *child,
+static bool tell_head_byte(const recording *from, const header *segment, const header *child,
                            uint64_t address, int *status) {
     part head;
-    if (address < child->payload) {
-        fputs("SeekHead header id 114D9B74 SeekHead kind master", stdout);
-        tell_place("header", child->at, child->payload - child->at);
-        tell_place("payload", child->payload, child->size);
-        putchar('\n');
-        return;
+    if (!read_head(from, child, &head)) {
+        *status = tell_refused(&head, head.reply.refused, 0, head.reply.refused_at);
+        return false;
     }
-    uz_place place = read_head(from, child, address, &head);
-    if (place.refused != UZ_ACCEPTED) {
-        *status = tell_refused(&head, place.refused, 0, place.refused_at);
-        return;
+    // An entry stands directly in the head, so it is the outermost.
+    uint64_t row = tell_owner(&head, address);
+    if (row != NO_ROW && cell(&head, row, UZ_ID) == SEEK) {
+        seek_entry entry = entry_in(&head, row);
+        tell_entry(from, segment, &entry);
     }
-    tell_row(&head, place);
-    uint64_t seek = seek_of(&head, place.row);
-    if (seek == NO_ROW)
-        return;
-    seek_entry entry = entry_in(&head, seek);
-    tell_entry(from, segment, &entry);
+    return row != NO_ROW;
 }
 
 bool tell_seek_head(const recording *from, uint64_t address, int *status) {
@@ -74,11 +60,8 @@ bool tell_seek_head(const recording *from, uint64_t address, int *status) {
     header child = {0, 0, 0, 0, false};
     if (!find_segment(from, &segment))
         return false;
-    while (next_in_segment(from, &segment, &child) && child.at <= address) {
-        if (child.id != SEEK_HEAD || address - child.at >= child.payload - child.at + child.size)
-            continue;
-        tell_head_byte(from, &segment, &child, address, status);
-        return true;
-    }
+    while (next_in_segment(from, &segment, &child) && child.payload <= address)
+        if (child.id == SEEK_HEAD && address - child.payload < child.size)
+            return tell_head_byte(from, &segment, &child, address, status);
     return false;
 }

@@ -41,7 +41,7 @@ static int list(const recording *from) {
     tell_attachments(&all[ATTACHMENTS_PART]);
     fflush(stdout);
     tell_absent(all, &odd);
-    return tell_faults(all, &odd);
+    return tell_faults(all, PARTS, &odd);
 }
 
 // An id as it is written everywhere else, in hexadecimal digits.
@@ -122,7 +122,7 @@ static int list_json(const recording *from) {
     json_attachments(&all[ATTACHMENTS_PART]);
     json_end();
     fflush(stdout);
-    return tell_faults(all, &odd);
+    return tell_faults(all, PARTS, &odd);
 }
 
 static int answer(const arguments *asked) {

@@ -13,20 +13,43 @@ void tell_place(const char *word, uint64_t at, uint64_t length) {
     printf("+%" PRIu64, length);
 }
 
-void tell_row(const part *in, uz_place place) {
-    uint64_t row = place.row;
+static void tell_id(const part *in, uint64_t row) {
+    printf(" id %" PRIX64 " %s", cell(in, row, UZ_ID), element_name(cell(in, row, UZ_ID)));
+}
+
+static void tell_places(const part *in, uint64_t row) {
     uz_range payload = payload_of(in, row);
-    uz_range text = text_of(in, row);
-    printf("%s row %" PRIu64 " %s id %" PRIX64 " %s kind %s", in->name, row,
-           place.in_payload ? "payload" : "header", cell(in, row, UZ_ID),
-           element_name(cell(in, row, UZ_ID)), kind_name(cell(in, row, UZ_KIND)));
     tell_place("header", header_of(in, row), cell(in, row, UZ_HEADER));
     tell_place("payload", payload.at, payload.length);
+}
+
+static void tell_row(const part *in, uint64_t row, bool in_payload) {
+    uz_range text = text_of(in, row);
+    printf("%s row %" PRIu64 " %s", in->name, row, in_payload ? "payload" : "header");
+    tell_id(in, row);
+    printf(" kind %s", kind_name(cell(in, row, UZ_KIND)));
+    tell_places(in, row);
     if (text.refused == UZ_ACCEPTED) {
         fputs(" text ", stdout);
         show_text(stdout, in->from->bytes + text.at, text.length);
     }
     putchar('\n');
+}
+
+uint64_t tell_owner(const part *in, uint64_t address) {
+    uint64_t chain[UZ_MOST_LINKS];
+    uz_owned owned = owner_in(in, address, chain);
+    if (owned.refused != UZ_ACCEPTED)
+        return NO_ROW;
+    tell_row(in, row_at(in, owned.at), owned.in_payload != 0);
+    for (uint64_t i = 0; i < owned.depth; i++) {
+        uint64_t row = row_at(in, chain[i]);
+        printf("  in row %" PRIu64, row);
+        tell_id(in, row);
+        tell_places(in, row);
+        putchar('\n');
+    }
+    return row_at(in, chain[0]);
 }
 
 // The place that a refusal is about. What stands there is read once more, by the viewer itself.

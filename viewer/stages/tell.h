@@ -7,9 +7,11 @@
 // ' WORD ADDRESS+LENGTH'.
 void tell_place(const char *word, uint64_t at, uint64_t length);
 
-// A line on standard output: the part, the row, header or payload, its id with Matroska's name, its
-// kind, its two ranges, and the shown text if it is a text.
-void tell_row(const part *in, uz_place place);
+// If the part holds the byte, a line on standard output: the part, the row, header or payload, its
+// id with Matroska's name, its kind, its two ranges, and the shown text if it is a text. Below it a
+// line for each master around that row, from the outside in. Answers the outermost row that holds
+// the byte, or NO_ROW (unproved.h) if the part does not hold it.
+uint64_t tell_owner(const part *in, uint64_t address);
 
 // A line on standard error: the part, the number, for 8 the id of the entry, the address where it
 // broke with what stands there, and the meaning. 14 and 15 have no address. Answers status 1.

@@ -146,14 +146,22 @@ bool next_in_segment(const recording *from, const header *segment, header *child
     return at < segment->payload + segment->size && read_header(from, at, child) == UZ_ACCEPTED;
 }
 
-uz_place read_head(const recording *from, const header *head, uint64_t address, part *to) {
+// The rows are those of the address question, which is put for the first byte.
+bool read_head(const recording *from, const header *head, part *to) {
     static uint64_t table[UZ_MOST_NUMBERS];
-    *to = (part){
-        .name = "SeekHead", .id = SEEK_HEAD, .parent = SEGMENT, .from = from, .table = table};
     uz_place place = uz_whose_byte(from->bytes, (size_t)from->length, head->payload, head->size,
-                                   SEGMENT, address, table, UZ_MOST_NUMBERS);
-    to->reply.rows = place.rows;
-    return place;
+                                   SEGMENT, head->payload, table, UZ_MOST_NUMBERS);
+    *to = (part){.name = "SeekHead",
+                 .id = SEEK_HEAD,
+                 .parent = SEGMENT,
+                 .from = from,
+                 .reply = {.refused = place.refused,
+                           .refused_at = place.refused_at,
+                           .at = head->payload,
+                           .size = head->size,
+                           .rows = place.rows},
+                 .table = table};
+    return place.refused == UZ_ACCEPTED;
 }
 
 seek_entry entry_in(const part *head, uint64_t seek) {
@@ -205,7 +213,7 @@ bool find_entry(const recording *from, const header *segment, uint64_t id, seek_
     for (unsigned heads = 0; heads < UZ_MOST_HEADS && head.id == SEEK_HEAD; heads++) {
         part rows;
         seek_entry link;
-        if (read_head(from, &head, head.payload, &rows).refused != UZ_ACCEPTED)
+        if (!read_head(from, &head, &rows))
             break;
         found = entry_for(&rows, id, to) || found;
         if (!entry_for(&rows, SEEK_HEAD, &link) || link.position > from->length ||

@@ -82,8 +82,9 @@ typedef struct {
     uint64_t width;
 } seek_entry;
 
-// Reads a head into rows and looks for an address in it. The rows of `to` are those of the head.
-uz_place read_head(const recording *from, const header *head, uint64_t address, part *to);
+// Reads the payload of a head into rows, those of `to`, whose reply has the refusal if there is one.
+// Answers whether it is accepted; a head of no bytes is not.
+bool read_head(const recording *from, const header *head, part *to);
 
 // The entry in a Seek, by its row in a head.
 seek_entry entry_in(const part *head, uint64_t seek);
