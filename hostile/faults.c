@@ -1,4 +1,4 @@
-// The four calls with a fault each, to see that replay tells it: linked between replay and the
+// The six calls with a fault each, to see that replay tells it: linked between replay and the
 // archive, whose functions then are called shipped_*. The environment's FAULT names one of the
 // faults.
 #include "uzrafmed.h"
@@ -14,6 +14,11 @@ uz_range shipped_shown_text(const uint8_t *recording, size_t length, const uint6
                             size_t numbers, uint64_t row);
 uz_place shipped_whose_byte(const uint8_t *recording, size_t length, uint64_t start, uint64_t size,
                             uint32_t parent, uint64_t address, uint64_t *table, size_t numbers);
+
+uz_owned shipped_owner(const uint8_t *recording, size_t length, uint64_t start, uint64_t size,
+                       uint32_t parent, uint64_t address);
+uz_owned shipped_owner_chain(const uint8_t *recording, size_t length, uint64_t start, uint64_t size,
+                             uint32_t parent, uint64_t address, uint64_t *chain, size_t links);
 
 static int is(const char *fault) {
     const char *asked = getenv("FAULT");
@@ -162,4 +167,72 @@ uz_place uz_whose_byte(const uint8_t *recording, size_t length, uint64_t start, 
         said.refused_at = start - 1;
     said.refused_at = misplaced(said.refused, said.refused_at);
     return said;
+}
+
+// What may be wrong with the owner of a byte, by either call.
+static uz_owned disowned(const uint8_t *recording, size_t length, uint64_t address, uz_owned said) {
+    if (said.refused != 0) {
+        if (is("owner_after_a_refusal"))
+            said.at = 1;
+        if (is("owner_broken_a_byte_later") && said.refused < UZ_BAD_ARGUMENT)
+            said.refused_at++;
+        if (is("owner_too_deep_told_as_too_large") && said.refused == UZ_TOO_DEEP)
+            said.refused = UZ_INVALID_SIZE;
+        if (is("owner_outside_told_as_bad_argument") && said.refused == UZ_OUTSIDE)
+            said.refused = UZ_BAD_ARGUMENT;
+        return said;
+    }
+    if (is("owner_told_by_its_payload") && said.in_payload != 0)
+        said.at = address;
+    if (is("owner_header_told_as_payload"))
+        said.in_payload ^= 1;
+    if (is("owner_a_master_deeper"))
+        said.depth++;
+    if (is("owner_body_looked_at") && said.in_payload != 0 && address < length)
+        seen += recording[address];
+    if (is("owner_cut_off_refused") && address >= length)
+        said = (uz_owned){UZ_PAST_END, said.at, 0, 0, 0};
+    if (is("square_of_the_way"))
+        for (uint64_t i = 0; i < said.at; i++)
+            for (uint64_t k = 0; k < said.at; k++)
+                seen += recording[k];
+    return said;
+}
+
+uz_owned uz_owner(const uint8_t *recording, size_t length, uint64_t start, uint64_t size,
+                  uint32_t parent, uint64_t address) {
+    uz_owned said = shipped_owner(recording, length, start, size, parent, address);
+    if (is("owner_unlike_its_chain") && said.refused == 0)
+        said.depth = 0;
+    if (is("another_owner_each_time") && said.refused == 0)
+        said.in_payload ^= ++calls & 1;
+    return disowned(recording, length, address, said);
+}
+
+uz_owned uz_owner_chain(const uint8_t *recording, size_t length, uint64_t start, uint64_t size,
+                        uint32_t parent, uint64_t address, uint64_t *chain, size_t links) {
+    uz_owned said =
+        shipped_owner_chain(recording, length, start, size, parent, address, chain, links);
+    if (is("chain_not_cleared") && said.refused != 0 && links > 0)
+        chain[0] = 1;
+    if (is("chain_too_long_not_cleared") && links > UZ_MOST_LINKS)
+        chain[links - 1] = 1;
+    if (is("chain_too_long_taken") && links > UZ_MOST_LINKS)
+        return shipped_owner(recording, length, start, size, parent, address);
+    if (is("chain_without_its_end") && said.refused == 0 && said.depth < links)
+        chain[said.depth] = 0;
+    if (is("chain_told_again_behind_its_end") && said.refused == 0 && said.depth + 1 < links)
+        chain[said.depth + 1] = said.at;
+    if (is("chain_from_the_inside_out") && said.refused == 0 && said.depth > 0 &&
+        said.depth < links) {
+        chain[said.depth] = chain[0];
+        chain[0] = said.at;
+    }
+    if (is("chain_too_short_refused") && said.refused == 0 && said.depth >= links)
+        said = (uz_owned){UZ_BAD_ARGUMENT, 0, 0, 0, 0};
+    if (is("number_behind_the_chain"))
+        chain[links] = 0;
+    if (is("number_before_the_chain"))
+        chain[-1] = 0;
+    return disowned(recording, length, address, said);
 }

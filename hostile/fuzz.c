@@ -40,14 +40,16 @@ static void give_up(const char *what) {
 // ---- What guides the fuzzer besides the edges of the code ----
 
 // libFuzzer keeps an input that sets a counter here which none set before: a refusal of a call, a
-// count of heads or rows, a kind at a depth, the length of a text, or more steps for each byte.
+// count of heads or rows, a kind at a depth, the length of a text, an owner at a depth, or more
+// steps for each byte.
 #define REFUSALS 0
-#define HEADS (REFUSALS + 64)
+#define OWNERS (REFUSALS + 64)
+#define HEADS (OWNERS + 16 + 2 * 16)
 #define ROWS (HEADS + 65)
 #define KINDS (ROWS + 16)
 #define TEXTS (KINDS + 8 * 16)
 #define SLOW (TEXTS + 33)
-#define FEATURES (SLOW + 2 * 400)
+#define FEATURES (SLOW + 3 * 400)
 
 __attribute__((used, section("__libfuzzer_extra_counters"))) static uint8_t features[FEATURES];
 
@@ -68,8 +70,8 @@ typedef struct {
     uint64_t calls, time, most_time, most_each, most_steps, most_steps_each;
 } slowest;
 
-static slowest of_calls[5];
-static const char *const names[] = {"find", "whose", "payload", "too long", "text"};
+static slowest of_calls[7];
+static const char *const names[] = {"find", "whose", "owner", "chain", "payload", "too long", "text"};
 
 static void told(cost of) {
     unsigned call = 0;
@@ -90,7 +92,7 @@ static void told(cost of) {
         most->most_each = time_each;
     if (steps_each > most->most_steps_each)
         most->most_steps_each = steps_each;
-    if (call < 2)
+    if (call < 3)
         features[SLOW + call * 400 + (steps_each / 5 < 400 ? steps_each / 5 : 399)] = 1;
 }
 
@@ -121,6 +123,14 @@ static void told_text(uint64_t row, uz_range said) {
         bits++;
     features[REFUSALS + 54 + (said.refused == UZ_ACCEPTED ? 1 : 0)] = 1;
     features[TEXTS + bits] = 1;
+}
+
+static void told_owner(uz_owned said, uz_owned chained, lent chain) {
+    (void)chained;
+    (void)chain;
+    features[OWNERS + said.refused] = 1;
+    if (said.refused == UZ_ACCEPTED)
+        features[OWNERS + 16 + said.depth * 2 + said.in_payload] = 1;
 }
 
 static void at_end(void) {
@@ -197,11 +207,12 @@ static uint64_t any_place(recording from) {
 static void change_arguments(uint8_t *data, recording from) {
     uint64_t start = any_place(from), id, size,
              left = from.length > start ? from.length - start : 0;
-    switch (any(8)) {
+    switch (any(9)) {
     case 0:
         data[0] = (uint8_t)any(CALLS);
         break;
     case 1:
+        data[1] = (uint8_t)any(any(4) == 0 ? 256 : UZ_MOST_LINKS + 2);
         put_little(data + 2, any_table(), 2);
         break;
     case 2:
@@ -218,11 +229,18 @@ static void change_arguments(uint8_t *data, recording from) {
     case 5:
         put_little(data + 16, any(3) == 0 ? any_number() : any(left + 2), 8);
         break;
+    case 6: // A byte by the order of the file.
+        data[0] = OWNER;
+        put_little(data + 4, 0, 4);
+        put_little(data + 8, 0, 8);
+        put_little(data + 16, UINT64_MAX, 8);
+        put_little(data + 24, any(from.length + 2), 8);
+        break;
     default: // A master's payload, and a byte of it.
         for (unsigned n = 0; n < 10; n++) {
             unsigned length = header(from, start, &id, &size);
             if (length > 0 && is_master((uint32_t)id) && size > 0) {
-                data[0] = WHOSE;
+                data[0] = any(2) == 0 ? WHOSE : OWNER;
                 put_little(data + 4, any(4) == 0 ? any_id() : id, 4);
                 put_little(data + 8, start + length, 8);
                 put_little(data + 16, size, 8);

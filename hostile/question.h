@@ -1,8 +1,9 @@
 // A question to the C face, as the bytes of one file: what the fuzzer mutates, and what is kept.
 //
 //   byte 0       which call: 0 find, 1 whose, 2 payload, 3 all of them, 4 too long a recording,
-//                5 text
-//   byte 1       for text, the header's length; else nothing
+//                5 text, 6 owner
+//   byte 1       for text, the header's length; for owner, whose and too long a recording, the
+//                chain's count of numbers; else nothing
 //   bytes 2, 3   the table's count of numbers; this and what follows is little-endian
 //   bytes 4..7   the part that is sought, or the parent; for text, the kind
 //   bytes 8..15  start; for payload and too long a recording, the recording's length; for text, the
@@ -12,7 +13,9 @@
 //   from 32 on   the recording; for payload, the table's numbers, over and over
 //
 // For text every row of the table has these numbers. What is asked for payload is asked for text
-// too: there all of the recording is inaccessible but a zero byte, where the payload begins.
+// too: there all of the recording is inaccessible but a zero byte, where the payload begins. What is
+// asked for whose is asked for owner too. Both calls for the owner of a byte are made: for the first
+// recording, nothing behind the header of the owner is there.
 //
 // Each call is made twice: on a recording and a table that end at an inaccessible page, then on
 // ones that begin behind such a page. For text these pages are right behind and right before the
@@ -32,10 +35,10 @@
 #define HEAD 32
 #define MOST_RECORDING (1 << 24)
 
-enum { FIND, WHOSE, PAYLOAD, ALL, TOO_LONG, TEXT, CALLS };
+enum { FIND, WHOSE, PAYLOAD, ALL, TOO_LONG, TEXT, OWNER, CALLS };
 
 typedef struct {
-    unsigned call, header;
+    unsigned call, header; // the second is byte 1, whatever it is for the call
     size_t numbers;
     uint32_t id;
     uint64_t start, size, address;
@@ -81,6 +84,7 @@ static void told_part(uint32_t part, uz_part said, lent in);
 static void told_place(uz_place said, lent in);
 static void told_range(uint64_t row, uz_range said);
 static void told_text(uint64_t row, uz_range said);
+static void told_owner(uz_owned said, uz_owned chained, lent chain);
 
 // Counted by an instrumented archive; stays 0 with the one that is shipped.
 static uint64_t steps;
@@ -331,8 +335,62 @@ static void ask_row(const question *asked, uint64_t *table, uint64_t row) {
     check_row(from, in, row, payload, text);
 }
 
+// The recording of which nothing behind the owner's header is there; all of it, if there is no owner.
+static recording before_body(const question *asked, uz_owned due) {
+    recording from = {asked->bytes, asked->length};
+    uint64_t id, size;
+    if (due.refused != UZ_ACCEPTED)
+        return placed(from.bytes, from.length, false);
+    uint64_t behind = due.at + header(from, due.at, &id, &size);
+    return alone(from.bytes, (size_t)behind, 0, from.length, false);
+}
+
+// Both calls for the owner of a byte. They may look at headers, and at no more of them than lead to
+// it.
+static uz_owned ask_owner(const question *asked, pointed byte, size_t links, lent *chain) {
+    recording all = {asked->bytes, asked->length};
+    way down;
+    uz_owned due = due_owner(all, byte, &down), said = due, chained = due;
+    for (unsigned front = 0; front < 2; front++) {
+        recording from =
+            front == 0 ? before_body(asked, due) : placed(asked->bytes, asked->length, true);
+        cost of = {"owner", 0, down.looked_at, 0, 0};
+        TIMED(of, said,
+              uz_owner(from.bytes, from.length, byte.start, byte.size, byte.parent, byte.address));
+        lent to = lend_for(links, front != 0);
+        of = (cost){"chain", links, down.looked_at, 0, 0};
+        TIMED(of, chained,
+              uz_owner_chain(from.bytes, from.length, byte.start, byte.size, byte.parent,
+                             byte.address, to.table, to.numbers));
+        check_owned(all, byte, said);
+        check(same_owned(said, due), "the owner by the rule");
+        check_chain(to, chained, due, &down);
+        *chain = to;
+    }
+    told_owner(said, chained, *chain);
+    return said;
+}
+
+// The owner of a byte whose row was named, if it was.
+static void ask_owner_too(const question *asked, pointed byte, uz_place place, size_t links) {
+    static uint64_t rows[1 << 16];
+    lent in = {rows, asked->numbers, nowhere}, chain;
+    memcpy(rows, kept, asked->numbers * sizeof *rows);
+    uz_owned said = ask_owner(asked, byte, links, &chain);
+    if (place.refused == UZ_ACCEPTED && links <= UZ_MOST_LINKS)
+        check(is_row_of(in, place, said, chain), "the owner is the row that was named");
+}
+
+static void ask_whose(const question *asked) {
+    pointed byte = {asked->start, asked->size, asked->id, asked->address};
+    uz_place place = ask_place(asked, byte.start, byte.size, byte.parent, byte.address,
+                               asked->numbers);
+    ask_owner_too(asked, byte, place, asked->header);
+}
+
 // Each part, its rows' payloads and texts, and the owners of its first, its last and some other
-// byte. What an absent or refused part leaves has no text.
+// byte; and that of some byte by the order of the file. What an absent or refused part leaves has no
+// text.
 static void ask_all(const question *asked) {
     static uint64_t table[1 << 16];
     for (unsigned i = 0; i < 4; i++) {
@@ -351,8 +409,13 @@ static void ask_all(const question *asked) {
             check(owner.refused == UZ_ACCEPTED && owner.rows == found.rows,
                   "a byte of an accepted part has an owner");
             check(memcmp(table, kept, asked->numbers * sizeof *table) == 0, "one table for a part");
+            pointed byte = {found.at, found.size, parents[i], found.at + bytes[k]};
+            ask_owner_too(asked, byte, owner, UZ_MOST_LINKS);
         }
     }
+    pointed byte = {0, UINT64_MAX, 0, asked->address % (asked->length + 1)};
+    lent chain;
+    ask_owner(asked, byte, UZ_MOST_LINKS, &chain);
 }
 
 // More bytes than a recording may have are refused before one is looked at.
@@ -375,18 +438,32 @@ static void ask_too_long(const question *asked) {
     check(place.refused == UZ_BAD_ARGUMENT, "too long a recording is refused");
     check_place(none, asked->start, asked->size, asked->address, to, place);
     told_place(place, to);
+    lent chain = lend_for(asked->header, true);
+    uz_owned owner, chained;
+    TIMED(of, owner,
+          uz_owner(none.bytes, none.length, asked->start, asked->size, asked->id, asked->address));
+    TIMED(of, chained,
+          uz_owner_chain(none.bytes, none.length, asked->start, asked->size, asked->id,
+                         asked->address, chain.table, chain.numbers));
+    way down = {{0}, 0};
+    check(same_owned(owner, no_owner(UZ_BAD_ARGUMENT, 0)), "too long a recording has no owner");
+    check_chain(chain, chained, owner, &down);
+    told_owner(owner, chained, chain);
+    to = lend_for(asked->numbers, true);
+    memset(to.table, 0, to.numbers * sizeof *to.table);
     if (asked->numbers >= UZ_WIDTH)
         to.table[UZ_KIND] = UZ_UTF8;
     ask_text(NULL, 0, longer, to.table, to.numbers, 0, (uz_range){UZ_BAD_ARGUMENT, 0, 0});
 }
 
 static void ask(const question *asked) {
+    lent chain;
     switch (asked->call) {
     case FIND:
         ask_part(asked, asked->id, asked->numbers);
         break;
     case WHOSE:
-        ask_place(asked, asked->start, asked->size, asked->id, asked->address, asked->numbers);
+        ask_whose(asked);
         break;
     case PAYLOAD:
         ask_payload(asked);
@@ -396,6 +473,10 @@ static void ask(const question *asked) {
         break;
     case TEXT:
         ask_any_text(asked);
+        break;
+    case OWNER:
+        ask_owner(asked, (pointed){asked->start, asked->size, asked->id, asked->address},
+                  asked->header, &chain);
         break;
     default:
         ask_too_long(asked);

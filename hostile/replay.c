@@ -122,6 +122,29 @@ static void told_text(uint64_t row, uz_range said) {
     tell_range("text", row, said);
 }
 
+static void tell_broken(uz_owned said) {
+    printf(" refused %" PRIu64 " at %" PRIu64 "\n", said.refused, said.refused_at);
+}
+
+static void told_owner(uz_owned said, uz_owned chained, lent chain) {
+    if (!telling)
+        return;
+    printf("owner:");
+    if (said.refused != UZ_ACCEPTED)
+        tell_broken(said);
+    else
+        printf(" %s %" PRIu64 " depth %" PRIu64 "\n", said.in_payload != 0 ? "payload" : "header",
+               said.at, said.depth);
+    printf("chain of %zu:", chain.numbers);
+    if (chained.refused != UZ_ACCEPTED) {
+        tell_broken(chained);
+        return;
+    }
+    for (size_t i = 0; i < chain.numbers; i++)
+        printf(" %" PRIu64, chain.table[i]);
+    printf("\n");
+}
+
 // ---- Files ----
 
 static uint8_t data[HEAD + MOST_RECORDING];
@@ -139,7 +162,8 @@ static bool read_question(const char *name, question *to) {
 }
 
 static void tell_question(const question *put_) {
-    static const char *const names[] = {"find", "whose", "payload", "all", "too long", "text"};
+    static const char *const names[] = {"find", "whose",    "payload", "all", "too long",
+                                        "text", "owner"};
     printf("%s id %" PRIX32 " numbers %zu start %" PRIu64 " size %" PRIu64 " address %" PRIu64
            " bytes %zu\n",
            names[put_->call], put_->id, put_->numbers, put_->start, put_->size, put_->address,
@@ -227,6 +251,20 @@ static void heads_over_one_another(output *to, size_t fill) {
     }
 }
 
+// So many tiny elements, and behind them a master with as many, down to the deepest.
+static void tiny_in_masters(output *to, size_t tiny) {
+    static const uint8_t element[] = {0xEC, 0x80};
+    for (size_t left = UZ_MOST_DEPTH;; left--) {
+        for (size_t n = 0; n < tiny; n++)
+            put(to, element, sizeof element);
+        if (left == 0)
+            return;
+        // What each master below has, and the header of all but the first.
+        put_big(to, 0xAE, 1);
+        put_size(to, left * tiny * sizeof element + (left - 1) * 9, 8);
+    }
+}
+
 typedef enum {
     TINY_IN_HEAD,
     TINY_IN_SEGMENT,
@@ -239,6 +277,9 @@ typedef enum {
     TINY_WHOSE,
     ASCII_WHOSE,
     SHOWN,
+    TINY_OWNER,
+    DEEP_OWNER,
+    LONG_OWNER,
     SHAPES
 } shape;
 
@@ -254,7 +295,61 @@ static const char *const shapes[] = {
     "tiny elements, address question",
     "a text in ASCII, address question",
     "a text in ASCII, shown",
+    "tiny elements, owner",
+    "tiny elements in each of 15 masters, owner",
+    "a body of that size, owner",
 };
+
+static void write_shape(shape of, size_t size, output *to) {
+    used = 0;
+    size_t tiny = size / 2;
+    int inner = leaf_of(VOID, "", 0, 1), outer;
+    switch (of) {
+    case TINY_IN_HEAD:
+        outer = master_of(SEEK_HEAD, inner);
+        nodes[outer].times = tiny;
+        write_tree(to, master_of(SEGMENT, outer));
+        break;
+    case TINY_IN_SEGMENT:
+        outer = master_of(SEGMENT, inner);
+        nodes[outer].times = tiny;
+        write_tree(to, outer);
+        break;
+    case TINY_BEFORE_SEGMENT:
+    case TINY_WHOSE:
+    case TINY_OWNER:
+        for (size_t i = 0; i < tiny; i++)
+            write_tree(to, inner);
+        if (of == TINY_BEFORE_SEGMENT)
+            write_tree(to, master_of(SEGMENT, -1));
+        break;
+    case DEEP_OWNER:
+        tiny_in_masters(to, tiny / (UZ_MOST_DEPTH + 1));
+        break;
+    case OVER_ONE_ANOTHER:
+        heads_over_one_another(to, size);
+        break;
+    case ASCII:
+        inner = leaf_of(0x45A3, "a", 1, size);
+        write_tree(to, master_of(SEGMENT, master_of(UZ_TAGS, inner)));
+        break;
+    case FOUR_BYTES:
+        inner = leaf_of(0x45A3, "\xF0\x9F\x94\xA7", 4, size / 4);
+        write_tree(to, master_of(SEGMENT, master_of(UZ_TAGS, inner)));
+        break;
+    case ZEROS:
+        memset(written, 0, size);
+        to->length = size;
+        break;
+    case TINY_IN_PART:
+        outer = master_of(UZ_TAGS, inner);
+        nodes[outer].times = tiny;
+        write_tree(to, master_of(SEGMENT, outer));
+        break;
+    default:
+        write_tree(to, leaf_of(0x45A3, "a", 1, size));
+    }
+}
 
 static void grow_shape(shape of) {
     before.call = NULL;
@@ -267,53 +362,8 @@ static void grow_shape(shape of) {
         most = 1 << 18;
     }
     for (size_t size = least; size <= most; size *= 2) {
-        used = 0;
         output to = {written, 0, sizeof written};
-        size_t tiny = size / 2;
-        int inner = leaf_of(VOID, "", 0, 1), outer;
-        switch (of) {
-        case TINY_IN_HEAD:
-            outer = master_of(SEEK_HEAD, inner);
-            nodes[outer].times = tiny;
-            write_tree(&to, master_of(SEGMENT, outer));
-            break;
-        case TINY_IN_SEGMENT:
-            outer = master_of(SEGMENT, inner);
-            nodes[outer].times = tiny;
-            write_tree(&to, outer);
-            break;
-        case TINY_BEFORE_SEGMENT:
-            for (size_t i = 0; i < tiny; i++)
-                write_tree(&to, inner);
-            write_tree(&to, master_of(SEGMENT, -1));
-            break;
-        case OVER_ONE_ANOTHER:
-            heads_over_one_another(&to, size);
-            break;
-        case ASCII:
-            inner = leaf_of(0x45A3, "a", 1, size);
-            write_tree(&to, master_of(SEGMENT, master_of(UZ_TAGS, inner)));
-            break;
-        case FOUR_BYTES:
-            inner = leaf_of(0x45A3, "\xF0\x9F\x94\xA7", 4, size / 4);
-            write_tree(&to, master_of(SEGMENT, master_of(UZ_TAGS, inner)));
-            break;
-        case ZEROS:
-            memset(written, 0, size);
-            to.length = size;
-            break;
-        case TINY_IN_PART:
-            outer = master_of(UZ_TAGS, inner);
-            nodes[outer].times = tiny;
-            write_tree(&to, master_of(SEGMENT, outer));
-            break;
-        case TINY_WHOSE:
-            for (size_t i = 0; i < tiny; i++)
-                write_tree(&to, inner);
-            break;
-        default:
-            write_tree(&to, leaf_of(0x45A3, "a", 1, size));
-        }
+        write_shape(of, size, &to);
         question asked = {FIND,          0,       UZ_MOST_NUMBERS, UZ_TAGS, 0, to.length,
                           to.length - 1, written, to.length};
         if (of == TINY_WHOSE || of == ASCII_WHOSE)
@@ -324,6 +374,11 @@ static void grow_shape(shape of) {
             asked.header = (unsigned)(to.length - size);
             asked.size = size;
             asked.address = 0;
+        }
+        if (of >= TINY_OWNER) {
+            asked.call = OWNER;
+            asked.id = 0;
+            asked.header = UZ_MOST_LINKS;
         }
         tell_growth(shapes[of], to.length, asked);
     }
@@ -337,7 +392,7 @@ static question written_again(question asked, int root) {
     again.bytes = written;
     again.length = to.length;
     again.numbers = UZ_MOST_NUMBERS;
-    if (asked.call == WHOSE && asked.start + asked.size >= asked.length)
+    if ((asked.call == WHOSE || asked.call == OWNER) && asked.start + asked.size >= asked.length)
         again.size = to.length - asked.start;
     return again;
 }
