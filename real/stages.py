@@ -40,7 +40,8 @@ REMARKS = [
     ('elsewhere', r'(\w+) stands at (\d+); it is not shown, since its seek entry leads elsewhere', set())]
 ROW = re.compile(r'(\w+) row (\d+) (header|payload) id ([0-9A-F]+) \S+ kind (\w+) header (\d+)\+(\d+) '
                  r'payload (\d+)\+(\d+)(?: text (.*))?')
-OF_HEAD = re.compile(r'SeekHead header id 114D9B74 SeekHead kind master header (\d+)\+(\d+) payload (\d+)\+(\d+)')
+IN_ROW = re.compile(r'  in row (\d+) id ([0-9A-F]+) \S+ header (\d+)\+(\d+) payload (\d+)\+(\d+)')
+IN_FILE = re.compile(r'(?:file (header|payload)|  in) id ([0-9A-F]+) \S+ header (\d+)\+(\d+) payload (\d+)\+(\d+)(.*)')
 ENTRY = re.compile(r'entry (\d+) id ([0-9A-F]+) \S+ position (\d+) (.*)')
 LEADS = re.compile(r'leads to (\d+), where ([0-9A-F]+) \S+ stands(: the entry is stale)?')
 
@@ -608,13 +609,16 @@ class Viewed(Against):
 
     # ---- Addresses ----
 
-    def row_line(self, line, name, rows, address):
-        """A line on a row: the innermost of the rows that hold the address."""
+    def row_lines(self, lines, name, rows, address):
+        """The line on a row, which is the innermost of the rows that hold the address, and those on the masters around
+        it, from the outside in. They are taken off the lines."""
+        line = lines.pop(0) if lines else ''
         match = ROW.fullmatch(line)
         if not match:
             self.fail('address %d: %r is not understood' % (address, line[:100]))
             return
-        index = max(k for k, (_, at, header, data) in enumerate(rows) if at <= address < at + header + data)
+        around = [k for k, (_, at, header, data) in enumerate(rows) if at <= address < at + header + data]
+        index = around.pop()
         element, at, header, data = rows[index]
         kind, text = tools.KINDS.get(element.id(), 'binary') if element is not None else 'binary', None
         if element is not None and element.id() in PLAIN:
@@ -626,6 +630,28 @@ class Viewed(Against):
             name, str(index), 'header' if address < at + header else 'payload',
             '%X' % (CRC if element is None else element.id()), kind, str(at), str(header), str(at + header), str(data),
             text))
+        for k in around:
+            element, at, header, data = rows[k]
+            match = IN_ROW.fullmatch(lines.pop(0) if lines else '')
+            self.same('address %d: in row %d' % (address, k), match and match.groups(), (
+                str(k), '%X' % element.id(), str(at), str(header), str(at + header), str(data)))
+
+    def file_lines(self, lines, chain, address):
+        """The line on an element by the order of the file, and those on the masters around it: their headers are at the
+        addresses of the chain, and hold what the bytes there say. The address is in the header of the last one."""
+        for k, at in enumerate(chain[-1:] + chain[:-1]):
+            width = 9 - self.bytes[at].bit_length()
+            size = 9 - self.bytes[at + width].bit_length()
+            data = int.from_bytes(self.bytes[at + width:at + width + size], 'big') - (1 << 7 * size)
+            start, behind = at + width + size, ''
+            if data == (1 << 7 * size) - 1:
+                behind = ', a size that is not known'
+            elif start + data > len(self.bytes):
+                behind = ', but the file ends at %d' % len(self.bytes)
+            match = IN_FILE.fullmatch(lines.pop(0) if lines else '')
+            self.same('address %d: in the file' % address, match and match.groups(), (
+                'header' if k == 0 else None, self.bytes[at:at + width].hex().upper(), str(at), str(width + size),
+                str(start), str(data), behind))
 
     def entry_line(self, line, seek, address):
         """A line on a seek entry: where it leads, and what stands there."""
@@ -669,31 +695,25 @@ class Viewed(Against):
                       int.from_bytes(self.bytes[where:where + size], 'big'))
             self.find('stale', 'entry at %d: to %d, where no element of mkvinfo\'s is' % (seek.at, where))
 
-    def whose(self, parts, address, head=None, rows=None, seek=None):
-        """One address: the lines for the seek head that it lies in, with its rows, and for the entry, if they are
-        given; and those for the parts. Answers what the viewer answered."""
+    def whose(self, parts, address, rows=None, seek=None, chain=None):
+        """One address: the lines for the seek head that it lies in, by its rows, and for the entry, if they are given;
+        those for the parts; and if it is in none of these, those for the chain of headers that lead to it. Answers what
+        the viewer answered."""
         status, out, err = self.ask(str(address))
         self.counts['addresses'] += 1
         lines = out.split('\n')
         self.same('address %d: the last line' % address, lines.pop(), '')
-        if head is not None:
-            line = lines.pop(0) if lines else ''
-            if address < head.at + head.header():
-                match = OF_HEAD.fullmatch(line)
-                self.same('address %d: head' % address, match and tuple(map(int, match.groups())),
-                          (head.at, head.header(), head.at + head.header(), head.data))
-            else:
-                self.row_line(line, 'SeekHead', rows, address)
+        if rows is not None:
+            self.row_lines(lines, 'SeekHead', rows, address)
             if seek is not None:
                 self.entry_line(lines.pop(0) if lines else '', seek, address)
-        held = [(part, inside) for part, _, inside in parts if part.found() and
-                part.at <= address < part.at + part.size]
-        if head is None and not held:
-            self.same('address %d' % address, lines, ['%d lies in no part%s' % (
-                address, ' that could be read' if self.faults else '')])
-        elif self.same('address %d: lines' % address, len(lines), len(held)):
-            for line, (part, inside) in zip(lines, held):
-                self.row_line(line, part.name, inside, address)
+        for part, _, inside in parts:
+            if part.found() and part.at <= address < part.at + part.size:
+                self.row_lines(lines, part.name, inside, address)
+                chain = None
+        if chain is not None:
+            self.file_lines(lines, chain, address)
+        self.same('address %d: lines' % address, lines, [])
         self.same('address %d: status' % address, status, 1 if self.faults else 0)
         self.same('address %d: standard error' % address, err, self.faults)
         return status, out, err
@@ -705,27 +725,37 @@ class Viewed(Against):
         self.same('address %d with --hex' % address, (status, re.sub(r'/0x[0-9A-F]+', '', out), err), plain)
         self.same('address %d: in hexadecimal' % address, [int(digits, 16) for _, digits in pairs],
                   [int(number) for number, _ in pairs])
-        # Two ranges of a row, and of an entry its address and the one that it leads to, if it leads anywhere.
-        rows, entries, leads = (len(re.findall(pattern, out, re.M)) for pattern in (
-            r'^\w+ row ', r'^entry ', r'^entry .* leads to \d'))
-        self.same('address %d: count in hexadecimal' % address, len(pairs), 2 * rows + entries + leads)
+        # Two ranges of a row or element, the end of the file, and of an entry its address and the one that it leads to,
+        # if it leads anywhere.
+        rows, ends, entries, leads = (len(re.findall(pattern, out, re.M)) for pattern in (
+            r'^(?:\w+|  in) row |^(?:file \w+|  in) id ', r', but the file ends at \d', r'^entry ',
+            r'^entry .* leads to \d'))
+        self.same('address %d: count in hexadecimal' % address, len(pairs), 2 * rows + ends + entries + leads)
 
     def addresses(self, parts):
-        """Some bytes of each seek head that is met before an element of unknown size: the first of its header, and of
-        its first and last entry those of the header, the id and the position. Then some of each part, and one of
-        none."""
-        children = self.tools.info.level1()
+        """The first byte of the segment, and of its children before one of unknown size: of each seek head, of the
+        first three others and of the last. Of each such seek head some bytes: of its first and last entry those of the
+        header, the id and the position. Then some of each part."""
+        info = self.tools.info
+        children = info.level1()
         opened = [k for k, e in enumerate(children) if e.size is None][:1]
-        for head in [e for e in children[:opened[0] if opened else None] if e.label == 'Seek head']:
+        children = children[:opened[0] if opened else None]
+        # A segment of size 0 holds nothing, and what follows it stands beside it.
+        above = [] if info.segment.data == 0 else [info.segment.at]
+        self.hexed(info.segment.at, self.whose(parts, info.segment.at, chain=[info.segment.at]))
+        others = [e for e in children if e.label != 'Seek head']
+        for child in others[:3] + others[3:][-1:]:
+            self.whose(parts, child.at, chain=above + [child.at])
+        for head in [e for e in children if e.label == 'Seek head']:
             rows = self.rows_below(head, head.at + head.header())
-            self.whose(parts, head.at, head)
+            self.hexed(head.at, self.whose(parts, head.at, chain=above + [head.at]))
             seeks = [e for e in head.children if e.label == 'Seek entry']
             for seek in seeks[:1] + seeks[1:][-1:]:
-                self.hexed(seek.at, self.whose(parts, seek.at, head, rows, seek))
+                self.hexed(seek.at, self.whose(parts, seek.at, rows, seek))
                 for field in seek.children:
-                    self.whose(parts, field.end() - 1, head, rows, seek)
+                    self.whose(parts, field.end() - 1, rows, seek)
             for other in [e for e in head.children if e not in seeks]:
-                self.whose(parts, other.at, head, rows)
+                self.whose(parts, other.at, rows)
         for part, element, rows in parts:
             if element is None or not rows:
                 continue
@@ -737,7 +767,6 @@ class Viewed(Against):
                 for address in sorted({at + header - 1, min(at + header + data // 2, part.at + part.size - 1)}):
                     self.whose(parts, address)
             self.hexed(part.at, self.whose(parts, part.at))
-        self.whose(parts, self.tools.info.segment.at)
         self.same('the address behind the last byte', self.ask(str(len(self.bytes))),
                   (1, '', 'stages: %s: the address is past the last byte\n' % self.name))
 
