@@ -42,13 +42,6 @@ uint64_t header_of(const part *in, uint64_t row) {
     return cell(in, row, UZ_ADDRESS);
 }
 
-uint64_t row_at(const part *in, uint64_t header) {
-    uint64_t row = 0;
-    while (row + 1 < in->reply.rows && header_of(in, row) != header)
-        row++;
-    return row;
-}
-
 uz_range payload_of(const part *in, uint64_t row) {
     return uz_row_payload(in->from->bytes, (size_t)in->from->length, in->table, UZ_MOST_NUMBERS,
                           row);

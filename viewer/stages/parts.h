@@ -31,9 +31,8 @@ uint64_t cell(const part *in, uint64_t row, unsigned column);
 // The first row behind a row and all that it holds; the count of rows if there is none.
 uint64_t row_after(const part *in, uint64_t row);
 
-// The address of a row's header, and the row whose header begins at an address, which is one of them.
+// The address of a row's header.
 uint64_t header_of(const part *in, uint64_t row);
-uint64_t row_at(const part *in, uint64_t header);
 
 // The place of a row's payload, which lies in the recording.
 uz_range payload_of(const part *in, uint64_t row);

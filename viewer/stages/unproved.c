@@ -25,6 +25,13 @@ uint64_t last_child(const part *in, uint64_t parent, uint64_t id, uint64_t kind)
     return last;
 }
 
+uint64_t row_at(const part *in, uint64_t address) {
+    uint64_t row = 0;
+    while (row + 1 < in->reply.rows && header_of(in, row) != address)
+        row++;
+    return row;
+}
+
 unsigned level_below(const part *in, uint64_t ancestor, uint64_t row, uint64_t id) {
     unsigned level = 0;
     for (;; level++) {

@@ -1,8 +1,8 @@
 // What the viewer works out itself because the C face has no call for it yet: the children of a
-// row, the number in a row, a chapter's first display, whether a text is a label, a tag's value, a
-// track's type, a header, the walk over the segment's children, and the entries of seek heads. None
-// of this is proved. The reader has a proved form of each, and this file goes when the C face has
-// it too.
+// row, the row of an owner, the number in a row, a chapter's first display, whether a text is a
+// label, a tag's value, a track's type, a header, the walk over the segment's children, and the
+// entries of seek heads. None of this is proved. The reader has a proved form of each, and this
+// file goes when the C face has it too.
 #ifndef UNPROVED_H
 #define UNPROVED_H
 
@@ -22,6 +22,9 @@ uint64_t last_child(const part *in, uint64_t parent, uint64_t id, uint64_t kind)
 
 // Where the children of a row begin; for NO_ROW, row 0.
 uint64_t first_row(uint64_t parent);
+
+// The row whose header begins at an address, which is that of one of them.
+uint64_t row_at(const part *in, uint64_t address);
 
 // How many rows of that id stand between a row and its ancestor, one inside the other, with nothing
 // else between; NO_LEVEL if something else is. Both are masters.
@@ -82,8 +85,8 @@ typedef struct {
     uint64_t width;
 } seek_entry;
 
-// Reads the payload of a head into rows, those of `to`, whose reply has the refusal if there is one.
-// Answers whether it is accepted; a head of no bytes is not.
+// Reads the payload of a head into rows, those of `to`, whose reply has the refusal if there is
+// one. Answers whether it is accepted; a head of no bytes is not.
 bool read_head(const recording *from, const header *head, part *to);
 
 // The entry in a Seek, by its row in a head.
