@@ -71,7 +71,8 @@ typedef struct {
 } slowest;
 
 static slowest of_calls[7];
-static const char *const names[] = {"find", "whose", "owner", "chain", "payload", "too long", "text"};
+static const char *const names[] = {"find",    "whose",    "owner", "chain",
+                                    "payload", "too long", "text"};
 
 static void told(cost of) {
     unsigned call = 0;

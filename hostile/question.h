@@ -13,9 +13,9 @@
 //   from 32 on   the recording; for payload, the table's numbers, over and over
 //
 // For text every row of the table has these numbers. What is asked for payload is asked for text
-// too: there all of the recording is inaccessible but a zero byte, where the payload begins. What is
-// asked for whose is asked for owner too. Both calls for the owner of a byte are made: for the first
-// recording, nothing behind the header of the owner is there.
+// too: there all of the recording is inaccessible but a zero byte, where the payload begins. What
+// is asked for whose is asked for owner too. Both calls for the owner of a byte are made: for the
+// first recording, nothing behind the header of the owner is there.
 //
 // Each call is made twice: on a recording and a table that end at an inaccessible page, then on
 // ones that begin behind such a page. For text these pages are right behind and right before the
@@ -335,7 +335,8 @@ static void ask_row(const question *asked, uint64_t *table, uint64_t row) {
     check_row(from, in, row, payload, text);
 }
 
-// The recording of which nothing behind the owner's header is there; all of it, if there is no owner.
+// The recording, of which nothing behind the owner's header is there; all of it if none has the
+// byte.
 static recording before_body(const question *asked, uz_owned due) {
     recording from = {asked->bytes, asked->length};
     uint64_t id, size;
@@ -383,14 +384,14 @@ static void ask_owner_too(const question *asked, pointed byte, uz_place place, s
 
 static void ask_whose(const question *asked) {
     pointed byte = {asked->start, asked->size, asked->id, asked->address};
-    uz_place place = ask_place(asked, byte.start, byte.size, byte.parent, byte.address,
-                               asked->numbers);
+    uz_place place =
+        ask_place(asked, byte.start, byte.size, byte.parent, byte.address, asked->numbers);
     ask_owner_too(asked, byte, place, asked->header);
 }
 
 // Each part, its rows' payloads and texts, and the owners of its first, its last and some other
-// byte; and that of some byte by the order of the file. What an absent or refused part leaves has no
-// text.
+// byte; and that of some byte by the order of the file. What an absent or refused part leaves has
+// no text.
 static void ask_all(const question *asked) {
     static uint64_t table[1 << 16];
     for (unsigned i = 0; i < 4; i++) {

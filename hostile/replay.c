@@ -162,8 +162,8 @@ static bool read_question(const char *name, question *to) {
 }
 
 static void tell_question(const question *put_) {
-    static const char *const names[] = {"find", "whose",    "payload", "all", "too long",
-                                        "text", "owner"};
+    static const char *const names[] = {"find",     "whose", "payload", "all",
+                                        "too long", "text",  "owner"};
     printf("%s id %" PRIX32 " numbers %zu start %" PRIu64 " size %" PRIu64 " address %" PRIu64
            " bytes %zu\n",
            names[put_->call], put_->id, put_->numbers, put_->start, put_->size, put_->address,

@@ -104,8 +104,8 @@ static uz_part find_part(recording from, uint32_t part, lent to) {
 
 // Both calls for the owner of a byte. The chain is lent in `to`.
 static uz_owned owner(recording from, pointed asked, lent to) {
-    uz_owned said = uz_owner(from.bytes, from.length, asked.start, asked.size, asked.parent,
-                             asked.address);
+    uz_owned said =
+        uz_owner(from.bytes, from.length, asked.start, asked.size, asked.parent, asked.address);
     uz_owned chained = uz_owner_chain(from.bytes, from.length, asked.start, asked.size,
                                       asked.parent, asked.address, to.table, to.numbers);
     way down;
@@ -1000,9 +1000,12 @@ static void test_unread(void) {
         const char *headers;
         uz_owned due;
     } asked[] = {
-        {"EC08FFFFFFF0", {0, 0, 0, 1, 0}},         {"45A308FFFFFFF0", {0, 0, 0, 1, 0}},
-        {"838F", {0, 0, 0, 1, 0}},                 {"A01FFFFFF0EC1FFFFF00", {0, 0, 5, 1, 1}},
-        {"44611FFFFFF0", {0, 0, 0, 1, 0}},         {"18538067FFEC8041A290", {0, 0, 7, 1, 1}},
+        {"EC08FFFFFFF0", {0, 0, 0, 1, 0}},
+        {"45A308FFFFFFF0", {0, 0, 0, 1, 0}},
+        {"838F", {0, 0, 0, 1, 0}},
+        {"A01FFFFFF0EC1FFFFF00", {0, 0, 5, 1, 1}},
+        {"44611FFFFFF0", {0, 0, 0, 1, 0}},
+        {"18538067FFEC8041A290", {0, 0, 7, 1, 1}},
         {"1F43B6751FFFFFFFA38F", {0, 0, 8, 1, 1}},
     };
     for (size_t i = 0; i < sizeof asked / sizeof *asked; i++) {

@@ -429,8 +429,8 @@ static uz_owned no_owner(uint64_t refused, uint64_t at) {
     return due;
 }
 
-// The way down to an element: the header of each that holds it and its own, zeros behind it, and how
-// many bytes may be looked at to find it.
+// The way down to an element: the header of each that holds it and its own, zeros behind it, and
+// how many bytes may be looked at to find it.
 typedef struct {
     uint64_t chain[UZ_MOST_LINKS];
     uint64_t looked_at;
@@ -473,8 +473,7 @@ static uz_owned due_owner(recording from, pointed asked, way *down) {
         return no_owner(UZ_BAD_ARGUMENT, 0);
     if (asked.address < asked.start || asked.address - asked.start >= asked.size)
         return no_owner(UZ_OUTSIDE, 0);
-    uz_owned due =
-        owner_among(from, asked.start, asked.size, asked.parent, asked.address, 0, down);
+    uz_owned due = owner_among(from, asked.start, asked.size, asked.parent, asked.address, 0, down);
     for (size_t i = 0; i < UZ_MOST_LINKS; i++)
         if (due.refused != UZ_ACCEPTED || i > due.depth)
             down->chain[i] = 0;
