@@ -6,9 +6,9 @@ use mathlib.Core.Bool.{Bool, true, false}
 use Rattle.elements_rules.specs.Reading.{elementHeader}
 use Rattle.elements_rules.specs.Holds.{within}
 use Rattle.elements_rules.specs.Faults.{Errand}
-use Rattle.owner_rules.specs.Owner.{inMaster, taken, ownerAt, ownerOf}
-use Rattle.owner_rules.specs.Promise.{ownerTold}
-use Rattle.owner_rules.specs.Way.{Way, here, past, into}
+use Rattle.owner_rules.specs.Owner.{inMaster, wholeOf, ownerAt, ownerOf}
+use Rattle.owner_rules.specs.Promise.{ownerReply}
+use Rattle.owner_rules.specs.Way.{OwnerWay, here, past, into}
 use Rattle.owner_rules.specs.Theorems.{HeadersAlone}
 use Rattle.owner_rules.proofs.Steps.{no-header, too-deep, too-large, in-header, in-payload, in-master, behind}
 use Rattle.owner_rules.proofs.Asked.{owner-outside, owner-walks}
@@ -18,7 +18,7 @@ module _ (s s′ : List ℕ) (x : ℕ) where
   -- The headers on the way from a place are the same in both.
   abbrev Same : (depth parent at left : ℕ) → Type 0
   Same depth parent at left =
-      (masters : List ℕ) (a : ℕ) (e : Errand) → Way s x depth parent at left masters a e
+      (masters : List ℕ) (a : ℕ) (e : Errand) → OwnerWay s x depth parent at left masters a e
       → elementHeader s′ a ≡ elementHeader s a
 
   same-owner : (most depth parent at left : ℕ) → Same depth parent at left
@@ -49,13 +49,13 @@ module _ (s s′ : List ℕ) (x : ℕ) where
       ∙ sym (in-master s′ x most depth parent at left h (i ∙ q) d l a b m))
       (λ h q d l a b.
       behind s x most depth parent at left h q d l a b
-      ∙ same-owner most depth parent (at + taken h) (left - taken h)
+      ∙ same-owner most depth parent (at + wholeOf h) (left - wholeOf h)
       (λ ms y e w. k ms y e (past depth parent at left ms y e h q d l b w))
       ∙ sym (behind s′ x most depth parent at left h (i ∙ q) d l a b))
 
 pub headers-alone : HeadersAlone
 headers-alone s s′ start size parent x r r′ a a′ k p p′ =
-    p .reply ∙ ap ownerTold (by (within start size x) refl) ∙ sym (p′ .reply)
+    p .reply ∙ ap ownerReply (by (within start size x) refl) ∙ sym (p′ .reply)
   where
     by : (w : Bool) → within start size x ≡ w
         → ownerOf s start size parent x ≡ ownerOf s′ start size parent x

@@ -15,8 +15,8 @@ use Rattle.elements_rules.specs.Holds.{within}
 use Rattle.elements_rules.specs.Promise.{allowed, zeros}
 use Rattle.elements_rules.proofs.Limits.{too-long, by-start}
 use Rattle.elements_rules.proofs.Limits as limits
-use Rattle.owner_rules.specs.Owner.{Part, header, payload, Owned, mostLinks, ownerAt, ownerOf, chainOf}
-use Rattle.owner_rules.specs.Promise.{ownerIs, ownerTold, linksOf, OwnerPromise, ChainPromise}
+use Rattle.owner_rules.specs.Owner.{Side, header, payload, Owned, mostLinks, ownerAt, ownerOf, chainOf}
+use Rattle.owner_rules.specs.Promise.{ownerIs, ownerReply, linksOf, OwnerPromise, ChainPromise}
 use Rattle.owner_rules.specs.Contract.{WalkMet}
 use Rattle.owner_rules.specs.declared.owner.OwnerReply.{OwnerReply}
 use Rattle.owner_rules.specs.declared.owner.OwnerReply.the-variants.{Refused}
@@ -102,16 +102,16 @@ bytes-allowed s start a = limits.within s start 0 a .bytes
 -- ---- what the code promises of the chain
 
 -- What is told as a refusal is one.
-pub told-refused : (o : Reply Owned) (e : Refusal) → Refused e ≡ ownerTold o → o ≡ refusal e
+pub told-refused : (o : Reply Owned) (e : Refusal) → Refused e ≡ ownerReply o → o ≡ refusal e
 told-refused (refusal e′) e q = let i : e′ ≡ e = cc in ap refusal i
-told-refused (accepted o) e q = by (o .part) q
+told-refused (accepted o) e q = by (o .side) q
   where
-    by : (p : Part) → Refused e ≡ ownerIs p (o .address) (length (o .masters)) → accepted o ≡ refusal e
+    by : (p : Side) → Refused e ≡ ownerIs p (o .address) (length (o .masters)) → accepted o ≡ refusal e
     by header w = let z : _≡_ {A = ℕ} 0 1 = cc in absurd (let y : ⊥ = omega arith in y)
     by payload w = let z : _≡_ {A = ℕ} 0 1 = cc in absurd (let y : ⊥ = omega arith in y)
 
 module _ (s : List ℕ) (start size parent x : ℕ) (t t′ : List ℕ) where
-  asked-is : (r : OwnerReply) (o : Reply Owned) → chainOf s start size parent x (length t) ≡ o → r ≡ ownerTold o
+  asked-is : (r : OwnerReply) (o : Reply Owned) → chainOf s start size parent x (length t) ≡ o → r ≡ ownerReply o
       → t′ ≡ linksOf (length t) o → ChainPromise s start size parent x t r t′
   asked-is r o e q z = record { reply = rw e q; links = rw e z }
 
@@ -155,12 +155,12 @@ module _ (s : List ℕ) (start size parent x : ℕ) (t t′ : List ℕ) where
           by : (o : Reply Owned) → ownerAt s x size 0 parent start size ≡ o
               → ChainPromise s start size parent x t r t′
           by (accepted o) e =
-              asked-is r (accepted o) (asked-walk ∙ e) (m .reply ∙ ap ownerTold e)
+              asked-is r (accepted o) (asked-walk ∙ e) (m .reply ∙ ap ownerReply e)
               (m .links o e ∙ ap (λ (k : ℕ). linksOf k (accepted o)) l)
-          by (refusal f) e = absurd (n f (m .reply ∙ ap ownerTold e))
+          by (refusal f) e = absurd (n f (m .reply ∙ ap ownerReply e))
 
 -- The same without a chain.
 pub owner-of-chain : (s : List ℕ) (start size parent x : ℕ) (t : List ℕ) (r : OwnerReply) (t′ : List ℕ)
     → length t ≤ mostLinks → ChainPromise s start size parent x t r t′ → OwnerPromise s start size parent x r
 owner-of-chain s start size parent x t r t′ l p =
-    record { reply = p .reply ∙ ap ownerTold (chain-owner s start size parent x (length t) l) }
+    record { reply = p .reply ∙ ap ownerReply (chain-owner s start size parent x (length t) l) }

@@ -2,7 +2,7 @@
 use mathlib.Core.Path.{sym, ap, _∙_}
 use lib.ListN.{length}
 use Rattle.owner_rules.specs.Owner.{chainOf}
-use Rattle.owner_rules.specs.Promise.{ownerTold, linksOf}
+use Rattle.owner_rules.specs.Promise.{ownerReply, linksOf}
 use Rattle.owner_rules.specs.Theorems.{ChainsLead}
 use Rattle.owner_rules.proofs.Links.{links-owned, links-refused}
 use Rattle.owner_rules.proofs.Asked.{chain-long, chain-owner, told-refused}
@@ -10,8 +10,8 @@ use Rattle.owner_rules.proofs.Found.{owned-found}
 
 pub chains-lead : ChainsLead
 chains-lead s start size parent x t r q t′ p g = record {
-  same = λ l. p .reply ∙ ap ownerTold (chain-owner s start size parent x (length t) l) ∙ sym (g .reply);
-  long = λ l. p .reply ∙ ap ownerTold (chain-long s start size parent x (length t) l);
+  same = λ l. p .reply ∙ ap ownerReply (chain-owner s start size parent x (length t) l) ∙ sym (g .reply);
+  long = λ l. p .reply ∙ ap ownerReply (chain-long s start size parent x (length t) l);
   links = λ l o k.
       p .links
       ∙ ap (linksOf (length t))

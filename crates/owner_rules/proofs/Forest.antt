@@ -18,9 +18,9 @@ use Rattle.places_rules.specs.Whose.{holderIn}
 use Rattle.places_rules.specs.declared.whose.Holder.{Holder}
 use Rattle.places_rules.specs.declared.whose.Holder.the-variants.{Header as RowHeader, Payload as RowPayload}
 use Rattle.places_rules.proofs.Spots.{holder-header, holder-payload}
-use Rattle.owner_rules.specs.Owner.{Part, header, payload, Owned, inMaster, ownerAt}
+use Rattle.owner_rules.specs.Owner.{Side, header, payload, Owned, inMaster, ownerAt}
 use Rattle.owner_rules.specs.Way.{IsMaster}
-use Rattle.owner_rules.specs.Theorems.{Above, below}
+use Rattle.owner_rules.specs.Theorems.{ParentsOf, below}
 use Rattle.owner_rules.proofs.Steps.{in-header, in-payload, in-master, behind}
 use Rattle.owner_rules.proofs.Headers.{either, master-or-not}
 
@@ -34,7 +34,7 @@ nth-behind (r ∷ rs) ss k =
     ap (nth (r ∷ (rs ++ ss))) e ∙ nth-behind rs ss k
 
 -- What of a row holds the address, where an owner is told by that part.
-abbrev pub holderOf : Part → Holder
+abbrev pub holderOf : Side → Holder
 holderOf header = RowHeader
 holderOf payload = RowPayload
 
@@ -45,11 +45,11 @@ module _ (s : List ℕ) (x : ℕ) (all : List Row) where
     pub there : row < length all
     pub address : nth all row .address ≡ o .address
     pub deep-is : nth all row .depth ≡ depth + length (o .masters)
-    pub holds : holderIn (nth all row) x ≡ holderOf (o .part)
-    pub parents : Above all (nth all row) (outer ++ o .masters)
+    pub holds : holderIn (nth all row) x ≡ holderOf (o .side)
+    pub parents : ParentsOf all (nth all row) (outer ++ o .masters)
 
   -- The owner in elements that stand at a place, with its row.
-  pub record Owner (most depth parent at left : ℕ) (outer : List ℕ) : Type 0 where
+  pub record OwnerIn (most depth parent at left : ℕ) (outer : List ℕ) : Type 0 where
     pub owned : Owned
     pub is : ownerAt s x most depth parent at left ≡ accepted owned
     pub row-of : RowOf depth outer owned
@@ -62,13 +62,13 @@ module _ (s : List ℕ) (x : ℕ) (all : List Row) where
   module _
       (parent prow depth at n : ℕ) (outer : List ℕ) (e : Element) (kids rest : Forest)
       (i : StandsAt s parent at e kids) (first : nth all n ≡ rowOf e prow depth at (n + 1 + count kids))
-      (some : n < length all) (up : (r : Row) → r .parent ≡ prow → Above all r outer)
+      (some : n < length all) (up : (r : Row) → r .parent ≡ prow → ParentsOf all r outer)
     where
       abbrev its-row : Row
       its-row = rowOf e prow depth at (n + 1 + count kids)
 
-      own-row : (p : Part) → holderOf p ≡ holderIn its-row x
-          → RowOf depth outer (record { part = p; address = at; masters = [] })
+      own-row : (p : Side) → holderOf p ≡ holderIn its-row x
+          → RowOf depth outer (record { side = p; address = at; masters = [] })
       own-row p k = record {
         row = n;
         there = some;
@@ -76,18 +76,18 @@ module _ (s : List ℕ) (x : ℕ) (all : List Row) where
         deep-is = ap (λ (r : Row). r .depth) first ∙ (omega arith);
         holds = ap (λ (r : Row). holderIn r x) first ∙ sym k;
         parents =
-            subst (Above all (nth all n)) (sym (append-nil outer)) (up (nth all n) (ap (λ (r : Row). r .parent) first));
+            subst (ParentsOf all (nth all n)) (sym (append-nil outer)) (up (nth all n) (ap (λ (r : Row). r .parent) first));
       }
 
       -- Its children have it as their parent, and what is above it above that.
-      up-kids : (r : Row) → r .parent ≡ n + 1 → Above all r (outer ++ (at ∷ []))
+      up-kids : (r : Row) → r .parent ≡ n + 1 → ParentsOf all r (outer ++ (at ∷ []))
       up-kids r k =
-          subst (λ (a : ℕ). Above all r (outer ++ (a ∷ []))) (ap (λ (y : Row). y .address) first)
+          subst (λ (a : ℕ). ParentsOf all r (outer ++ (a ∷ []))) (ap (λ (y : Row). y .address) first)
           (below r n outer some (k ∙ (omega arith)) (up (nth all n) (ap (λ (y : Row). y .parent) first)))
 
       -- The row of an owner among its children, with it as one master more.
       row-inside : (o : Owned) → RowOf (depth + 1) (outer ++ (at ∷ [])) o
-          → RowOf depth outer (record { part = o .part; address = o .address; masters = at ∷ o .masters })
+          → RowOf depth outer (record { side = o .side; address = o .address; masters = at ∷ o .masters })
       row-inside o k =
           let deep = k .deep-is in
           record {
@@ -96,7 +96,7 @@ module _ (s : List ℕ) (x : ℕ) (all : List Row) where
             address = k .address;
             deep-is = omega arith;
             holds = k .holds;
-            parents = subst (Above all (nth all (k .row))) (append-assoc outer (at ∷ []) (o .masters)) (k .parents);
+            parents = subst (ParentsOf all (nth all (k .row))) (append-assoc outer (at ∷ []) (o .masters)) (k .parents);
           }
 
       -- Its children take up a master's payload.
@@ -111,20 +111,20 @@ module _ (s : List ℕ) (x : ℕ) (all : List Row) where
         fits = omega arith
 
         -- The owner is the element itself, by its header or by its payload.
-        by-header : at ≤ x → x < at + e .header .length → Owner (suc most) depth parent at left outer
+        by-header : at ≤ x → x < at + e .header .length → OwnerIn (suc most) depth parent at left outer
         by-header low a = record {
-          owned = record { part = header; address = at; masters = [] };
+          owned = record { side = header; address = at; masters = [] };
           is = in-header s x most depth parent at left (e .header) (i .head) d fits a;
           row-of = own-row header (holder-header its-row x low (omega arith));
         }
 
         module _ (a : at + e .header .length ≤ x) where
           by-payload : x < at + whole e → (IsMaster (e .header) parent → ⊥)
-              → Owner (suc most) depth parent at left outer
+              → OwnerIn (suc most) depth parent at left outer
           by-payload b k =
               let one = header-inside s at (e .header) (i .head) .0 in
               record {
-                owned = record { part = payload; address = at; masters = [] };
+                owned = record { side = payload; address = at; masters = [] };
                 is = in-payload s x most depth parent at left (e .header) (i .head) d fits a b k;
                 row-of =
                     own-row payload
@@ -134,13 +134,13 @@ module _ (s : List ℕ) (x : ℕ) (all : List Row) where
 
           -- The owner is among its children.
           by-kids : x < at + whole e → IsMaster (e .header) parent
-              → Owner most (depth + 1) (e .header .id) (at + e .header .length) (span kids) (outer ++ (at ∷ []))
-              → Owner (suc most) depth parent at left outer
+              → OwnerIn most (depth + 1) (e .header .id) (at + e .header .length) (span kids) (outer ++ (at ∷ []))
+              → OwnerIn (suc most) depth parent at left outer
           by-kids b k w =
               let h = e .header in
               let o = w .owned in
               record {
-                owned = record { part = o .part; address = o .address; masters = at ∷ o .masters };
+                owned = record { side = o .side; address = o .address; masters = at ∷ o .masters };
                 is =
                     in-master s x most depth parent at left h (i .head) d fits a b k
                     ∙ ap (λ (y : ℕ). inMaster at (ownerAt s x most (depth + 1) (h .id) (at + h .length) y))
@@ -150,8 +150,8 @@ module _ (s : List ℕ) (x : ℕ) (all : List Row) where
               }
 
           -- The owner is behind it.
-          by-rest : at + whole e ≤ x → Owner most depth parent (at + whole e) (span rest) outer
-              → Owner (suc most) depth parent at left outer
+          by-rest : at + whole e ≤ x → OwnerIn most depth parent (at + whole e) (span rest) outer
+              → OwnerIn (suc most) depth parent at left outer
           by-rest b w =
               let z : left - whole e ≡ span rest = omega arith in
               record {
@@ -168,8 +168,8 @@ module _ (s : List ℕ) (x : ℕ) (all : List Row) where
       (f : Forest) (parent prow depth at n most : ℕ) (outer : List ℕ) → Stands s parent at f
       → depth + deep f ≤ depths → span f ≤ most → at ≤ x → x < at + span f
       → Placed n (rows prow depth at n f) → n + count f ≤ length all
-      → ((r : Row) → r .parent ≡ prow → Above all r outer)
-      → Owner most depth parent at (span f) outer
+      → ((r : Row) → r .parent ≡ prow → ParentsOf all r outer)
+      → OwnerIn most depth parent at (span f) outer
   unfolding Stands span deep count rows nth
   forest-owner none parent prow depth at n most outer i d m low high p c up = absurd (omega arith)
   forest-owner (node e kids rest) parent prow depth at n zero outer i d m low high p c up =

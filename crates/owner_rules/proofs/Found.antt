@@ -10,9 +10,9 @@ use Rattle.header.specs.declared.cursor.Header.{Header}
 use Rattle.header.proofs.Inside.{header-inside}
 use Rattle.elements_rules.specs.Reading.{elementHeader, depths}
 use Rattle.elements_rules.specs.Faults.{Errand, toOwner}
-use Rattle.owner_rules.specs.Owner.{Part, header, payload, Owned, inMaster, taken, own, ownerAt, ownerOf}
-use Rattle.owner_rules.specs.Promise.{ownerTold}
-use Rattle.owner_rules.specs.Way.{Way, here, past, into, Holds, OwnedBy}
+use Rattle.owner_rules.specs.Owner.{Side, header, payload, Owned, inMaster, wholeOf, own, ownerAt, ownerOf}
+use Rattle.owner_rules.specs.Promise.{ownerReply}
+use Rattle.owner_rules.specs.Way.{OwnerWay, here, past, into, HoldsBy, OwnedBy}
 use Rattle.owner_rules.specs.Theorems.{OwnerFound}
 use Rattle.owner_rules.proofs.Steps.{in-header, in-payload, in-master, behind}
 use Rattle.owner_rules.proofs.Walking.{inside}
@@ -20,8 +20,8 @@ use Rattle.owner_rules.proofs.Asked.{owner-walks}
 
 module _ (s : List ℕ) (x : ℕ) where
   -- The element at hand holds the address.
-  own-found : (p : Part) (most depth parent at left : ℕ) (h : Header) → elementHeader s at ≡ heading h
-      → depth < depths → taken h ≤ left → Holds p parent at h x
+  own-found : (p : Side) (most depth parent at left : ℕ) (h : Header) → elementHeader s at ≡ heading h
+      → depth < depths → wholeOf h ≤ left → HoldsBy p parent at h x
       → ownerAt s x (suc most) depth parent at left ≡ own p at
   own-found header most depth parent at left h q d l k = in-header s x most depth parent at left h q d l (k .1)
   own-found payload most depth parent at left h q d l k =
@@ -29,22 +29,22 @@ module _ (s : List ℕ) (x : ℕ) where
 
   -- It is found from wherever the way leads to it.
   way-found :
-      (p : Part) (h : Header) (under last deep most depth parent at left : ℕ) (ms : List ℕ) (a : ℕ) (e : Errand)
-      → Way s x depth parent at left ms a e → e ≡ toOwner under deep last → elementHeader s a ≡ heading h
-      → deep < depths → taken h ≤ last → Holds p under a h x → left ≤ most → at ≤ x → x < at + left
-      → ownerAt s x most depth parent at left ≡ accepted (record { part = p; address = a; masters = ms })
+      (p : Side) (h : Header) (under last deep most depth parent at left : ℕ) (ms : List ℕ) (a : ℕ) (e : Errand)
+      → OwnerWay s x depth parent at left ms a e → e ≡ toOwner under deep last → elementHeader s a ≡ heading h
+      → deep < depths → wholeOf h ≤ last → HoldsBy p under a h x → left ≤ most → at ≤ x → x < at + left
+      → ownerAt s x most depth parent at left ≡ accepted (record { side = p; address = a; masters = ms })
   way-found p h under last deep zero depth parent at left ms a e w i q d f k m low high = absurd (omega arith)
   way-found p h under last deep (suc most) depth parent at left _ _ _ (here _ _ _ _) i q d f k m low high =
       let same : parent ≡ under = cc in
       let depth-is : depth ≡ deep = cc in
       let left-is : left ≡ last = cc in
       own-found p most depth parent at left h q (omega arith) (omega arith)
-      (subst (λ (u : ℕ). Holds p u at h x) (sym same) k)
+      (subst (λ (u : ℕ). HoldsBy p u at h x) (sym same) k)
   way-found p h under last deep (suc most) depth parent at left ms a e (past _ _ _ _ _ _ _ g j c l b w) i q d f k m
       low high =
       let one = header-inside s at g j .0 in
       behind s x most depth parent at left g j c l (omega arith) b
-      ∙ way-found p h under last deep most depth parent (at + taken g) (left - taken g) ms a e w i q d f k
+      ∙ way-found p h under last deep most depth parent (at + wholeOf g) (left - wholeOf g) ms a e w i q d f k
       (omega arith) b (omega arith)
   way-found p h under last deep (suc most) depth parent at left _ a e (into _ _ _ _ ms _ _ g j c l b t n w) i q d f k
       m low high =
@@ -61,8 +61,8 @@ pub owned-found : (s : List ℕ) (start size parent x : ℕ) (o : Owned) → Own
 owned-found s start size parent x o k =
     let (low, high) = inside start size x (k .inside) in
     owner-walks s start size parent x (k .arguments) (k .inside)
-    ∙ way-found s x (o .part) (k .head) (k .under) (k .left) (length (o .masters)) size 0 parent start size
+    ∙ way-found s x (o .side) (k .head) (k .under) (k .left) (length (o .masters)) size 0 parent start size
     (o .masters) (o .address) _ (k .way) refl (k .stands) (k .low) (k .fits) (k .holds) (omega arith) low high
 
 pub owner-found : OwnerFound
-owner-found s start size parent x o r k p = p .reply ∙ ap ownerTold (owned-found s start size parent x o k)
+owner-found s start size parent x o r k p = p .reply ∙ ap ownerReply (owned-found s start size parent x o k)

@@ -11,7 +11,7 @@ use Rattle.header.specs.Header.{refused as refusedHeader}
 use Rattle.header.specs.declared.cursor.Header.{Header}
 use Rattle.kinds.specs.Kinds.{numberOf, kindUnder}
 use Rattle.elements_rules.specs.Reading.{elementHeader, depths}
-use Rattle.owner_rules.specs.Owner.{taken}
+use Rattle.owner_rules.specs.Owner.{wholeOf}
 use Rattle.owner_rules.specs.Way.{IsMaster}
 
 -- One of two numbers is the smaller, or they are equal.
@@ -34,14 +34,14 @@ module _ (s : List ℕ) (x depth parent at left : ℕ) where
   pub at-header : {A : Type 0}
       → ((c : Cause) → elementHeader s at ≡ refusedHeader c → A)
       → ((h : Header) → elementHeader s at ≡ heading h → depths ≤ depth → A)
-      → ((h : Header) → elementHeader s at ≡ heading h → depth < depths → left < taken h → A)
-      → ((h : Header) → elementHeader s at ≡ heading h → depth < depths → taken h ≤ left → x < at + h .length → A)
-      → ((h : Header) → elementHeader s at ≡ heading h → depth < depths → taken h ≤ left → at + h .length ≤ x
-      → x < at + taken h → (IsMaster h parent → ⊥) → A)
-      → ((h : Header) → elementHeader s at ≡ heading h → depth < depths → taken h ≤ left → at + h .length ≤ x
-      → x < at + taken h → IsMaster h parent → A)
-      → ((h : Header) → elementHeader s at ≡ heading h → depth < depths → taken h ≤ left → at + h .length ≤ x
-      → at + taken h ≤ x → A)
+      → ((h : Header) → elementHeader s at ≡ heading h → depth < depths → left < wholeOf h → A)
+      → ((h : Header) → elementHeader s at ≡ heading h → depth < depths → wholeOf h ≤ left → x < at + h .length → A)
+      → ((h : Header) → elementHeader s at ≡ heading h → depth < depths → wholeOf h ≤ left → at + h .length ≤ x
+      → x < at + wholeOf h → (IsMaster h parent → ⊥) → A)
+      → ((h : Header) → elementHeader s at ≡ heading h → depth < depths → wholeOf h ≤ left → at + h .length ≤ x
+      → x < at + wholeOf h → IsMaster h parent → A)
+      → ((h : Header) → elementHeader s at ≡ heading h → depth < depths → wholeOf h ≤ left → at + h .length ≤ x
+      → at + wholeOf h ≤ x → A)
       → A
   at-header {A} broken deep large head leaf master past = go (elementHeader s at) refl
     where
@@ -50,11 +50,11 @@ module _ (s : List ℕ) (x depth parent at left : ℕ) where
       go (heading h) e =
           either depth depths
           (λ d.
-          either left (taken h) (large h e d)
+          either left (wholeOf h) (large h e d)
           (λ l.
           either x (at + h .length) (head h e d l)
           (λ a.
-          either x (at + taken h)
+          either x (at + wholeOf h)
           (λ b. master-or-not h parent (master h e d l a b) (leaf h e d l a b))
           (past h e d l a))))
           (deep h e)

@@ -10,7 +10,7 @@ use borrow.Author.Tests.{lt-ltb, le-ltb, ltb-true, ltb-false}
 use Rattle.refusals.specs.Reply.{accepted, refusal}
 use Rattle.refusals.specs.declared.refusal.Refusal.{Refusal}
 use Rattle.elements_rules.specs.Promise.{zeros}
-use Rattle.owner_rules.specs.Owner.{Owned, chain}
+use Rattle.owner_rules.specs.Owner.{Owned, chainTo}
 use Rattle.owner_rules.specs.Promise.{linksOf}
 use Rattle.owner_rules.specs.Contract.{linked}
 
@@ -66,7 +66,7 @@ link-more n ms a = link-grows n n ms a (omega arith)
 
 -- ---- the chain of an answer
 
-pub links-owned : (n : ℕ) (o : Owned) → linksOf n (accepted o) ≡ take n (chain o ++ zeros n)
+pub links-owned : (n : ℕ) (o : Owned) → linksOf n (accepted o) ≡ take n (chainTo o ++ zeros n)
 unfolding linksOf
 links-owned n o = refl
 

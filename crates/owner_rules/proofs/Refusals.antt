@@ -17,7 +17,7 @@ use Rattle.elements_rules.specs.Faults.{Fault, NoBody, bodyOfElement, bodyNamed
 use Rattle.elements_rules.specs.Faults.{Far, farFollowed, farLookedUp, Again, againFollowed, Many, manyFollowed}
 use Rattle.elements_rules.specs.Faults.{there, callers}
 use Rattle.owner_rules.specs.Owner.{ownerOf}
-use Rattle.owner_rules.specs.Way.{Way, here, past, into, HonestOwner}
+use Rattle.owner_rules.specs.Way.{OwnerWay, here, past, into, HonestOwner}
 use Rattle.owner_rules.specs.Theorems.{OwnerRefusals}
 use Rattle.owner_rules.proofs.Asked.{told-refused}
 use Rattle.owner_rules.proofs.Sound.{owner-honest}
@@ -27,7 +27,7 @@ Few n = member n (1 ∷ 2 ∷ 3 ∷ 12 ∷ 14 ∷ 15 ∷ []) ≡ true
 
 -- The errand on the way is always to find the owner.
 way-errand : (s : List ℕ) (x depth parent at left : ℕ) (ms : List ℕ) (a : ℕ) (e : Errand)
-    → Way s x depth parent at left ms a e
+    → OwnerWay s x depth parent at left ms a e
     → (under : ℕ) × (deep : ℕ) × (last : ℕ) × (e ≡ toOwner under deep last)
 way-errand s x depth parent at left _ _ _ (here _ _ _ _) = (parent, depth, left, refl)
 way-errand s x depth parent at left ms a e (past _ _ _ _ _ _ _ h q d l b w) =

@@ -34,14 +34,14 @@ use Rattle.places_rules.specs.declared.whose.WhoseReply.the-variants.{Header as
 use Rattle.places_rules.specs.declared.whose.WhoseReply.the-variants.{Refused as NoRow}
 use Rattle.places_rules.proofs.Unique.{replied, replied-back}
 use Rattle.places_rules.proofs.Owners.{asked-done, table-rows, row-owns}
-use Rattle.owner_rules.specs.Owner.{Part, header, payload, Owned, chain, mostLinks, ownerAt, ownerOf}
-use Rattle.owner_rules.specs.Promise.{ownerIs, ownerTold, linksOf, ChainPromise}
-use Rattle.owner_rules.specs.Theorems.{byAddress, SameOwner, Above, outermost, ChainOfRow, ChainOfParents}
+use Rattle.owner_rules.specs.Owner.{Side, header, payload, Owned, chainTo, mostLinks, ownerAt, ownerOf}
+use Rattle.owner_rules.specs.Promise.{ownerIs, ownerReply, linksOf, ChainPromise}
+use Rattle.owner_rules.specs.Theorems.{byAddress, SameOwner, ParentsOf, outermost, ChainOfRow, ChainOfParents}
 use Rattle.owner_rules.specs.declared.owner.OwnerReply.{OwnerReply}
 use Rattle.owner_rules.proofs.Links.{links-owned}
 use Rattle.owner_rules.proofs.Walking.{inside}
 use Rattle.owner_rules.proofs.Asked.{owner-outside, owner-walks, chain-owner}
-use Rattle.owner_rules.proofs.Forest.{holderOf, Owner, forest-owner}
+use Rattle.owner_rules.proofs.Forest.{holderOf, OwnerIn, forest-owner}
 
 -- ---- the limits, and one row
 
@@ -57,18 +57,18 @@ second-true false b q = let z : _≡_ {A = ℕ} 0 1 = cc in absurd (omega arith)
 
 module _ (r : Row) (x : ℕ) where
   -- A row of which a part holds the address holds it.
-  held : (p : Part) → holderIn r x ≡ holderOf p → (inHeader r x || inLeaf r x) ≡ true
+  held : (p : Side) → holderIn r x ≡ holderOf p → (inHeader r x || inLeaf r x) ≡ true
   unfolding holderIn
   held p q = go (inHeader r x) (inLeaf r x) p q
     where
-      go : (a b : Bool) (p : Part) → cond a HeaderHolds (cond b PayloadHolds Neither) ≡ holderOf p → (a || b) ≡ true
+      go : (a b : Bool) (p : Side) → cond a HeaderHolds (cond b PayloadHolds Neither) ≡ holderOf p → (a || b) ≡ true
       go true b p w = refl
       go false true p w = refl
       go false false header w = let z : _≡_ {A = ℕ} 0 1 = cc in absurd (omega arith)
       go false false payload w = let z : _≡_ {A = ℕ} 0 1 = cc in absurd (omega arith)
 
   -- Which part it is, by the tests of a row.
-  part-header : (p : Part) → holderIn r x ≡ holderOf p → inHeader r x ≡ true → p ≡ header
+  part-header : (p : Side) → holderIn r x ≡ holderOf p → inHeader r x ≡ true → p ≡ header
   unfolding holderIn
   part-header header q a = refl
   part-header payload q a =
@@ -82,7 +82,7 @@ module _ (r : Row) (x : ℕ) where
       let (low′, high′) = inside (r .address + r .header) (r .payload) x (second-true (isLeaf r) _ b) in
       omega arith
 
-  part-payload : (p : Part) → holderIn r x ≡ holderOf p → inLeaf r x ≡ true → p ≡ payload
+  part-payload : (p : Side) → holderIn r x ≡ holderOf p → inLeaf r x ≡ true → p ≡ payload
   unfolding holderIn
   part-payload payload q b = refl
   part-payload header q b = by (inHeader r x) refl (rw b at q)
@@ -92,7 +92,7 @@ module _ (r : Row) (x : ℕ) where
       by false e w = let z : _≡_ {A = ℕ} 0 1 = cc in absurd (let y : ⊥ = omega arith in y)
 
 -- The full question's reply by a part and a row.
-abbrev rowIs : Part → (row total : ℕ) → WhoseReply
+abbrev rowIs : Side → (row total : ℕ) → WhoseReply
 rowIs header row total = RowHeader row total
 rowIs payload row total = RowPayload row total
 
@@ -113,18 +113,18 @@ module _
       there : row < length rs
       address : nth rs row .address ≡ owned .address
       deep-is : nth rs row .depth ≡ length (owned .masters)
-      parents : Above rs (nth rs row) (owned .masters)
-      named : w ≡ rowIs (owned .part) row (length rs)
+      parents : ParentsOf rs (nth rs row) (owned .masters)
+      named : w ≡ rowIs (owned .side) row (length rs)
 
     -- The walk ends at a row of the tree that was read.
-    walk-owner : Owner s x rs size 0 parent start size []
+    walk-owner : OwnerIn s x rs size 0 parent start size []
     walk-owner =
         let (w-in, o) = asked-done s start size parent x (length t) f q in
         let (low, high) = inside start size x w-in in
         let (taken, stands) = read-stands s start size parent (length t) f o in
         let shallow = read-low s start size parent (length t) f o in
         let l = length-rows 0 0 start 0 f in
-        subst (λ (y : ℕ). Owner s x rs size 0 parent start y []) taken
+        subst (λ (y : ℕ). OwnerIn s x rs size 0 parent start y []) taken
         (forest-owner s x rs f parent 0 0 start 0 size [] stands (omega arith) (omega arith) low (omega arith)
         (λ j k. ap (nth rs) (zero-add j)) (omega arith) (λ r e. outermost r e))
 
@@ -139,8 +139,8 @@ module _
         let o = walk-owner .owned in
         let k = walk-owner .row-of in
         let g = row-owner in
-        let same : k .row ≡ g .row = g .only (k .row) (k .there) (held (nth rs (k .row)) x (o .part) (k .holds)) in
-        let holds : holderIn (nth rs (g .row)) x ≡ holderOf (o .part)
+        let same : k .row ≡ g .row = g .only (k .row) (k .there) (held (nth rs (k .row)) x (o .side) (k .holds)) in
+        let holds : holderIn (nth rs (g .row)) x ≡ holderOf (o .side)
         = ap (λ (n : ℕ). holderIn (nth rs n) x) (sym same) ∙ k .holds in
         record {
           owned = o;
@@ -153,11 +153,11 @@ module _
           named =
               ⊎-elim
               (λ e. e .0 ∙ ap (λ (n : ℕ). RowHeader n (length rs)) (sym same)
-              ∙ sym (ap (λ (y : Part). rowIs y (k .row) (length rs))
-              (part-header (nth rs (g .row)) x (o .part) holds (e .1))))
+              ∙ sym (ap (λ (y : Side). rowIs y (k .row) (length rs))
+              (part-header (nth rs (g .row)) x (o .side) holds (e .1))))
               (λ e. e .0 ∙ ap (λ (n : ℕ). RowPayload n (length rs)) (sym same)
-              ∙ sym (ap (λ (y : Part). rowIs y (k .row) (length rs))
-              (part-payload (nth rs (g .row)) x (o .part) holds (e .1))))
+              ∙ sym (ap (λ (y : Side). rowIs y (k .row) (length rs))
+              (part-payload (nth rs (g .row)) x (o .side) holds (e .1))))
               (g .which);
         }
 
@@ -177,20 +177,20 @@ module _
         owner-walks s start size parent x was-allowed (asked-done s start size parent x (length t) f q .0)
         ∙ agrees .is
 
-    same-reply : ownerTold (ownerOf s start size parent x) ≡ byAddress t′ w
+    same-reply : ownerReply (ownerOf s start size parent x) ≡ byAddress t′ w
     same-reply =
         let a = agrees in
         let o = a .owned in
         let row-is = table-row (a .row) (a .there) in
-        ap ownerTold owner-is
-        ∙ ap (λ (n : ℕ). ownerIs (o .part) n (length (o .masters)))
+        ap ownerReply owner-is
+        ∙ ap (λ (n : ℕ). ownerIs (o .side) n (length (o .masters)))
         (sym (ap (λ (r : Row). r .address) row-is ∙ a .address))
-        ∙ ap (ownerIs (o .part) (rowAt t′ (a .row) .address))
+        ∙ ap (ownerIs (o .side) (rowAt t′ (a .row) .address))
         (sym (ap (λ (r : Row). r .depth) row-is ∙ a .deep-is))
-        ∙ told (o .part)
+        ∙ told (o .side)
         ∙ ap (byAddress t′) (sym (a .named))
       where
-        told : (y : Part)
+        told : (y : Side)
             → ownerIs y (rowAt t′ (agrees .row) .address) (rowAt t′ (agrees .row) .depth)
             ≡ byAddress t′ (rowIs y (agrees .row) (length rs))
         told header = refl
@@ -203,15 +203,15 @@ module _
     same-chain row total e c r c′ g l =
         let a = agrees in
         let o = a .owned in
-        let (row-same, total-same) = which (o .part) (a .named) e in
+        let (row-same, total-same) = which (o .side) (a .named) e in
         let n : total ≡ count f = total-same ∙ length-rows 0 0 start 0 f in
         let row-is : rowAt t′ row ≡ nth rs (a .row) = ap (rowAt t′) row-same ∙ table-row (a .row) (a .there) in
         let all-is : rowsOf t′ total ≡ rs = ap (rowsOf t′) n ∙ table-rows s start size parent x t w t′ f p q in
         record {
           masters = o .masters;
           parents =
-              subst (λ (us : List Row). Above us (rowAt t′ row) (o .masters)) (sym all-is)
-              (subst (λ (y : Row). Above rs y (o .masters)) (sym row-is) (a .parents));
+              subst (λ (us : List Row). ParentsOf us (rowAt t′ row) (o .masters)) (sym all-is)
+              (subst (λ (y : Row). ParentsOf rs y (o .masters)) (sym row-is) (a .parents));
           links-are =
               g .links
               ∙ ap (linksOf (length c)) (chain-owner s start size parent x (length c) l ∙ owner-is)
@@ -220,7 +220,7 @@ module _
               (sym (ap (λ (y : Row). y .address) row-is ∙ a .address));
         }
       where
-        which : {k m : ℕ} (y : Part) → w ≡ rowIs y k m → (w ≡ RowHeader row total) ⊎ (w ≡ RowPayload row total)
+        which : {k m : ℕ} (y : Side) → w ≡ rowIs y k m → (w ≡ RowHeader row total) ⊎ (w ≡ RowPayload row total)
             → (row ≡ k) × (total ≡ m)
         which header i (inl j) = (cc, cc)
         which payload i (inr j) = (cc, cc)
@@ -263,7 +263,7 @@ same-owner s start size parent x t n u w t′ r d p g =
         let e = asked-outside s start size parent x (length t) f o i in
         let none : w ≡ NoRow outside
         = sym (replied-back w) ∙ ap replied (p .reply ∙ ap (whoseOf start x) e) in
-        g .reply ∙ ap ownerTold (owner-outside s start size parent x a i) ∙ ap (byAddress t′) (sym none)
+        g .reply ∙ ap ownerReply (owner-outside s start size parent x a i) ∙ ap (byAddress t′) (sym none)
 
 pub chain-of-parents : ChainOfParents
 chain-of-parents s start size parent x t row total w t′ c r c′ p e g l =

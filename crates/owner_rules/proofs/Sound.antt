@@ -21,11 +21,11 @@ use Rattle.elements_rules.specs.Promise.{allowed}
 use Rattle.elements_rules.specs.Faults.{Errand, toOwner, headerAsked, largerAsked, deeperAsked, Deeper, Fault}
 use Rattle.elements_rules.specs.Faults.{FaultThere, there, callers}
 use Rattle.elements_rules.proofs.Faults.{header-fault}
-use Rattle.owner_rules.specs.Owner.{Part, header, payload, Owned, inMaster, taken, own, ownerAt, ownerOf}
+use Rattle.owner_rules.specs.Owner.{Side, header, payload, Owned, inMaster, wholeOf, own, ownerAt, ownerOf}
 use Rattle.owner_rules.specs.Owner.{mostLinks, chainOf}
-use Rattle.owner_rules.specs.Promise.{ownerTold}
-use Rattle.owner_rules.specs.Way.{IsMaster, Way, here, past, into, Holds, HonestOwner}
-use Rattle.owner_rules.specs.Theorems.{Answer, owned, refused, OwnerAnswers}
+use Rattle.owner_rules.specs.Promise.{ownerReply}
+use Rattle.owner_rules.specs.Way.{IsMaster, OwnerWay, here, past, into, HoldsBy, HonestOwner}
+use Rattle.owner_rules.specs.Theorems.{OwnerAnswer, owned, refused, OwnerAnswers}
 use Rattle.owner_rules.specs.declared.owner.OwnerReply.{OwnerReply}
 use Rattle.owner_rules.specs.declared.owner.OwnerReply.the-variants.{Refused}
 use Rattle.owner_rules.proofs.Steps.{no-header, too-deep, too-large, in-header, in-payload, in-master, behind}
@@ -39,33 +39,33 @@ module _ (s : List ℕ) (x : ℕ) where
   record OwnedFrom (depth parent at left : ℕ) (o : Owned) : Type 0 where
     under : ℕ
     last : ℕ
-    way : Way s x depth parent at left (o .masters) (o .address) (toOwner under (depth + length (o .masters)) last)
+    way : OwnerWay s x depth parent at left (o .masters) (o .address) (toOwner under (depth + length (o .masters)) last)
     low : depth + length (o .masters) < depths
     head : Header
     stands : elementHeader s (o .address) ≡ heading head
-    fits : taken head ≤ last
-    holds : Holds (o .part) under (o .address) head x
+    fits : wholeOf head ≤ last
+    holds : HoldsBy (o .side) under (o .address) head x
 
   -- What the walk comes to from a place.
   abbrev From : (depth parent at left : ℕ) → ℕ → Errand → Type 0
-  From depth parent at left a e = (masters : List ℕ) × Way s x depth parent at left masters a e
+  From depth parent at left a e = (masters : List ℕ) × OwnerWay s x depth parent at left masters a e
 
   abbrev Shows : (depth parent at left : ℕ) → Reply Owned → Type 0
   Shows depth parent at left (accepted o) = OwnedFrom depth parent at left o
   Shows depth parent at left (refusal e) = FaultThere s (From depth parent at left) e
 
   module _ (depth parent at left : ℕ) (h : Header) (q : elementHeader s at ≡ heading h) (d : depth < depths)
-      (l : taken h ≤ left)
+      (l : wholeOf h ≤ left)
     where
       -- The element at hand holds the address.
-      shows-own : (p : Part) → Holds p parent at h x → Shows depth parent at left (own p at)
+      shows-own : (p : Side) → HoldsBy p parent at h x → Shows depth parent at left (own p at)
       shows-own p k =
           let e : depth ≡ depth + 0 = omega arith in
           record {
             under = parent;
             last = left;
             way =
-                subst (λ (n : ℕ). Way s x depth parent at left [] at (toOwner parent n left)) e
+                subst (λ (n : ℕ). OwnerWay s x depth parent at left [] at (toOwner parent n left)) e
                 (here depth parent at left);
             low = omega arith;
             head = h;
@@ -75,7 +75,7 @@ module _ (s : List ℕ) (x : ℕ) where
           }
 
       -- What is shown behind an element is shown from it.
-      shows-past : at + taken h ≤ x → (r : Reply Owned) → Shows depth parent (at + taken h) (left - taken h) r
+      shows-past : at + wholeOf h ≤ x → (r : Reply Owned) → Shows depth parent (at + wholeOf h) (left - wholeOf h) r
           → Shows depth parent at left r
       shows-past b (accepted o) k = record {
         under = k .under;
@@ -98,7 +98,7 @@ module _ (s : List ℕ) (x : ℕ) where
       }
 
       -- What is shown inside a master is shown from it.
-      shows-into : at + h .length ≤ x → x < at + taken h → IsMaster h parent → (r : Reply Owned)
+      shows-into : at + h .length ≤ x → x < at + wholeOf h → IsMaster h parent → (r : Reply Owned)
           → Shows (depth + 1) (h .id) (at + h .length) (h .size) r → Shows depth parent at left (inMaster at r)
       shows-into a b m (accepted o) k =
           let n = length (o .masters) in
@@ -111,7 +111,7 @@ module _ (s : List ℕ) (x : ℕ) where
                 into depth parent at left (o .masters) (o .address) _ h q d l a b m
                 (subst
                 (λ (z : ℕ).
-                Way s x (depth + 1) (h .id) (at + h .length) (h .size) (o .masters) (o .address)
+                OwnerWay s x (depth + 1) (h .id) (at + h .length) (h .size) (o .masters) (o .address)
                 (toOwner (k .under) z (k .last)))
                 e (k .way));
             low = omega arith;
@@ -168,8 +168,8 @@ module _ (s : List ℕ) (x : ℕ) where
       (λ h q d l a b.
       let one = header-inside s at h q .0 in
       told (behind s x most depth parent at left h q d l a b)
-      (shows-past depth parent at left h q d l b (ownerAt s x most depth parent (at + taken h) (left - taken h))
-      (shows most depth parent (at + taken h) (left - taken h) (omega arith) b (omega arith) few)))
+      (shows-past depth parent at left h q d l b (ownerAt s x most depth parent (at + wholeOf h) (left - wholeOf h))
+      (shows most depth parent (at + wholeOf h) (left - wholeOf h) (omega arith) b (omega arith) few)))
     where
       told : {r : Reply Owned} → ownerAt s x (suc most) depth parent at left ≡ r → Shows depth parent at left r
           → Shows depth parent at left (ownerAt s x (suc most) depth parent at left)
@@ -179,14 +179,14 @@ module _ (s : List ℕ) (x : ℕ) where
 
 module _ (s : List ℕ) (start size parent x : ℕ) (r : OwnerReply) where
   abbrev Answered : Type 0
-  Answered = Answer s start size parent x r
+  Answered = OwnerAnswer s start size parent x r
 
   -- 14 and 15 are the caller's.
-  by-caller : (c : Cause) → (c ≡ BadArgument) ⊎ (c ≡ Outside) → r ≡ ownerTold (refusal (because c 0)) → Answered
+  by-caller : (c : Cause) → (c ≡ BadArgument) ⊎ (c ≡ Outside) → r ≡ ownerReply (refusal (because c 0)) → Answered
   by-caller c i e = refused (because c 0) (callers i refl) e
 
   walked : allowed s start 0 ≡ true → within start size x ≡ true → (o : Reply Owned)
-      → Shows s x 0 parent start size o → r ≡ ownerTold o → Answered
+      → Shows s x 0 parent start size o → r ≡ ownerReply o → Answered
   walked a w (accepted o) k e =
       let z : 0 + length (o .masters) ≡ length (o .masters) = zero-add (length (o .masters)) in
       let low = k .low in
@@ -198,7 +198,7 @@ module _ (s : List ℕ) (start size parent x : ℕ) (r : OwnerReply) where
         left = k .last;
         way =
             subst
-            (λ (n : ℕ). Way s x 0 parent start size (o .masters) (o .address) (toOwner (k .under) n (k .last))) z
+            (λ (n : ℕ). OwnerWay s x 0 parent start size (o .masters) (o .address) (toOwner (k .under) n (k .last))) z
             (k .way);
         low = omega arith;
         head = k .head;
@@ -209,17 +209,17 @@ module _ (s : List ℕ) (start size parent x : ℕ) (r : OwnerReply) where
       e
   walked a w (refusal e) k i = refused e (there k) i
 
-  by-tests : r ≡ ownerTold (ownerOf s start size parent x) → (a : Bool) → allowed s start 0 ≡ a
+  by-tests : r ≡ ownerReply (ownerOf s start size parent x) → (a : Bool) → allowed s start 0 ≡ a
       → (w : Bool) → within start size x ≡ w → Answered
   by-tests p false i w j =
-      by-caller BadArgument (inl refl) (p ∙ ap ownerTold (owner-broken s start size parent x i))
+      by-caller BadArgument (inl refl) (p ∙ ap ownerReply (owner-broken s start size parent x i))
   by-tests p true i false j =
-      by-caller Outside (inr refl) (p ∙ ap ownerTold (owner-outside s start size parent x i j))
+      by-caller Outside (inr refl) (p ∙ ap ownerReply (owner-outside s start size parent x i j))
   by-tests p true i true j =
       let (low, high) = inside start size x j in
       walked i j (ownerAt s x size 0 parent start size)
       (shows s x size 0 parent start size (omega arith) low high (omega arith))
-      (p ∙ ap ownerTold (owner-walks s start size parent x i j))
+      (p ∙ ap ownerReply (owner-walks s start size parent x i j))
 
 pub owner-answers : OwnerAnswers
 owner-answers s start size parent x r p =
@@ -229,9 +229,9 @@ owner-answers s start size parent x r p =
 
 module _ (s : List ℕ) (start size parent x : ℕ) where
   pub owner-honest : (e : Refusal) → ownerOf s start size parent x ≡ refusal e → HonestOwner s start size parent x e
-  owner-honest e q = by (owner-answers s start size parent x (Refused e) (record { reply = sym (ap ownerTold q) }))
+  owner-honest e q = by (owner-answers s start size parent x (Refused e) (record { reply = sym (ap ownerReply q) }))
     where
-      by : Answer s start size parent x (Refused e) → HonestOwner s start size parent x e
+      by : OwnerAnswer s start size parent x (Refused e) → HonestOwner s start size parent x e
       by (owned o k i) =
           let w = told-refused (accepted o) e i in
           let z : _≡_ {A = ℕ} 0 1 = cc in absurd (let y : ⊥ = omega arith in y)

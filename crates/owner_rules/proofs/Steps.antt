@@ -11,7 +11,7 @@ use Rattle.header.specs.Header.{refused as refusedHeader}
 use Rattle.header.specs.declared.cursor.Header.{Header}
 use Rattle.kinds.specs.Kinds.{numberOf, kindUnder}
 use Rattle.elements_rules.specs.Reading.{elementHeader, depths}
-use Rattle.owner_rules.specs.Owner.{Owned, header, payload, inMaster, taken, own, ownerAt}
+use Rattle.owner_rules.specs.Owner.{Owned, header, payload, inMaster, wholeOf, own, ownerAt}
 use Rattle.owner_rules.specs.Way.{IsMaster}
 
 module _ (s : List ℕ) (x most depth parent at left : ℕ) where
@@ -28,48 +28,48 @@ module _ (s : List ℕ) (x most depth parent at left : ℕ) where
     too-deep d = rw (q, le-leb depths depth d)
 
     module _ (d : depth < depths) where
-      pub too-large : left < taken h → Here (refusal (overrun at))
+      pub too-large : left < wholeOf h → Here (refusal (overrun at))
       unfolding ownerAt
-      too-large l = rw (q, lt-leb depths depth d, lt-ltb left (taken h) l)
+      too-large l = rw (q, lt-leb depths depth d, lt-ltb left (wholeOf h) l)
 
-      module _ (l : taken h ≤ left) where
+      module _ (l : wholeOf h ≤ left) where
         pub in-header : x < at + h .length → Here (own header at)
         unfolding ownerAt
-        in-header a = rw (q, lt-leb depths depth d, le-ltb left (taken h) l, lt-ltb x (at + h .length) a)
+        in-header a = rw (q, lt-leb depths depth d, le-ltb left (wholeOf h) l, lt-ltb x (at + h .length) a)
 
         module _ (a : at + h .length ≤ x) where
-          pub in-payload : x < at + taken h → (IsMaster h parent → ⊥) → Here (own payload at)
+          pub in-payload : x < at + wholeOf h → (IsMaster h parent → ⊥) → Here (own payload at)
           unfolding ownerAt
           in-payload b k =
               rw (
                 q,
                 lt-leb depths depth d,
-                le-ltb left (taken h) l,
+                le-ltb left (wholeOf h) l,
                 le-ltb x (at + h .length) a,
-                lt-ltb x (at + taken h) b,
+                lt-ltb x (at + wholeOf h) b,
                 ne-eqb (numberOf (kindUnder (h .id) parent)) 1 k,
               )
 
-          pub in-master : x < at + taken h → IsMaster h parent
+          pub in-master : x < at + wholeOf h → IsMaster h parent
               → Here (inMaster at (ownerAt s x most (depth + 1) (h .id) (at + h .length) (h .size)))
           unfolding ownerAt
           in-master b k =
               rw (
                 q,
                 lt-leb depths depth d,
-                le-ltb left (taken h) l,
+                le-ltb left (wholeOf h) l,
                 le-ltb x (at + h .length) a,
-                lt-ltb x (at + taken h) b,
+                lt-ltb x (at + wholeOf h) b,
                 eq-eqb (numberOf (kindUnder (h .id) parent)) 1 k,
               )
 
-          pub behind : at + taken h ≤ x → Here (ownerAt s x most depth parent (at + taken h) (left - taken h))
+          pub behind : at + wholeOf h ≤ x → Here (ownerAt s x most depth parent (at + wholeOf h) (left - wholeOf h))
           unfolding ownerAt
           behind b =
               rw (
                 q,
                 lt-leb depths depth d,
-                le-ltb left (taken h) l,
+                le-ltb left (wholeOf h) l,
                 le-ltb x (at + h .length) a,
-                le-ltb x (at + taken h) b,
+                le-ltb x (at + wholeOf h) b,
               )

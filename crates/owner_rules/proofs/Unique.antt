@@ -2,7 +2,7 @@
 use Prim.Native.Nat.{ℕ}
 use mathlib.Core.Path.{sym, ap, _∙_}
 use Rattle.owner_rules.specs.Owner.{chainOf}
-use Rattle.owner_rules.specs.Promise.{ownerTold, linksOf}
+use Rattle.owner_rules.specs.Promise.{ownerReply, linksOf}
 use Rattle.owner_rules.specs.Theorems.{OneOwned, OneChain}
 
 pub owned-unique : OneOwned
@@ -10,6 +10,6 @@ owned-unique s start size parent x r r′ p q = p .reply ∙ sym (q .reply)
 
 pub chain-unique : OneChain
 chain-unique s start size parent x t u r r′ t′ u′ l p q = (
-  p .reply ∙ ap (λ (n : ℕ). ownerTold (chainOf s start size parent x n)) l ∙ sym (q .reply),
+  p .reply ∙ ap (λ (n : ℕ). ownerReply (chainOf s start size parent x n)) l ∙ sym (q .reply),
   p .links ∙ ap (λ (n : ℕ). linksOf n (chainOf s start size parent x n)) l ∙ sym (q .links),
 )

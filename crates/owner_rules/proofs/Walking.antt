@@ -15,8 +15,8 @@ use Rattle.header.specs.declared.cursor.Header.{Header}
 use Rattle.elements_rules.specs.Reading.{elementHeader, depths}
 use Rattle.elements_rules.specs.Holds.{within}
 use Rattle.elements_rules.specs.Promise.{zeros}
-use Rattle.owner_rules.specs.Owner.{Part, Owned, inMaster, taken, own, ownerAt}
-use Rattle.owner_rules.specs.Promise.{ownerIs, ownerTold, linksOf}
+use Rattle.owner_rules.specs.Owner.{Side, Owned, inMaster, wholeOf, own, ownerAt}
+use Rattle.owner_rules.specs.Promise.{ownerIs, ownerReply, linksOf}
 use Rattle.owner_rules.specs.Way.{IsMaster}
 use Rattle.owner_rules.specs.Contract.{linked, WalkMet}
 use Rattle.owner_rules.specs.declared.owner.OwnerReply.the-variants.{Refused}
@@ -25,7 +25,7 @@ use Rattle.owner_rules.proofs.Links.{take-zeros, length-linked, link-mo
 
 -- What was found in masters, the outermost first.
 abbrev pub around : List ℕ → Reply Owned → Reply Owned
-around ms (accepted o) = accepted (record { part = o .part; address = o .address; masters = ms ++ o .masters })
+around ms (accepted o) = accepted (record { side = o .side; address = o .address; masters = ms ++ o .masters })
 around ms (refusal e) = refusal e
 
 around-none : (r : Reply Owned) → r ≡ around [] r
@@ -34,7 +34,7 @@ around-none (refusal e) = refl
 
 around-more : (ms : List ℕ) (at : ℕ) (r : Reply Owned) → around ms (inMaster at r) ≡ around (ms ++ (at ∷ [])) r
 around-more ms at (accepted o) =
-    ap (λ (ns : List ℕ). accepted (record { part = o .part; address = o .address; masters = ns }))
+    ap (λ (ns : List ℕ). accepted (record { side = o .side; address = o .address; masters = ns }))
     (sym (append-assoc ms (at ∷ []) (o .masters)))
 around-more ms at (refusal e) = refl
 
@@ -113,8 +113,8 @@ module _ (s : List ℕ) (start size parent x : ℕ) (t : List ℕ) where
         ∙ ap (λ (k : ℕ). linked l k at) (sym (w .deep))
         ∙ link-more (length t) (w .masters) at
 
-    kept-link : (p : Part) (c′ : List ℕ) → c′ ≡ linked c depth at
-        → c′ ≡ linksOf (length t) (accepted (record { part = p; address = at; masters = w .masters }))
+    kept-link : (p : Side) (c′ : List ℕ) → c′ ≡ linked c depth at
+        → c′ ≡ linksOf (length t) (accepted (record { side = p; address = at; masters = w .masters }))
     unfolding linksOf
     kept-link p c′ q = kept-chain c′ q
 
@@ -123,25 +123,25 @@ module _ (s : List ℕ) (start size parent x : ℕ) (t : List ℕ) where
     walk-refused e c′ f =
         let g = finds (refusal e) f in
         record {
-          reply = sym (ap ownerTold g);
+          reply = sym (ap ownerReply g);
           links = λ o q. let z : _≡_ {A = ℕ} 0 1 = cc in absurd (omega arith);
         }
 
-    pub walk-ends : (p : Part) (c′ : List ℕ) → c′ ≡ linked c depth at → Finds (own p at)
+    pub walk-ends : (p : Side) (c′ : List ℕ) → c′ ≡ linked c depth at → Finds (own p at)
         → WalkMet s start size parent x t (ownerIs p at depth) c′
     walk-ends p c′ q f =
         let ms = w .masters in
-        let g : ownerAt s x size 0 parent start size ≡ accepted (record { part = p; address = at; masters = ms })
+        let g : ownerAt s x size 0 parent start size ≡ accepted (record { side = p; address = at; masters = ms })
         = finds (own p at) f
-        ∙ ap (λ (ns : List ℕ). accepted (record { part = p; address = at; masters = ns })) (append-nil ms) in
+        ∙ ap (λ (ns : List ℕ). accepted (record { side = p; address = at; masters = ns })) (append-nil ms) in
         record {
-          reply = ap (ownerIs p at) (sym (w .deep)) ∙ sym (ap ownerTold g);
+          reply = ap (ownerIs p at) (sym (w .deep)) ∙ sym (ap ownerReply g);
           links = λ o e. kept-link p c′ q ∙ ap (linksOf (length t)) (sym g ∙ e);
         }
 
     -- A master whose payload holds the address is gone into, and kept.
-    pub walk-into : (h : Header) (c′ : List ℕ) → elementHeader s at ≡ heading h → depth < depths → taken h ≤ left
-        → at + h .length ≤ x → x < at + taken h → IsMaster h above → c′ ≡ linked c depth at
+    pub walk-into : (h : Header) (c′ : List ℕ) → elementHeader s at ≡ heading h → depth < depths → wholeOf h ≤ left
+        → at + h .length ≤ x → x < at + wholeOf h → IsMaster h above → c′ ≡ linked c depth at
         → Walking s start size parent x t c′ (at + h .length) (h .size) (h .id) (depth + 1)
     walk-into h c′ q d l a b k e =
         let ms = w .masters in
@@ -163,9 +163,9 @@ module _ (s : List ℕ) (start size parent x : ℕ) (t : List ℕ) where
         }
 
     -- An element that ends at the address or before it is skipped.
-    pub walk-past : (h : Header) → elementHeader s at ≡ heading h → depth < depths → taken h ≤ left
-        → at + taken h ≤ x
-        → Walking s start size parent x t c (at + taken h) (left - taken h) above depth
+    pub walk-past : (h : Header) → elementHeader s at ≡ heading h → depth < depths → wholeOf h ≤ left
+        → at + wholeOf h ≤ x
+        → Walking s start size parent x t c (at + wholeOf h) (left - wholeOf h) above depth
     walk-past h q d l b =
         let (m, enough, goal) = bound (λ m. behind s x m depth above at left h q d l (omega arith) b) in
         let one = header-inside s at h q .0 in

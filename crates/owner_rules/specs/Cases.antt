@@ -3,7 +3,7 @@ use Prim.Native.Nat.{ℕ, zero, suc, _+_, _^_, _-_}
 use mathlib.Core.Path.{_≡_}
 use mathlib.Core.List.{List, [], _∷_}
 use Rattle.refusals.specs.Reply.{ByNumber, given, refused, byNumber}
-use Rattle.owner_rules.specs.Owner.{Owned, Part, header, payload, ownerOf}
+use Rattle.owner_rules.specs.Owner.{Owned, Side, header, payload, ownerOf}
 
 -- The bytes, start, size and parent of a payload in them, an address, and the reply.
 pub data Case : Type 0 where
@@ -14,8 +14,8 @@ abbrev pub Hold : List Case → Type 0
 Hold [] = Unit
 Hold (case s start size parent x reply ∷ cases) = (byNumber (ownerOf s start size parent x) ≡ reply) × Hold cases
 
-abbrev is : Part → (address : ℕ) → List ℕ → ByNumber Owned
-is part address masters = given (record { part = part; address = address; masters = masters })
+abbrev is : Side → (address : ℕ) → List ℕ → ByNumber Owned
+is part address masters = given (record { side = part; address = address; masters = masters })
 
 -- A refusal's number and address.
 abbrev breaks : (number address : ℕ) → ByNumber Owned

@@ -7,7 +7,7 @@ use lib.ListN.{length, set}
 use lib.Dec.{ltb}
 use Rattle.refusals.specs.Reply.{accepted}
 use Rattle.owner_rules.specs.Owner.{Owned, ownerAt}
-use Rattle.owner_rules.specs.Promise.{ownerTold, linksOf}
+use Rattle.owner_rules.specs.Promise.{ownerReply, linksOf}
 use Rattle.owner_rules.specs.declared.owner.OwnerReply.{OwnerReply}
 
 -- The slice t with link k set, where it is long enough for it.
@@ -17,6 +17,6 @@ linked t k address = cond (ltb k (length t)) (set t k address) t
 -- What the walk gives: the reply r, and of an owner the chain in t′.
 pub record WalkMet
     (s : List ℕ) (start size parent x : ℕ) (t : List ℕ) (r : OwnerReply) (t′ : List ℕ) : Type 0 where
-  pub reply : r ≡ ownerTold (ownerAt s x size 0 parent start size)
+  pub reply : r ≡ ownerReply (ownerAt s x size 0 parent start size)
   pub links :
       (o : Owned) → ownerAt s x size 0 parent start size ≡ accepted o → t′ ≡ linksOf (length t) (accepted o)

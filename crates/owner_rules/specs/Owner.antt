@@ -16,20 +16,20 @@ use Rattle.elements_rules.specs.Holds.{within}
 use Rattle.elements_rules.specs.Promise.{allowed}
 
 -- What of an element holds an address.
-pub data Part : Type 0 where
-  header : Part
-  payload : Part
+pub data Side : Type 0 where
+  header : Side
+  payload : Side
 
 -- Whose byte it is: which part of an element holds it, where the element's header is, and where the headers of the
 -- masters around it are, the outermost first.
 pub record Owned : Type 0 where
-  pub part : Part
+  pub side : Side
   pub address : ℕ
   pub masters : List ℕ
 
 -- The chain that leads to the byte: the masters, and the element itself.
-abbrev pub chain : Owned → List ℕ
-chain o = o .masters ++ (o .address ∷ [])
+abbrev pub chainTo : Owned → List ℕ
+chainTo o = o .masters ++ (o .address ∷ [])
 
 -- ---- one answer after another
 
@@ -44,21 +44,21 @@ refuseIf b e next = cond b (refusal e) next
 
 -- What was found in a master whose header is there.
 abbrev pub inMaster : ℕ → Reply Owned → Reply Owned
-inMaster at (accepted o) = accepted (record { part = o .part; address = o .address; masters = at ∷ o .masters })
+inMaster at (accepted o) = accepted (record { side = o .side; address = o .address; masters = at ∷ o .masters })
 inMaster at (refusal e) = refusal e
 
 -- ---- the question
 
 -- How many bytes an element takes: header and payload.
-abbrev pub taken : Header → ℕ
-taken h = h .length + h .size
+abbrev pub wholeOf : Header → ℕ
+wholeOf h = h .length + h .size
 
 abbrev pub isMaster : Header → (parent : ℕ) → Bool
 isMaster h parent = eqb (numberOf (kindUnder (h .id) parent)) 1
 
 -- An element that holds the address itself.
-abbrev pub own : Part → ℕ → Reply Owned
-own part at = accepted (record { part = part; address = at; masters = [] })
+abbrev pub own : Side → ℕ → Reply Owned
+own part at = accepted (record { side = part; address = at; masters = [] })
 
 -- Of a recording and an address.
 module _ (s : List ℕ) (x : ℕ) where
@@ -71,13 +71,13 @@ module _ (s : List ℕ) (x : ℕ) where
   ownerAt (suc most) depth parent at left =
       onHeading at (elementHeader s at) (λ h.
       refuseIf (leb depths depth) (tooDeep at)
-      (refuseIf (ltb left (taken h)) (overrun at)
+      (refuseIf (ltb left (wholeOf h)) (overrun at)
       (cond (ltb x (at + h .length)) (own header at)
-      (cond (ltb x (at + taken h))
+      (cond (ltb x (at + wholeOf h))
       (cond (isMaster h parent)
       (inMaster at (ownerAt most (depth + 1) (h .id) (at + h .length) (h .size)))
       (own payload at))
-      (ownerAt most depth parent (at + taken h) (left - taken h))))))
+      (ownerAt most depth parent (at + wholeOf h) (left - wholeOf h))))))
 
 -- 14; then 15 for an address outside the payload that the caller named; then the walk, from depth 0 on.
 unfoldable pub ownerOf : List ℕ → (start size parent x : ℕ) → Reply Owned

@@ -5,28 +5,28 @@ use mathlib.Core.List.{List, _++_}
 use lib.ListN.{length, take}
 use Rattle.refusals.specs.Reply.{Reply, accepted, refusal}
 use Rattle.elements_rules.specs.Promise.{zeros}
-use Rattle.owner_rules.specs.Owner.{Part, header, payload, Owned, chain, ownerOf, chainOf}
+use Rattle.owner_rules.specs.Owner.{Side, header, payload, Owned, chainTo, ownerOf, chainOf}
 use Rattle.owner_rules.specs.declared.owner.OwnerReply.{OwnerReply}
 use Rattle.owner_rules.specs.declared.owner.OwnerReply.the-variants.{Header, Payload, Refused}
 
 -- How an owner is told: by its header's address, and by how many masters stand around it.
-abbrev pub ownerIs : Part → (address depth : ℕ) → OwnerReply
+abbrev pub ownerIs : Side → (address depth : ℕ) → OwnerReply
 ownerIs header address depth = Header address depth
 ownerIs payload address depth = Payload address depth
 
-abbrev pub ownerTold : Reply Owned → OwnerReply
-ownerTold (accepted o) = ownerIs (o .part) (o .address) (length (o .masters))
-ownerTold (refusal e) = Refused e
+abbrev pub ownerReply : Reply Owned → OwnerReply
+ownerReply (accepted o) = ownerIs (o .side) (o .address) (length (o .masters))
+ownerReply (refusal e) = Refused e
 
 pub record OwnerPromise (s : List ℕ) (start size parent x : ℕ) (r : OwnerReply) : Type 0 where
-  pub reply : r ≡ ownerTold (ownerOf s start size parent x)
+  pub reply : r ≡ ownerReply (ownerOf s start size parent x)
 
 -- So many numbers of the chain, from the outermost on, and zeros beyond its end; after a refusal zeros alone.
 unfoldable pub linksOf : (links : ℕ) → Reply Owned → List ℕ
-linksOf links (accepted o) = take links (chain o ++ zeros links)
+linksOf links (accepted o) = take links (chainTo o ++ zeros links)
 linksOf links (refusal e) = zeros links
 
 pub record ChainPromise
     (s : List ℕ) (start size parent x : ℕ) (t : List ℕ) (r : OwnerReply) (t′ : List ℕ) : Type 0 where
-  pub reply : r ≡ ownerTold (chainOf s start size parent x (length t))
+  pub reply : r ≡ ownerReply (chainOf s start size parent x (length t))
   pub links : t′ ≡ linksOf (length t) (chainOf s start size parent x (length t))

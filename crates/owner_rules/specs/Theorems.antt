@@ -22,9 +22,9 @@ use Rattle.places_rules.specs.Promise.{WhosePromise}
 use Rattle.places_rules.specs.declared.whose.WhoseReply.{WhoseReply}
 use Rattle.places_rules.specs.declared.whose.WhoseReply.the-variants.{Header as RowHeader, Payload as RowPayload}
 use Rattle.places_rules.specs.declared.whose.WhoseReply.the-variants.{Refused as NoRow}
-use Rattle.owner_rules.specs.Owner.{Owned, chain, mostLinks}
-use Rattle.owner_rules.specs.Promise.{ownerTold, OwnerPromise, ChainPromise}
-use Rattle.owner_rules.specs.Way.{Way, OwnedBy, HonestOwner}
+use Rattle.owner_rules.specs.Owner.{Owned, chainTo, mostLinks}
+use Rattle.owner_rules.specs.Promise.{ownerReply, OwnerPromise, ChainPromise}
+use Rattle.owner_rules.specs.Way.{OwnerWay, OwnedBy, HonestOwner}
 use Rattle.owner_rules.specs.declared.owner.OwnerReply.{OwnerReply}
 use Rattle.owner_rules.specs.declared.owner.OwnerReply.the-variants.{Header, Payload, Refused}
 
@@ -43,9 +43,9 @@ OneChain =
 -- ---- every reply is sound by itself
 
 -- An element that holds the address, or an honest refusal (document 02, C-12).
-pub data Answer (s : List ℕ) (start size parent x : ℕ) (r : OwnerReply) : Type 0 where
-  owned : (o : Owned) → OwnedBy s start size parent x o → r ≡ ownerTold (accepted o) → Answer s start size parent x r
-  refused : (e : Refusal) → HonestOwner s start size parent x e → r ≡ Refused e → Answer s start size parent x r
+pub data OwnerAnswer (s : List ℕ) (start size parent x : ℕ) (r : OwnerReply) : Type 0 where
+  owned : (o : Owned) → OwnedBy s start size parent x o → r ≡ ownerReply (accepted o) → OwnerAnswer s start size parent x r
+  refused : (e : Refusal) → HonestOwner s start size parent x e → r ≡ Refused e → OwnerAnswer s start size parent x r
 
 -- Whatever the full read says of the payload, the reply is one of these. It shuts out a reader that takes bytes of a
 -- body for a header, goes into what is no master there, names a master for a byte of its children, or tells a fault
@@ -53,14 +53,14 @@ pub data Answer (s : List ℕ) (start size parent x : ℕ) (r : OwnerReply) : Ty
 abbrev pub OwnerAnswers : Type 0
 OwnerAnswers =
     (s : List ℕ) (start size parent x : ℕ) (r : OwnerReply)
-    → OwnerPromise s start size parent x r → Answer s start size parent x r
+    → OwnerPromise s start size parent x r → OwnerAnswer s start size parent x r
 
 -- Where an element holds the address, the reply names it. It shuts out a reader that refuses more than it has to: for a
 -- body that is not there, an element of depth 15, or a fault off the way.
 abbrev pub OwnerFound : Type 0
 OwnerFound =
     (s : List ℕ) (start size parent x : ℕ) (o : Owned) (r : OwnerReply)
-    → OwnedBy s start size parent x o → OwnerPromise s start size parent x r → r ≡ ownerTold (accepted o)
+    → OwnedBy s start size parent x o → OwnerPromise s start size parent x r → r ≡ ownerReply (accepted o)
 
 -- A refusal is one of document 01's list, and of those that the request names: no body is refused, and no table can be
 -- full.
@@ -75,7 +75,7 @@ abbrev pub HeadersAlone : Type 0
 HeadersAlone =
     (s s′ : List ℕ) (start size parent x : ℕ) (r r′ : OwnerReply)
     → allowed s start 0 ≡ true → allowed s′ start 0 ≡ true
-    → ((masters : List ℕ) (a : ℕ) (e : Errand) → Way s x 0 parent start size masters a e
+    → ((masters : List ℕ) (a : ℕ) (e : Errand) → OwnerWay s x 0 parent start size masters a e
     → elementHeader s′ a ≡ elementHeader s a)
     → OwnerPromise s start size parent x r → OwnerPromise s′ start size parent x r′ → r ≡ r′
 
@@ -97,16 +97,16 @@ SameOwner =
     → OwnerPromise s start size parent x r → r ≡ byAddress t′ w
 
 -- The header addresses of a row's parent, its parent's parent and so on, the outermost first.
-pub data Above (rs : List Row) : Row → List ℕ → Type 0 where
-  outermost : (r : Row) → r .parent ≡ 0 → Above rs r []
+pub data ParentsOf (rs : List Row) : Row → List ℕ → Type 0 where
+  outermost : (r : Row) → r .parent ≡ 0 → ParentsOf rs r []
   below :
-      (r : Row) (p : ℕ) (masters : List ℕ) → p < length rs → r .parent ≡ suc p → Above rs (nth rs p) masters
-      → Above rs r (masters ++ (nth rs p .address ∷ []))
+      (r : Row) (p : ℕ) (masters : List ℕ) → p < length rs → r .parent ≡ suc p → ParentsOf rs (nth rs p) masters
+      → ParentsOf rs r (masters ++ (nth rs p .address ∷ []))
 
 -- A chain into so many numbers is that of a row and its parents in the table.
 pub record ChainOfRow (t : List ℕ) (n row links : ℕ) (c′ : List ℕ) : Type 0 where
   pub masters : List ℕ
-  pub parents : Above (rowsOf t n) (rowAt t row) masters
+  pub parents : ParentsOf (rowsOf t n) (rowAt t row) masters
   pub links-are : c′ ≡ take links ((masters ++ (rowAt t row .address ∷ [])) ++ zeros links)
 
 -- Where the full question names a row, the chain is that row and its parents. It shuts out a reader that leaves a link
@@ -128,7 +128,7 @@ pub record ChainLeads
   pub long : mostLinks < length t → r ≡ Refused badArgument
   pub links :
       length t ≤ mostLinks → (o : Owned) → OwnedBy s start size parent x o
-      → t′ ≡ take (length t) (chain o ++ zeros (length t))
+      → t′ ≡ take (length t) (chainTo o ++ zeros (length t))
   pub none : (e : Refusal) → r ≡ Refused e → t′ ≡ zeros (length t)
 
 -- It shuts out a chain call that refuses a short slice, or leaves a chain behind a refusal.

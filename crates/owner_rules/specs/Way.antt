@@ -13,7 +13,7 @@ use Rattle.elements_rules.specs.Reading.{elementHeader, depths}
 use Rattle.elements_rules.specs.Holds.{within}
 use Rattle.elements_rules.specs.Promise.{allowed}
 use Rattle.elements_rules.specs.Faults.{Errand, toOwner, Honest}
-use Rattle.owner_rules.specs.Owner.{Part, header, payload, Owned, taken}
+use Rattle.owner_rules.specs.Owner.{Side, header, payload, Owned, wholeOf}
 
 abbrev pub IsMaster : Header → (parent : ℕ) → Type 0
 IsMaster h parent = numberOf (kindUnder (h .id) parent) ≡ 1
@@ -21,25 +21,25 @@ IsMaster h parent = numberOf (kindUnder (h .id) parent) ≡ 1
 -- The way to an element, from the elements at a place that have that depth, that parent id and so many bytes left. What
 -- it went past ends at the address or before it; what it went into is a master whose payload holds the address. Each of
 -- these has a header, is not too deep, and is not larger than what was left. `masters` are those that it went into.
-pub data Way (s : List ℕ) (x : ℕ) : (depth parent at left : ℕ) → (masters : List ℕ) → ℕ → Errand → Type 0 where
-  here : (depth parent at left : ℕ) → Way s x depth parent at left [] at (toOwner parent depth left)
+pub data OwnerWay (s : List ℕ) (x : ℕ) : (depth parent at left : ℕ) → (masters : List ℕ) → ℕ → Errand → Type 0 where
+  here : (depth parent at left : ℕ) → OwnerWay s x depth parent at left [] at (toOwner parent depth left)
   past :
       (depth parent at left : ℕ) (masters : List ℕ) (a : ℕ) (e : Errand) (h : Header)
-      → elementHeader s at ≡ heading h → depth < depths → taken h ≤ left → at + taken h ≤ x
-      → Way s x depth parent (at + taken h) (left - taken h) masters a e
-      → Way s x depth parent at left masters a e
+      → elementHeader s at ≡ heading h → depth < depths → wholeOf h ≤ left → at + wholeOf h ≤ x
+      → OwnerWay s x depth parent (at + wholeOf h) (left - wholeOf h) masters a e
+      → OwnerWay s x depth parent at left masters a e
   into :
       (depth parent at left : ℕ) (masters : List ℕ) (a : ℕ) (e : Errand) (h : Header)
-      → elementHeader s at ≡ heading h → depth < depths → taken h ≤ left
-      → at + h .length ≤ x → x < at + taken h → IsMaster h parent
-      → Way s x (depth + 1) (h .id) (at + h .length) (h .size) masters a e
-      → Way s x depth parent at left (at ∷ masters) a e
+      → elementHeader s at ≡ heading h → depth < depths → wholeOf h ≤ left
+      → at + h .length ≤ x → x < at + wholeOf h → IsMaster h parent
+      → OwnerWay s x (depth + 1) (h .id) (at + h .length) (h .size) masters a e
+      → OwnerWay s x depth parent at left (at ∷ masters) a e
 
 -- An element under a parent id, with its header at an address, holds x by that part: its header, or its payload if it
 -- is no master there.
-abbrev pub Holds : Part → (parent at : ℕ) → Header → (x : ℕ) → Type 0
-Holds header parent at h x = (at ≤ x) × (x < at + h .length)
-Holds payload parent at h x = (at + h .length ≤ x) × (x < at + taken h) × (IsMaster h parent → ⊥)
+abbrev pub HoldsBy : Side → (parent at : ℕ) → Header → (x : ℕ) → Type 0
+HoldsBy header parent at h x = (at ≤ x) × (x < at + h .length)
+HoldsBy payload parent at h x = (at + h .length ≤ x) × (x < at + wholeOf h) × (IsMaster h parent → ⊥)
 
 -- It holds the address, and the way leads there: a header stands at the address that is named, under the chain of
 -- masters that is named, not too deep and not larger than what was left.
@@ -49,17 +49,17 @@ pub record OwnedBy (s : List ℕ) (start size parent x : ℕ) (o : Owned) : Type
   -- Its parent id, and what its master had left.
   pub under : ℕ
   pub left : ℕ
-  pub way : Way s x 0 parent start size (o .masters) (o .address) (toOwner under (length (o .masters)) left)
+  pub way : OwnerWay s x 0 parent start size (o .masters) (o .address) (toOwner under (length (o .masters)) left)
   pub low : length (o .masters) < depths
   pub head : Header
   pub stands : elementHeader s (o .address) ≡ heading head
-  pub fits : taken head ≤ left
-  pub holds : Holds (o .part) under (o .address) head x
+  pub fits : wholeOf head ≤ left
+  pub holds : HoldsBy (o .side) under (o .address) head x
 
 -- What the question comes to, from the payload that the caller named.
-abbrev pub Comes : List ℕ → (start size parent x : ℕ) → ℕ → Errand → Type 0
-Comes s start size parent x a e = (masters : List ℕ) × Way s x 0 parent start size masters a e
+abbrev pub OwnerComes : List ℕ → (start size parent x : ℕ) → ℕ → Errand → Type 0
+OwnerComes s start size parent x a e = (masters : List ℕ) × OwnerWay s x 0 parent start size masters a e
 
 -- A refusal of the question.
 abbrev pub HonestOwner : List ℕ → (start size parent x : ℕ) → Refusal → Type 0
-HonestOwner s start size parent x e = Honest s (Comes s start size parent x) e
+HonestOwner s start size parent x e = Honest s (OwnerComes s start size parent x) e

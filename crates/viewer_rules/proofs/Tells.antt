@@ -11,8 +11,8 @@ use Rattle.bodies_rules.specs.declared.body.Range.{Range}
 use Rattle.places_rules.specs.Payload.{payloadRange}
 use Rattle.places_rules.specs.Promise.{valuesOf}
 use Rattle.places_rules.specs.Whose.{Whose, byHeader, byPayload, askedOf, whoseOf}
-use Rattle.owner_rules.specs.Owner.{Part, header, payload, Owned, ownerOf, chainOf}
-use Rattle.owner_rules.specs.Promise.{ownerIs, ownerTold}
+use Rattle.owner_rules.specs.Owner.{Side, header, payload, Owned, ownerOf, chainOf}
+use Rattle.owner_rules.specs.Promise.{ownerIs, ownerReply}
 use Rattle.search_rules.specs.Part.{PartTold, foundPart, absentPart, searchOf, replyOf}
 use Rattle.shown_rules.specs.Shown.{textRange}
 use Rattle.viewer_rules.specs.Faces.{partFace, rangeFace, placeFace, ownedFace}
@@ -70,15 +70,15 @@ place-tells s start size parent x t r t′ p =
     subst (Tells reply) (place-crossed reply ∙ ap (λ (y : UzPlace). y .refused) (sym (p .reply))) (tells reply)
 
 -- Of an owner, with the chain or without.
-owned-crossed : (reply : Reply Owned) → crossed reply ≡ ownedFace (ownerTold reply) .refused
+owned-crossed : (reply : Reply Owned) → crossed reply ≡ ownedFace (ownerReply reply) .refused
 owned-crossed (refusal e) = refl
-owned-crossed (accepted o) = by (o .part)
+owned-crossed (accepted o) = by (o .side)
   where
-    by : (p : Part) → 0 ≡ ownedFace (ownerIs p (o .address) (length (o .masters))) .refused
+    by : (p : Side) → 0 ≡ ownedFace (ownerIs p (o .address) (length (o .masters))) .refused
     by header = refl
     by payload = refl
 
-owned-said : (reply : Reply Owned) (r : UzOwned) → r ≡ ownedFace (ownerTold reply) → Tells reply (r .refused)
+owned-said : (reply : Reply Owned) (r : UzOwned) → r ≡ ownedFace (ownerReply reply) → Tells reply (r .refused)
 owned-said reply r e =
     subst (Tells reply) (owned-crossed reply ∙ ap (λ (y : UzOwned). y .refused) (sym e)) (tells reply)
 

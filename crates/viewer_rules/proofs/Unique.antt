@@ -5,7 +5,7 @@ use mathlib.Core.Path.{sym, ap, _∙_}
 use Rattle.elements_rules.specs.Promise.{tableOf as readTable}
 use Rattle.places_rules.specs.Whose.{askedOf, whoseOf}
 use Rattle.owner_rules.specs.Owner.{chainOf}
-use Rattle.owner_rules.specs.Promise.{ownerTold, linksOf}
+use Rattle.owner_rules.specs.Promise.{ownerReply, linksOf}
 use Rattle.search_rules.specs.Part.{searchOf, replyOf, tableOf}
 use Rattle.viewer_rules.specs.Faces.{partFace, placeFace, ownedFace}
 use Rattle.viewer_rules.specs.Theorems.{OneUzPart, OneUzRange, OneUzText, OneUzPlace, OneUzOwner, OneUzChain}
@@ -33,6 +33,6 @@ owner-unique s start size parent x r r′ p q = p .reply ∙ sym (q .reply)
 
 pub chain-unique : OneUzChain
 chain-unique s start size parent x t u r r′ t′ u′ l p q = (
-  p .reply ∙ ap (λ (n : ℕ). ownedFace (ownerTold (chainOf s start size parent x n))) l ∙ sym (q .reply),
+  p .reply ∙ ap (λ (n : ℕ). ownedFace (ownerReply (chainOf s start size parent x n))) l ∙ sym (q .reply),
   p .links ∙ ap (λ (n : ℕ). linksOf n (chainOf s start size parent x n)) l ∙ sym (q .links),
 )

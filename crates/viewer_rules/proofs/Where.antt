@@ -14,9 +14,9 @@ use Rattle.elements_rules.specs.Promise.{keeping}
 use Rattle.elements_rules.specs.Faults.{Errand, Honest, Comes}
 use Rattle.places_rules.specs.Whose.{Whose, byHeader, byPayload, askedOf, whoseOf}
 use Rattle.places_rules.proofs.Honest.{places-honest}
-use Rattle.owner_rules.specs.Owner.{Part, header, payload, Owned, ownerOf, chainOf}
-use Rattle.owner_rules.specs.Promise.{ownerIs, ownerTold}
-use Rattle.owner_rules.specs.Way.{Comes as OwnerComes, HonestOwner}
+use Rattle.owner_rules.specs.Owner.{Side, header, payload, Owned, ownerOf, chainOf}
+use Rattle.owner_rules.specs.Promise.{ownerIs, ownerReply}
+use Rattle.owner_rules.specs.Way.{OwnerComes, HonestOwner}
 use Rattle.owner_rules.proofs.Sound.{owner-honest, chain-honest}
 use Rattle.search_rules.specs.Part.{PartTold, foundPart, absentPart, searchOf, replyOf}
 use Rattle.search_rules.specs.Faults.{SearchComes}
@@ -77,19 +77,19 @@ module _ (s : List ℕ) (start size parent x : ℕ) (reply : Reply Owned)
     abbrev Here : ℕ → Errand → Type 0
     Here = OwnerComes s start size parent x
 
-    owned-where : (r : UzOwned) → r ≡ ownedFace (ownerTold reply) → TellsWhere s Here (r .refused) (r .«refused_at»)
+    owned-where : (r : UzOwned) → r ≡ ownedFace (ownerReply reply) → TellsWhere s Here (r .refused) (r .«refused_at»)
     owned-where r p =
         subst (λ (z : UzOwned). TellsWhere s Here (z .refused) (z .«refused_at»)) (sym p) (by reply refl)
       where
-        by-part : (o : Owned) (p : Part)
+        by-side : (o : Owned) (p : Side)
             → TellsWhere s Here (ownedFace (ownerIs p (o .address) (length (o .masters))) .refused)
             (ownedFace (ownerIs p (o .address) (length (o .masters))) .«refused_at»)
-        by-part o header = fine s Here
-        by-part o payload = fine s Here
+        by-side o header = fine s Here
+        by-side o payload = fine s Here
 
         by : (z : Reply Owned) → reply ≡ z
-            → TellsWhere s Here (ownedFace (ownerTold z) .refused) (ownedFace (ownerTold z) .«refused_at»)
-        by (accepted o) k = by-part o (o .part)
+            → TellsWhere s Here (ownedFace (ownerReply z) .refused) (ownedFace (ownerReply z) .«refused_at»)
+        by (accepted o) k = by-side o (o .side)
         by (refusal e) k = broke s Here e (honest e k)
 
 pub owner-tells-where : OwnerTellsWhere

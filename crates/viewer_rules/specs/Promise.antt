@@ -9,7 +9,7 @@ use Rattle.places_rules.specs.Payload.{payloadRange}
 use Rattle.places_rules.specs.Promise.{valuesOf}
 use Rattle.places_rules.specs.Whose.{askedOf, whoseOf}
 use Rattle.owner_rules.specs.Owner.{ownerOf, chainOf}
-use Rattle.owner_rules.specs.Promise.{ownerTold, linksOf}
+use Rattle.owner_rules.specs.Promise.{ownerReply, linksOf}
 use Rattle.search_rules.specs.Part.{searchOf, replyOf, tableOf}
 use Rattle.shown_rules.specs.Shown.{textRange}
 use Rattle.viewer_rules.specs.Faces.{partFace, rangeFace, placeFace, ownedFace}
@@ -34,9 +34,9 @@ pub record UzPlacePromise
   pub table : t′ ≡ readTable start (length t) (askedOf s start size parent x (length t))
 
 pub record UzOwnerPromise (s : List ℕ) (start size parent x : ℕ) (r : UzOwned) : Type 0 where
-  pub reply : r ≡ ownedFace (ownerTold (ownerOf s start size parent x))
+  pub reply : r ≡ ownedFace (ownerReply (ownerOf s start size parent x))
 
 pub record UzChainPromise
     (s : List ℕ) (start size parent x : ℕ) (t : List ℕ) (r : UzOwned) (t′ : List ℕ) : Type 0 where
-  pub reply : r ≡ ownedFace (ownerTold (chainOf s start size parent x (length t)))
+  pub reply : r ≡ ownedFace (ownerReply (chainOf s start size parent x (length t)))
   pub links : t′ ≡ linksOf (length t) (chainOf s start size parent x (length t))

@@ -18,7 +18,7 @@ use Rattle.places_rules.specs.declared.whose.WhoseReply.{WhoseReply}
 use Rattle.places_rules.specs.declared.whose.WhoseReply.the-variants.{Header, Payload, Refused as NoRow}
 use Rattle.owner_rules.specs.Owner.{ownerOf, chainOf}
 use Rattle.owner_rules.specs.Promise.{OwnerPromise, ChainPromise}
-use Rattle.owner_rules.specs.Way.{Comes as OwnerComes}
+use Rattle.owner_rules.specs.Way.{OwnerComes}
 use Rattle.owner_rules.specs.declared.owner.OwnerReply.{OwnerReply}
 use Rattle.search_rules.specs.Part.{searchOf, replyOf, PartPromise}
 use Rattle.search_rules.specs.Faults.{SearchComes}
