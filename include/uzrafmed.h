@@ -122,8 +122,8 @@ int main(int count, char **words) {
   - Speed. The time of a search is at most about 64 times that of one pass over the recording, of the address question
     about one pass; skipped elements are not touched. Without a table it looks at headers alone, and its time grows with
     how many stand before the address, each master around it with the siblings before it; what they hold is not touched.
-    A shown text takes one pass over itself, however long the payload goes on behind it, and uz_row_payload no pass at
-    all.
+    A header that begins with zero bytes is looked through to its first other byte, and ends the call. A shown text
+    takes one pass over itself, however long the payload goes on behind it, and uz_row_payload no pass at all.
 */
 #ifndef UZRAFMED_H
 #define UZRAFMED_H

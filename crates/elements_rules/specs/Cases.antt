@@ -38,7 +38,7 @@ abbrev is : (id size length : ℕ) → ByNumber Header
 is id size length = given (record { id = id; size = size; length = length })
 
 -- So many masters, each in the one before, the innermost around bytes; n is how many these are.
-abbrev nested : (count n : ℕ) → List ℕ → List ℕ
+abbrev pub nested : (count n : ℕ) → List ℕ → List ℕ
 nested zero n s = s
 nested (suc count) n s = nested count (n + 2) (0xB6 ∷ (0x80 + n) ∷ s)
 

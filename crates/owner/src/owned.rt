@@ -74,15 +74,15 @@ fn walk(
                         cause: Cause::TooDeep,
                     });
                 }
-                let taken = headed.header.length + headed.header.size;
-                if taken > left {
+                let whole = headed.header.length + headed.header.size;
+                if whole > left {
                     return OwnerReply::Refused(Refusal {
                         address: here,
                         cause: Cause::Overrun,
                     });
                 }
                 let past = address - here;
-                if past < taken {
+                if past < whole {
                     keep_link(chain, depth, here);
                     if past < headed.header.length {
                         return OwnerReply::Header {
@@ -102,21 +102,23 @@ fn walk(
                     above = id;
                     depth += 1;
                 } else {
-                    place = Cursor { at: here + taken };
-                    left -= taken;
+                    place = Cursor { at: here + whole };
+                    left -= whole;
                 }
             }
         }
     }
+    // Not reached: something is left while the address is ahead.
     OwnerReply::Refused(Refusal {
         address: 0,
         cause: Cause::Outside,
     })
 }
 
-// The element that holds an address of the payload of `size` bytes from `start` on, under a parent id, and the header
-// addresses of the masters around it and its own, the outermost first, in the chain: as many as it takes. 14: a length
-// is broken, or the start is past the end; then 15: the address is outside the payload that the caller named.
+// The element that holds an address of the payload of `size` bytes from `start` on, under a parent id. The chain takes
+// the header addresses of the masters around it, the outermost first, and its own, as far as there is room, and zeros
+// beyond them; the reply's depth tells how many masters there are. 14: a length is broken (a chain has at most 16
+// links), or the start is past the end; then 15: the address is outside the payload that the caller named.
 pub fn owner_chain(
     recording: &[u8],
     start: u64,

@@ -1,5 +1,6 @@
 -- The worked questions hold. Assumes nothing.
 use mathlib.Core.Path.{refl}
+use lib.ListN.{drop}
 use Rattle.header.specs.Vint.{octetBits, bits, oneMore, widthOf, bigEndianFrom, bigEndian, ofWidth, vintOf}
 use Rattle.header.specs.Header.{sized, named, headerOf}
 use Rattle.kinds.specs.Elements.{elements}
@@ -11,52 +12,6 @@ use Rattle.owner_rules.specs.Cases.{Hold, cases}
 pub cases-hold : Hold cases
 unfolding octetBits bits oneMore widthOf bigEndianFrom bigEndian ofWidth vintOf sized named headerOf elements kindIn
     member keeps demoted kindUnder isTable allowed ownerAt ownerOf
-cases-hold = (
-  refl,
-  (
-    refl,
-    (
-      refl,
-      (
-        refl,
-        (
-          refl,
-          (
-            refl,
-            (
-              refl,
-              (
-                refl,
-                (
-                  refl,
-                  (
-                    refl,
-                    (
-                      refl,
-                      (
-                        refl,
-                        (
-                          refl,
-                          (
-                            refl,
-                            (
-                              refl,
-                              (
-                                refl,
-                                (refl, tt),
-                              ),
-                            ),
-                          ),
-                        ),
-                      ),
-                    ),
-                  ),
-                ),
-              ),
-            ),
-          ),
-        ),
-      ),
-    ),
-  ),
-)
+cases-hold =
+    let others : Hold (drop 10 cases) = (refl, (refl, (refl, (refl, (refl, (refl, (refl, (refl, (refl, tt))))))))) in
+    (refl, (refl, (refl, (refl, (refl, (refl, (refl, (refl, (refl, (refl, others))))))))))

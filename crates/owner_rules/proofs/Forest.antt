@@ -76,7 +76,8 @@ module _ (s : List ℕ) (x : ℕ) (all : List Row) where
         deep-is = ap (λ (r : Row). r .depth) first ∙ (omega arith);
         holds = ap (λ (r : Row). holderIn r x) first ∙ sym k;
         parents =
-            subst (ParentsOf all (nth all n)) (sym (append-nil outer)) (up (nth all n) (ap (λ (r : Row). r .parent) first));
+            subst (ParentsOf all (nth all n)) (sym (append-nil outer))
+            (up (nth all n) (ap (λ (r : Row). r .parent) first));
       }
 
       -- Its children have it as their parent, and what is above it above that.

@@ -1,4 +1,4 @@
--- An element that holds the address, where the way leads to it, is named (`OwnerFound`). Assumes nothing.
+-- An element that holds the address, where the way leads to it, is found. Assumes nothing.
 use Prim.Native.Nat.{ℕ, zero, suc, _+_, _-_, _≤_, _<_}
 use mathlib.Core.Path.{_≡_, refl, sym, ap, _∙_, subst}
 use mathlib.Core.List.{List}
@@ -11,9 +11,7 @@ use Rattle.header.proofs.Inside.{header-inside}
 use Rattle.elements_rules.specs.Reading.{elementHeader, depths}
 use Rattle.elements_rules.specs.Faults.{Errand, toOwner}
 use Rattle.owner_rules.specs.Owner.{Side, header, payload, Owned, inMaster, wholeOf, own, ownerAt, ownerOf}
-use Rattle.owner_rules.specs.Promise.{ownerReply}
 use Rattle.owner_rules.specs.Way.{OwnerWay, here, past, into, HoldsBy, OwnedBy}
-use Rattle.owner_rules.specs.Theorems.{OwnerFound}
 use Rattle.owner_rules.proofs.Steps.{in-header, in-payload, in-master, behind}
 use Rattle.owner_rules.proofs.Walking.{inside}
 use Rattle.owner_rules.proofs.Asked.{owner-walks}
@@ -34,7 +32,7 @@ module _ (s : List ℕ) (x : ℕ) where
       → deep < depths → wholeOf h ≤ last → HoldsBy p under a h x → left ≤ most → at ≤ x → x < at + left
       → ownerAt s x most depth parent at left ≡ accepted (record { side = p; address = a; masters = ms })
   way-found p h under last deep zero depth parent at left ms a e w i q d f k m low high = absurd (omega arith)
-  way-found p h under last deep (suc most) depth parent at left _ _ _ (here _ _ _ _) i q d f k m low high =
+  way-found p h under last deep (suc most) depth parent at left _ _ _ (here _ _ _ _ _ _) i q d f k m low high =
       let same : parent ≡ under = cc in
       let depth-is : depth ≡ deep = cc in
       let left-is : left ≡ last = cc in
@@ -54,7 +52,7 @@ module _ (s : List ℕ) (x : ℕ) where
       (way-found p h under last deep most (depth + 1) (g .id) (at + g .length) (g .size) ms a e w i q d f k
       (omega arith) b (omega arith))
 
--- ---- the theorem
+-- ---- the question
 
 pub owned-found : (s : List ℕ) (start size parent x : ℕ) (o : Owned) → OwnedBy s start size parent x o
     → ownerOf s start size parent x ≡ accepted o
@@ -63,6 +61,3 @@ owned-found s start size parent x o k =
     owner-walks s start size parent x (k .arguments) (k .inside)
     ∙ way-found s x (o .side) (k .head) (k .under) (k .left) (length (o .masters)) size 0 parent start size
     (o .masters) (o .address) _ (k .way) refl (k .stands) (k .low) (k .fits) (k .holds) (omega arith) low high
-
-pub owner-found : OwnerFound
-owner-found s start size parent x o r k p = p .reply ∙ ap ownerReply (owned-found s start size parent x o k)

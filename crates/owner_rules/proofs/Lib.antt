@@ -11,6 +11,7 @@ pub mod Found
 pub mod Unique
 pub mod Alone
 pub mod Refusals
+pub mod Exactly
 pub mod Forest
 pub mod Same
 pub mod Chains

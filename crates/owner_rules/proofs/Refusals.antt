@@ -29,14 +29,14 @@ Few n = member n (1 ∷ 2 ∷ 3 ∷ 12 ∷ 14 ∷ 15 ∷ []) ≡ true
 way-errand : (s : List ℕ) (x depth parent at left : ℕ) (ms : List ℕ) (a : ℕ) (e : Errand)
     → OwnerWay s x depth parent at left ms a e
     → (under : ℕ) × (deep : ℕ) × (last : ℕ) × (e ≡ toOwner under deep last)
-way-errand s x depth parent at left _ _ _ (here _ _ _ _) = (parent, depth, left, refl)
+way-errand s x depth parent at left _ _ _ (here _ _ _ _ _ _) = (parent, depth, left, refl)
 way-errand s x depth parent at left ms a e (past _ _ _ _ _ _ _ h q d l b w) =
     way-errand s x depth parent _ _ ms a e w
 way-errand s x depth parent at left _ a e (into _ _ _ _ ms _ _ h q d l b c m w) =
     way-errand s x _ _ _ _ ms a e w
 
 -- Whether an errand is to find the owner.
-abbrev finds : Errand → Bool
+abbrev pub finds : Errand → Bool
 finds toHeader = false
 finds (toBody id parent from size address) = false
 finds (toElement mode cap parent depth rows left) = false
@@ -47,27 +47,27 @@ finds (toFollow start position heads) = false
 finds (toLookUp id start position heads) = false
 
 -- The other faults are those of other errands.
-no-body : (s : List ℕ) (at : ℕ) (c : Cause) (e : Errand) → NoBody s at c e → finds e ≡ false
+pub no-body : (s : List ℕ) (at : ℕ) (c : Cause) (e : Errand) → NoBody s at c e → finds e ≡ false
 no-body s at c _ (bodyOfElement mode cap parent depth rows left d f k) = refl
 no-body s at c _ (bodyNamed id parent from size k) = refl
 
-not-full : (s : List ℕ) (at : ℕ) (e : Errand) → Full s at e → finds e ≡ false
+pub not-full : (s : List ℕ) (at : ℕ) (e : Errand) → Full s at e → finds e ≡ false
 not-full s at _ (fullElement mode cap parent depth rows left d k) = refl
 
-not-other : (s : List ℕ) (at : ℕ) (e : Errand) → Other s at e → finds e ≡ false
+pub not-other : (s : List ℕ) (at : ℕ) (e : Errand) → Other s at e → finds e ≡ false
 not-other s at _ (otherFound id k) = refl
 
-not-far : (at id : ℕ) (e : Errand) → Far at id e → finds e ≡ false
+pub not-far : (at id : ℕ) (e : Errand) → Far at id e → finds e ≡ false
 not-far at _ _ (farFollowed start position before l) = refl
 not-far at id _ (farLookedUp _ start position before l) = refl
 
-not-again : (at : ℕ) (e : Errand) → Again at e → finds e ≡ false
+pub not-again : (at : ℕ) (e : Errand) → Again at e → finds e ≡ false
 not-again at _ (againFollowed start position heads k l m) = refl
 
-not-many : (at : ℕ) (e : Errand) → Many at e → finds e ≡ false
+pub not-many : (at : ℕ) (e : Errand) → Many at e → finds e ≡ false
 not-many at _ (manyFollowed start position heads k l m n) = refl
 
-never : {A : Type 0} → true ≡ false → A
+pub never : {A : Type 0} → true ≡ false → A
 never q = let z : _≡_ {A = ℕ} 0 1 = cc in absurd (let y : ⊥ = omega arith in y)
 
 few : (s : List ℕ) (at under deep last : ℕ) (c : Cause) → Fault s at (toOwner under deep last) c

@@ -34,7 +34,7 @@ use Rattle.places_rules.specs.declared.whose.WhoseReply.the-variants.{Header as
 use Rattle.places_rules.specs.declared.whose.WhoseReply.the-variants.{Refused as NoRow}
 use Rattle.places_rules.proofs.Unique.{replied, replied-back}
 use Rattle.places_rules.proofs.Owners.{asked-done, table-rows, row-owns}
-use Rattle.owner_rules.specs.Owner.{Side, header, payload, Owned, chainTo, mostLinks, ownerAt, ownerOf}
+use Rattle.owner_rules.specs.Owner.{Side, header, payload, Owned, mostLinks, ownerAt, ownerOf}
 use Rattle.owner_rules.specs.Promise.{ownerIs, ownerReply, linksOf, ChainPromise}
 use Rattle.owner_rules.specs.Theorems.{byAddress, SameOwner, ParentsOf, outermost, ChainOfRow, ChainOfParents}
 use Rattle.owner_rules.specs.declared.owner.OwnerReply.{OwnerReply}

@@ -1,16 +1,17 @@
--- Every reply is an element that holds the address, or an honest refusal (`OwnerAnswers`). Assumes nothing.
+-- Every reply is 14 or 15 where they are due, an element that holds the address, or a fault that the way leads to: one
+-- half of `OwnerExactly`. Assumes nothing.
 use Prim.Native.Nat.{ℕ, zero, suc, _+_, _-_, _≤_, _<_}
 use mathlib.Core.Path.{_≡_, refl, sym, ap, _∙_, subst}
 use mathlib.Core.List.{List, [], _∷_}
-use mathlib.Core.Logic.{_⊎_, inl, inr}
+use mathlib.Core.Logic.{inl, inr}
 use mathlib.Core.Bool.{Bool, true, false}
 use native.Mathlib.Nat.{zero-add}
 use native.Mathlib.Omega.{arith}
 use lib.ListN.{length}
-use Rattle.refusals.specs.Refusals.{because}
+use Rattle.refusals.specs.Refusals.{because, badArgument, outside}
 use Rattle.refusals.specs.Reply.{Reply, accepted, refusal}
 use Rattle.refusals.specs.declared.refusal.Cause.{Cause}
-use Rattle.refusals.specs.declared.refusal.Cause.the-variants.{Overrun, TooDeep, BadArgument, Outside}
+use Rattle.refusals.specs.declared.refusal.Cause.the-variants.{Overrun, TooDeep}
 use Rattle.refusals.specs.declared.refusal.Refusal.{Refusal}
 use Rattle.header.specs.Header.{heading}
 use Rattle.header.specs.declared.cursor.Header.{Header}
@@ -23,9 +24,9 @@ use Rattle.elements_rules.specs.Faults.{FaultThere, there, callers}
 use Rattle.elements_rules.proofs.Faults.{header-fault}
 use Rattle.owner_rules.specs.Owner.{Side, header, payload, Owned, inMaster, wholeOf, own, ownerAt, ownerOf}
 use Rattle.owner_rules.specs.Owner.{mostLinks, chainOf}
-use Rattle.owner_rules.specs.Promise.{ownerReply}
+use Rattle.owner_rules.specs.Promise.{ownerReply, OwnerPromise}
 use Rattle.owner_rules.specs.Way.{IsMaster, OwnerWay, here, past, into, HoldsBy, HonestOwner}
-use Rattle.owner_rules.specs.Theorems.{OwnerAnswer, owned, refused, OwnerAnswers}
+use Rattle.owner_rules.specs.Theorems.{OwnerAnswer, broken, away, owned, faulty}
 use Rattle.owner_rules.specs.declared.owner.OwnerReply.{OwnerReply}
 use Rattle.owner_rules.specs.declared.owner.OwnerReply.the-variants.{Refused}
 use Rattle.owner_rules.proofs.Steps.{no-header, too-deep, too-large, in-header, in-payload, in-master, behind}
@@ -58,15 +59,15 @@ module _ (s : List ℕ) (x : ℕ) where
       (l : wholeOf h ≤ left)
     where
       -- The element at hand holds the address.
-      shows-own : (p : Side) → HoldsBy p parent at h x → Shows depth parent at left (own p at)
-      shows-own p k =
+      shows-own : (p : Side) → at ≤ x → x < at + left → HoldsBy p parent at h x → Shows depth parent at left (own p at)
+      shows-own p low high k =
           let e : depth ≡ depth + 0 = omega arith in
           record {
             under = parent;
             last = left;
             way =
                 subst (λ (n : ℕ). OwnerWay s x depth parent at left [] at (toOwner parent n left)) e
-                (here depth parent at left);
+                (here depth parent at left low high);
             low = omega arith;
             head = h;
             stands = q;
@@ -131,10 +132,10 @@ module _ (s : List ℕ) (x : ℕ) where
       }
 
   -- The element at hand is at fault.
-  shows-fault : (depth parent at left : ℕ) (c : Cause) → Fault s at (toOwner parent depth left) c
-      → Shows depth parent at left (refusal (because c at))
-  shows-fault depth parent at left c f =
-      record { errand = toOwner parent depth left; reached = ([], here depth parent at left); fault = f }
+  shows-fault : (depth parent at left : ℕ) (c : Cause) → at ≤ x → x < at + left
+      → Fault s at (toOwner parent depth left) c → Shows depth parent at left (refusal (because c at))
+  shows-fault depth parent at left c low high f =
+      record { errand = toOwner parent depth left; reached = ([], here depth parent at left low high); fault = f }
 
   shows : (most depth parent at left : ℕ) → left ≤ most → at ≤ x → x < at + left → depth ≤ depths
       → Shows depth parent at left (ownerAt s x most depth parent at left)
@@ -143,22 +144,22 @@ module _ (s : List ℕ) (x : ℕ) where
       at-header s x depth parent at left
       (λ c q.
       told (no-header s x most depth parent at left c q)
-      (shows-fault depth parent at left c
+      (shows-fault depth parent at left c low high
       (header-fault s at (toOwner parent depth left) (λ b v. headerAsked parent depth left v) c q)))
       (λ h q d.
       told (too-deep s x most depth parent at left h q d)
       (let z : depths ≡ depth = omega arith in
-      shows-fault depth parent at left TooDeep
+      shows-fault depth parent at left TooDeep low high
       (subst (λ (j : ℕ). Deeper s at (toOwner parent j left)) z (deeperAsked parent left (h, q, tt)))))
       (λ h q d l.
       told (too-large s x most depth parent at left h q d l)
-      (shows-fault depth parent at left Overrun (largerAsked parent depth left d (h, q, l))))
+      (shows-fault depth parent at left Overrun low high (largerAsked parent depth left d (h, q, l))))
       (λ h q d l a.
       told (in-header s x most depth parent at left h q d l a)
-      (shows-own depth parent at left h q d l header (low, a)))
+      (shows-own depth parent at left h q d l header low high (low, a)))
       (λ h q d l a b k.
       told (in-payload s x most depth parent at left h q d l a b k)
-      (shows-own depth parent at left h q d l payload (a, b, k)))
+      (shows-own depth parent at left h q d l payload low high (a, b, k)))
       (λ h q d l a b k.
       let one = header-inside s at h q .0 in
       told (in-master s x most depth parent at left h q d l a b k)
@@ -180,10 +181,6 @@ module _ (s : List ℕ) (x : ℕ) where
 module _ (s : List ℕ) (start size parent x : ℕ) (r : OwnerReply) where
   abbrev Answered : Type 0
   Answered = OwnerAnswer s start size parent x r
-
-  -- 14 and 15 are the caller's.
-  by-caller : (c : Cause) → (c ≡ BadArgument) ⊎ (c ≡ Outside) → r ≡ ownerReply (refusal (because c 0)) → Answered
-  by-caller c i e = refused (because c 0) (callers i refl) e
 
   walked : allowed s start 0 ≡ true → within start size x ≡ true → (o : Reply Owned)
       → Shows s x 0 parent start size o → r ≡ ownerReply o → Answered
@@ -207,27 +204,35 @@ module _ (s : List ℕ) (start size parent x : ℕ) (r : OwnerReply) where
         holds = k .holds;
       })
       e
-  walked a w (refusal e) k i = refused e (there k) i
+  walked a w (refusal e) k i = faulty e a w k i
 
   by-tests : r ≡ ownerReply (ownerOf s start size parent x) → (a : Bool) → allowed s start 0 ≡ a
       → (w : Bool) → within start size x ≡ w → Answered
   by-tests p false i w j =
-      by-caller BadArgument (inl refl) (p ∙ ap ownerReply (owner-broken s start size parent x i))
+      broken i (p ∙ ap ownerReply (owner-broken s start size parent x i))
   by-tests p true i false j =
-      by-caller Outside (inr refl) (p ∙ ap ownerReply (owner-outside s start size parent x i j))
+      away i j (p ∙ ap ownerReply (owner-outside s start size parent x i j))
   by-tests p true i true j =
       let (low, high) = inside start size x j in
       walked i j (ownerAt s x size 0 parent start size)
       (shows s x size 0 parent start size (omega arith) low high (omega arith))
       (p ∙ ap ownerReply (owner-walks s start size parent x i j))
 
-pub owner-answers : OwnerAnswers
+pub owner-answers : (s : List ℕ) (start size parent x : ℕ) (r : OwnerReply) → OwnerPromise s start size parent x r
+    → OwnerAnswer s start size parent x r
 owner-answers s start size parent x r p =
     by-tests s start size parent x r (p .reply) (allowed s start 0) refl (within start size x) refl
 
 -- ---- refusals alone
 
 module _ (s : List ℕ) (start size parent x : ℕ) where
+  -- 14 and 15 are of what the caller gave.
+  caller-14 : HonestOwner s start size parent x badArgument
+  caller-14 = callers (inl refl) refl
+
+  caller-15 : HonestOwner s start size parent x outside
+  caller-15 = callers (inr refl) refl
+
   pub owner-honest : (e : Refusal) → ownerOf s start size parent x ≡ refusal e → HonestOwner s start size parent x e
   owner-honest e q = by (owner-answers s start size parent x (Refused e) (record { reply = sym (ap ownerReply q) }))
     where
@@ -235,7 +240,9 @@ module _ (s : List ℕ) (start size parent x : ℕ) where
       by (owned o k i) =
           let w = told-refused (accepted o) e i in
           let z : _≡_ {A = ℕ} 0 1 = cc in absurd (let y : ⊥ = omega arith in y)
-      by (refused e′ k i) = let j : e′ ≡ e = cc in subst (HonestOwner s start size parent x) j k
+      by (broken a i) = let j : badArgument ≡ e = cc in subst (HonestOwner s start size parent x) j caller-14
+      by (away a w i) = let j : outside ≡ e = cc in subst (HonestOwner s start size parent x) j caller-15
+      by (faulty e′ a w k i) = let j : e′ ≡ e = cc in subst (HonestOwner s start size parent x) j (there k)
 
   pub chain-honest : (links : ℕ) (e : Refusal) → chainOf s start size parent x links ≡ refusal e
       → HonestOwner s start size parent x e
@@ -243,7 +250,7 @@ module _ (s : List ℕ) (start size parent x : ℕ) where
       either mostLinks links
       (λ l.
       let k = chain-long s start size parent x links l in
-      subst (HonestOwner s start size parent x) (same (sym k ∙ q)) (callers (inl refl) refl))
+      subst (HonestOwner s start size parent x) (same (sym k ∙ q)) caller-14)
       (λ l. owner-honest e (sym (chain-owner s start size parent x links l) ∙ q))
     where
       same : {a b : Refusal} → _≡_ {A = Reply Owned} (refusal a) (refusal b) → a ≡ b

@@ -1,8 +1,9 @@
 -- Worked questions and their replies, as one table: those that document 02, C-16, turns on.
-use Prim.Native.Nat.{ℕ, zero, suc, _+_, _^_, _-_}
+use Prim.Native.Nat.{ℕ, _^_, _-_}
 use mathlib.Core.Path.{_≡_}
 use mathlib.Core.List.{List, [], _∷_}
 use Rattle.refusals.specs.Reply.{ByNumber, given, refused, byNumber}
+use Rattle.elements_rules.specs.Cases.{nested}
 use Rattle.owner_rules.specs.Owner.{Owned, Side, header, payload, ownerOf}
 
 -- The bytes, start, size and parent of a payload in them, an address, and the reply.
@@ -20,11 +21,6 @@ is part address masters = given (record { side = part; address = address; master
 -- A refusal's number and address.
 abbrev breaks : (number address : ℕ) → ByNumber Owned
 breaks number address = refused number 0 address
-
--- So many masters, each in the one before, the innermost around bytes; n is how many these are.
-abbrev nested : (count n : ℕ) → List ℕ → List ℕ
-nested zero n s = s
-nested (suc count) n s = nested count (n + 2) (0xB6 ∷ (0x80 + n) ∷ s)
 
 abbrev pub cases : List Case
 cases =
@@ -46,10 +42,12 @@ cases =
     -- the small set of a parent: below Tracks E0 is no master
     ∷ case (0xE0 ∷ 0x82 ∷ 0xEC ∷ 0x80 ∷ []) 0 4 0x1654AE6B 2 (is payload 0 [])
     ∷ case (0xE0 ∷ 0x82 ∷ 0xEC ∷ 0x80 ∷ []) 0 4 0xAE 2 (is header 2 (0 ∷ []))
-    -- depth 15 holds an address, depth 16 is refused
+    -- depth 15 holds an address; depth 16 is refused, behind a bad header and before an overrun
     ∷ case (nested 15 2 (0xEC ∷ 0x80 ∷ [])) 0 32 0 31
     (is header 30 (0 ∷ 2 ∷ 4 ∷ 6 ∷ 8 ∷ 10 ∷ 12 ∷ 14 ∷ 16 ∷ 18 ∷ 20 ∷ 22 ∷ 24 ∷ 26 ∷ 28 ∷ []))
     ∷ case (nested 16 2 (0xEC ∷ 0x80 ∷ [])) 0 34 0 33 (breaks 12 32)
+    ∷ case (nested 16 2 (0xEC ∷ 0x81 ∷ [])) 0 34 0 33 (breaks 12 32)
+    ∷ case (nested 16 2 (0x0F ∷ 0x80 ∷ [])) 0 34 0 33 (breaks 2 32)
     ∷ case (nested 16 2 (0xEC ∷ 0x80 ∷ [])) 0 34 0 31 (is header 30
     (0 ∷ 2 ∷ 4 ∷ 6 ∷ 8 ∷ 10 ∷ 12 ∷ 14 ∷ 16 ∷ 18 ∷ 20 ∷ 22 ∷ 24 ∷ 26 ∷ 28 ∷ []))
     -- 14, then 15

@@ -64,8 +64,8 @@ own part at = accepted (record { side = part; address = at; masters = [] })
 module _ (s : List ℕ) (x : ℕ) where
   -- The element at a place, which has that depth and stands under that parent id, with so many bytes left in its
   -- master. The order: header; 12; 3 if it is larger than what is left; then whether the address is in its header, in
-  -- its payload, or behind it. Each header takes a byte at least: `most` bounds how many are read. That it suffices,
-  -- and one of the elements always holds the address, is a theorem (`OwnerAnswers`).
+  -- its payload, or behind it. Each header takes a byte at least: `most` bounds how many are read. That it suffices
+  -- where the address is in the payload is part of a theorem (`OwnerExactly`).
   unfoldable pub ownerAt : (most depth parent at left : ℕ) → Reply Owned
   ownerAt zero depth parent at left = refusal outside
   ownerAt (suc most) depth parent at left =

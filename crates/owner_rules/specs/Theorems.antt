@@ -4,18 +4,19 @@ use Prim.Native.Nat.{ℕ, suc, _≤_, _<_}
 use mathlib.Core.Path.{_≡_}
 use mathlib.Core.List.{List, [], _∷_, _++_}
 use mathlib.Core.Logic.{_⊎_}
-use mathlib.Core.Bool.{true}
+use mathlib.Core.Bool.{true, false}
 use lib.ListN.{length, take}
 use Rattle.refusals.specs.Causes.{causeNumber}
-use Rattle.refusals.specs.Refusals.{badArgument}
+use Rattle.refusals.specs.Refusals.{badArgument, outside}
 use Rattle.refusals.specs.Reply.{accepted}
 use Rattle.refusals.specs.Theorems.{Listed}
 use Rattle.refusals.specs.declared.refusal.Refusal.{Refusal}
 use Rattle.kinds.specs.Kinds.{member}
 use Rattle.elements_rules.specs.Reading.{elementHeader}
+use Rattle.elements_rules.specs.Holds.{within}
 use Rattle.elements_rules.specs.Rows.{rowAt, rowsOf, nth}
 use Rattle.elements_rules.specs.Promise.{allowed, zeros, ReadPromise}
-use Rattle.elements_rules.specs.Faults.{Errand}
+use Rattle.elements_rules.specs.Faults.{Errand, FaultThere}
 use Rattle.elements_rules.specs.declared.row.Row.{Row}
 use Rattle.elements_rules.specs.declared.reply.ReadReply.the-variants.{Rows}
 use Rattle.places_rules.specs.Promise.{WhosePromise}
@@ -24,7 +25,7 @@ use Rattle.places_rules.specs.declared.whose.WhoseReply.the-variants.{Header as
 use Rattle.places_rules.specs.declared.whose.WhoseReply.the-variants.{Refused as NoRow}
 use Rattle.owner_rules.specs.Owner.{Owned, chainTo, mostLinks}
 use Rattle.owner_rules.specs.Promise.{ownerReply, OwnerPromise, ChainPromise}
-use Rattle.owner_rules.specs.Way.{OwnerWay, OwnedBy, HonestOwner}
+use Rattle.owner_rules.specs.Way.{OwnerWay, OwnedBy, OwnerComes}
 use Rattle.owner_rules.specs.declared.owner.OwnerReply.{OwnerReply}
 use Rattle.owner_rules.specs.declared.owner.OwnerReply.the-variants.{Header, Payload, Refused}
 
@@ -42,25 +43,30 @@ OneChain =
 
 -- ---- every reply is sound by itself
 
--- An element that holds the address, or an honest refusal (document 02, C-12).
+-- 14 for arguments that are not allowed; then 15 for an address outside the payload; else an element that holds the
+-- address, or the fault of one that the way leads to (document 02, C-12).
 pub data OwnerAnswer (s : List ℕ) (start size parent x : ℕ) (r : OwnerReply) : Type 0 where
-  owned : (o : Owned) → OwnedBy s start size parent x o → r ≡ ownerReply (accepted o) → OwnerAnswer s start size parent x r
-  refused : (e : Refusal) → HonestOwner s start size parent x e → r ≡ Refused e → OwnerAnswer s start size parent x r
+  broken : allowed s start 0 ≡ false → r ≡ Refused badArgument → OwnerAnswer s start size parent x r
+  away :
+      allowed s start 0 ≡ true → within start size x ≡ false → r ≡ Refused outside
+      → OwnerAnswer s start size parent x r
+  owned :
+      (o : Owned) → OwnedBy s start size parent x o → r ≡ ownerReply (accepted o)
+      → OwnerAnswer s start size parent x r
+  faulty :
+      (e : Refusal) → allowed s start 0 ≡ true → within start size x ≡ true
+      → FaultThere s (OwnerComes s start size parent x) e → r ≡ Refused e → OwnerAnswer s start size parent x r
 
--- Whatever the full read says of the payload, the reply is one of these. It shuts out a reader that takes bytes of a
--- body for a header, goes into what is no master there, names a master for a byte of its children, or tells a fault
--- that stands behind the address.
-abbrev pub OwnerAnswers : Type 0
-OwnerAnswers =
+-- Whatever the full read says of the payload, the reply is the one of these that holds, and whichever holds is the
+-- reply. The first shuts out a reader that takes bytes of a body for a header, goes into what is no master there, names
+-- a master for a byte of its children, or tells a fault that stands behind the address. The second shuts out one that
+-- refuses more than it has to, for a body that is not there, an element of depth 15 or a fault off the way, and one
+-- that tells 15 where it came to a fault.
+abbrev pub OwnerExactly : Type 0
+OwnerExactly =
     (s : List ℕ) (start size parent x : ℕ) (r : OwnerReply)
-    → OwnerPromise s start size parent x r → OwnerAnswer s start size parent x r
-
--- Where an element holds the address, the reply names it. It shuts out a reader that refuses more than it has to: for a
--- body that is not there, an element of depth 15, or a fault off the way.
-abbrev pub OwnerFound : Type 0
-OwnerFound =
-    (s : List ℕ) (start size parent x : ℕ) (o : Owned) (r : OwnerReply)
-    → OwnedBy s start size parent x o → OwnerPromise s start size parent x r → r ≡ ownerReply (accepted o)
+    → (OwnerPromise s start size parent x r → OwnerAnswer s start size parent x r)
+    × (OwnerAnswer s start size parent x r → OwnerPromise s start size parent x r)
 
 -- A refusal is one of document 01's list, and of those that the request names: no body is refused, and no table can be
 -- full.
@@ -70,7 +76,7 @@ OwnerRefusals =
     → Listed e × (member (causeNumber (e .cause)) (1 ∷ 2 ∷ 3 ∷ 12 ∷ 14 ∷ 15 ∷ []) ≡ true)
 
 -- Two recordings that have the same headers on the way get the same reply, whatever their other bytes are. It shuts out
--- a reader that looks at a body, or at what stands behind the address.
+-- a reader that looks at a body, or at a header behind the address.
 abbrev pub HeadersAlone : Type 0
 HeadersAlone =
     (s s′ : List ℕ) (start size parent x : ℕ) (r r′ : OwnerReply)
@@ -109,8 +115,8 @@ pub record ChainOfRow (t : List ℕ) (n row links : ℕ) (c′ : List ℕ) : Typ
   pub parents : ParentsOf (rowsOf t n) (rowAt t row) masters
   pub links-are : c′ ≡ take links ((masters ++ (rowAt t row .address ∷ [])) ++ zeros links)
 
--- Where the full question names a row, the chain is that row and its parents. It shuts out a reader that leaves a link
--- out, or writes a sibling that it went past.
+-- Where the full question names a row, the chain is that row and its parents, as far as the slice takes it. It shuts
+-- out a reader that leaves a link out, or writes a sibling that it went past.
 abbrev pub ChainOfParents : Type 0
 ChainOfParents =
     (s : List ℕ) (start size parent x : ℕ) (t : List ℕ) (row rows : ℕ) (w : WhoseReply) (t′ : List ℕ)

@@ -21,8 +21,11 @@ IsMaster h parent = numberOf (kindUnder (h .id) parent) ≡ 1
 -- The way to an element, from the elements at a place that have that depth, that parent id and so many bytes left. What
 -- it went past ends at the address or before it; what it went into is a master whose payload holds the address. Each of
 -- these has a header, is not too deep, and is not larger than what was left. `masters` are those that it went into.
+-- Where it ends, the address is still ahead: so it leads nowhere if the address is not in the payload.
 pub data OwnerWay (s : List ℕ) (x : ℕ) : (depth parent at left : ℕ) → (masters : List ℕ) → ℕ → Errand → Type 0 where
-  here : (depth parent at left : ℕ) → OwnerWay s x depth parent at left [] at (toOwner parent depth left)
+  here :
+      (depth parent at left : ℕ) → at ≤ x → x < at + left
+      → OwnerWay s x depth parent at left [] at (toOwner parent depth left)
   past :
       (depth parent at left : ℕ) (masters : List ℕ) (a : ℕ) (e : Errand) (h : Header)
       → elementHeader s at ≡ heading h → depth < depths → wholeOf h ≤ left → at + wholeOf h ≤ x

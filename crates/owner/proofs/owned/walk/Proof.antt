@@ -34,8 +34,8 @@ returns-2 c =
     let w = d .before .before .loop .inv in
     turn-deep _ _ _ _ _ _ _ _ _ _ _ w _ (sym (b .headed .given .1) ∙ d .element-header .ensures) (c .if1 .taken)
 
-add-taken : tie.Need-add-taken Inv-loop μ-loop
-add-taken c =
+add-whole : tie.Need-add-whole Inv-loop μ-loop
+add-whole c =
     let b = c .before .before .before in
     let d = b .before .before in
     let e = d .before .before in
@@ -133,7 +133,7 @@ returns-6 c = turn-ends _ _ _ _ _ _ _ _ _ _ _ (c .before .loop .inv) _ (c .loop-
 pub walk-spec : {M : Type 1} → statement M
 walk-spec =
     tie.close (tie.spec Inv-loop μ-loop loop-holds (λ c κs. search needs) (λ c. search needs) (λ c. search needs)
-    returns (λ c. search needs) (λ c. search needs) returns-2 add-taken (λ c. search needs) returns-3 (λ c. search needs)
-    (λ c κs. search needs) (λ c. search needs) returns-4 (λ c κs. search needs) (λ c κs. search needs)
+    returns (λ c. search needs) (λ c. search needs) returns-2 add-whole (λ c. search needs) returns-3
+    (λ c. search needs) (λ c κs. search needs) (λ c. search needs) returns-4 (λ c κs. search needs) (λ c κs. search needs)
     (λ c. search needs) returns-5 (λ c. search needs) loop-less loop-again (λ c. search needs)
     loop-less-2 loop-again-2 (λ c. search needs) returns-6)
