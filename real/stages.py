@@ -638,7 +638,7 @@ class Viewed(Against):
 
     def file_lines(self, lines, chain, address):
         """The line on an element by the order of the file, and those on the masters around it: their headers are at the
-        addresses of the chain, and hold what the bytes there say. The address is in the header of the last one."""
+        addresses of the chain, and hold what the bytes there say."""
         for k, at in enumerate(chain[-1:] + chain[:-1]):
             width = 9 - self.bytes[at].bit_length()
             size = 9 - self.bytes[at + width].bit_length()
@@ -650,7 +650,7 @@ class Viewed(Against):
                 behind = ', but the file ends at %d' % len(self.bytes)
             match = IN_FILE.fullmatch(lines.pop(0) if lines else '')
             self.same('address %d: in the file' % address, match and match.groups(), (
-                'header' if k == 0 else None, self.bytes[at:at + width].hex().upper(), str(at), str(width + size),
+                None if k > 0 else 'header' if address < start else 'payload', self.bytes[at:at + width].hex().upper(), str(at), str(width + size),
                 str(start), str(data), behind))
 
     def entry_line(self, line, seek, address):
@@ -697,14 +697,15 @@ class Viewed(Against):
 
     def whose(self, parts, address, rows=None, seek=None, chain=None):
         """One address: the lines for the seek head that it lies in, by its rows, and for the entry, if they are given;
-        those for the parts; and if it is in none of these, those for the chain of headers that lead to it. Answers what
-        the viewer answered."""
+        those for the parts; and if it is in no part, those for the chain of headers that lead to it, which goes on with
+        the rows of the seek head. Answers what the viewer answered."""
         status, out, err = self.ask(str(address))
         self.counts['addresses'] += 1
         lines = out.split('\n')
         self.same('address %d: the last line' % address, lines.pop(), '')
         if rows is not None:
             self.row_lines(lines, 'SeekHead', rows, address)
+            chain = chain + [at for _, at, header, data in rows if at <= address < at + header + data]
             if seek is not None:
                 self.entry_line(lines.pop(0) if lines else '', seek, address)
         for part, _, inside in parts:
@@ -751,11 +752,11 @@ class Viewed(Against):
             self.hexed(head.at, self.whose(parts, head.at, chain=above + [head.at]))
             seeks = [e for e in head.children if e.label == 'Seek entry']
             for seek in seeks[:1] + seeks[1:][-1:]:
-                self.hexed(seek.at, self.whose(parts, seek.at, rows, seek))
+                self.hexed(seek.at, self.whose(parts, seek.at, rows, seek, above + [head.at]))
                 for field in seek.children:
-                    self.whose(parts, field.end() - 1, rows, seek)
+                    self.whose(parts, field.end() - 1, rows, seek, above + [head.at])
             for other in [e for e in head.children if e not in seeks]:
-                self.whose(parts, other.at, rows)
+                self.whose(parts, other.at, rows, chain=above + [head.at])
         for part, element, rows in parts:
             if element is None or not rows:
                 continue

@@ -1,5 +1,5 @@
-// The address question, put to the seek heads and the four parts, and for any other byte to the
-// whole file.
+// The address question, put to the seek heads and the four parts, and for a byte in none of the
+// four to the whole file.
 #include "whose.h"
 
 #include "faults.h"
@@ -65,8 +65,8 @@ int tell_whose(const recording *from, uint64_t address) {
     find_remarks(from, all, &odd);
     int status = odd.count > 0;
     bool held = tell_seek_head(from, address, &status);
-    held = tell_parts(all, address) || held;
-    if (!held && !tell_in_file(&all[PARTS], address)) {
+    held = tell_parts(all, address) || tell_in_file(&all[PARTS], address) || held;
+    if (!held) {
         show_address(address);
         puts(" lies in no part that could be read");
     }
