@@ -15,12 +15,12 @@ use Rattle.elements_rules.specs.Reading.{elementHeader, depths}
 use Rattle.elements_rules.specs.Holds.{within}
 use Rattle.elements_rules.specs.Promise.{allowed}
 
--- What of an element holds an address.
+-- The side of an element that holds an address.
 pub data Side : Type 0 where
   header : Side
   payload : Side
 
--- Whose byte it is: which part of an element holds it, where the element's header is, and where the headers of the
+-- Whose byte it is: which side of an element holds it, where the element's header is, and where the headers of the
 -- masters around it are, the outermost first.
 pub record Owned : Type 0 where
   pub side : Side
@@ -58,7 +58,7 @@ isMaster h parent = eqb (numberOf (kindUnder (h .id) parent)) 1
 
 -- An element that holds the address itself.
 abbrev pub own : Side → ℕ → Reply Owned
-own part at = accepted (record { side = part; address = at; masters = [] })
+own side at = accepted (record { side = side; address = at; masters = [] })
 
 -- Of a recording and an address.
 module _ (s : List ℕ) (x : ℕ) where

@@ -38,7 +38,7 @@ pub data OwnerWay (s : List ℕ) (x : ℕ) : (depth parent at left : ℕ) → (m
       → OwnerWay s x (depth + 1) (h .id) (at + h .length) (h .size) masters a e
       → OwnerWay s x depth parent at left (at ∷ masters) a e
 
--- An element under a parent id, with its header at an address, holds x by that part: its header, or its payload if it
+-- An element under a parent id, with its header at an address, holds x by that side: its header, or its payload if it
 -- is no master there.
 abbrev pub HoldsBy : Side → (parent at : ℕ) → Header → (x : ℕ) → Type 0
 HoldsBy header parent at h x = (at ≤ x) × (x < at + h .length)
@@ -63,6 +63,6 @@ pub record OwnedBy (s : List ℕ) (start size parent x : ℕ) (o : Owned) : Type
 abbrev pub OwnerComes : List ℕ → (start size parent x : ℕ) → ℕ → Errand → Type 0
 OwnerComes s start size parent x a e = (masters : List ℕ) × OwnerWay s x 0 parent start size masters a e
 
--- A refusal of the question.
+-- A refusal of the question: a fault on the way, or 14 or 15 at 0.
 abbrev pub HonestOwner : List ℕ → (start size parent x : ℕ) → Refusal → Type 0
 HonestOwner s start size parent x e = Honest s (OwnerComes s start size parent x) e
