@@ -1,6 +1,8 @@
-//! Times our headers, kinds, tests of UTF-8, bodies, reads of elements, searches and records beside Rust's:
-//! bench ROUNDS. First all answers have to agree and the checks to pass; status 1 and one line if they don't.
+//! Times our headers, kinds, tests of UTF-8, bodies, reads of elements, searches and records beside Rust's, and our
+//! address questions beside each other: bench ROUNDS. First all answers have to agree and the checks to pass; status 1
+//! and one line if they don't.
 
+mod addresses;
 mod bodies;
 mod checks;
 mod clock;
@@ -38,6 +40,7 @@ fn main() {
     let payloads = payloads::payloads();
     let recordings = searches::recordings();
     let records = records::records();
+    let addresses = addresses::addresses();
     for pairs in &pairs {
         check_kinds(pairs, &sorted);
     }
@@ -49,6 +52,7 @@ fn main() {
     reads::check(&payloads);
     searches::check(&recordings);
     records::check(&records);
+    addresses::check(&addresses);
     checks::run();
     println!("All answers agree. Both are compiled at -O3 for plain x86-64, each in one piece.");
     println!("{rounds} rounds: the median, least to most, and the median's rate.");
@@ -73,6 +77,9 @@ fn main() {
     }
     for records in &records {
         records::time(records, report);
+    }
+    for addresses in &addresses {
+        addresses::time(addresses, report);
     }
     report.end();
 }

@@ -1,7 +1,7 @@
 //! Our functions, as the archive exports them.
 
 mod exported {
-    use super::{Body, Record, SpeedHeader, Sum};
+    use super::{Body, Record, SpeedHeader, SpeedHolder, Sum};
 
     #[link(name = "speed", kind = "static")]
     extern "C" {
@@ -111,6 +111,34 @@ mod exported {
             table: *mut u64,
             count_of_numbers: usize,
         ) -> Record;
+        pub fn speed_whose(
+            recording: *const u8,
+            count_of_bytes: usize,
+            start: u64,
+            size: u64,
+            parent: u32,
+            address: u64,
+            table: *mut u64,
+            count_of_numbers: usize,
+        ) -> SpeedHolder;
+        pub fn speed_owner(
+            recording: *const u8,
+            count_of_bytes: usize,
+            start: u64,
+            size: u64,
+            parent: u32,
+            address: u64,
+        ) -> SpeedHolder;
+        pub fn speed_owner_chain(
+            recording: *const u8,
+            count_of_bytes: usize,
+            start: u64,
+            size: u64,
+            parent: u32,
+            address: u64,
+            chain: *mut u64,
+            count_of_links: usize,
+        ) -> SpeedHolder;
     }
 }
 
@@ -348,4 +376,94 @@ pub fn record(payload: &[u8], asked: Question, table: &mut [u64]) -> Result<(u64
         0 => Ok((said.rows, said.sum)),
         number => Err(number),
     }
+}
+
+/// Whose an address is, as it crosses: 0 or the number of the refusal, then three numbers.
+#[repr(C)]
+struct SpeedHolder {
+    refused: u64,
+    named: u64,
+    in_payload: u64,
+    count: u64,
+}
+
+/// What holds an address: a row's number or the address of a header, whether the payload holds it, and how many rows
+/// there are or how deep the element is.
+#[derive(Debug, PartialEq)]
+pub struct Holder {
+    pub named: u64,
+    pub in_payload: bool,
+    pub count: u64,
+}
+
+fn holder(told: SpeedHolder) -> Result<Holder, u64> {
+    let SpeedHolder {
+        refused,
+        named,
+        in_payload,
+        count,
+    } = told;
+    let in_payload = in_payload == 1;
+    match refused {
+        0 => Ok(Holder {
+            named,
+            in_payload,
+            count,
+        }),
+        number => Err(number),
+    }
+}
+
+/// The row that holds an address of a whole payload, and how many rows there are; or the number of the refusal.
+pub fn whose(payload: &[u8], parent: u32, address: u64, table: &mut [u64]) -> Result<Holder, u64> {
+    // The payload is only read and the table only written, both within their lengths and during the call.
+    holder(unsafe {
+        exported::speed_whose(
+            payload.as_ptr(),
+            payload.len(),
+            0,
+            payload.len() as u64,
+            parent,
+            address,
+            table.as_mut_ptr(),
+            table.len(),
+        )
+    })
+}
+
+/// The header's address of the element that holds an address, and its depth; or the number of the refusal.
+pub fn owner(payload: &[u8], parent: u32, address: u64) -> Result<Holder, u64> {
+    // The slice is only read, and only during the call.
+    holder(unsafe {
+        exported::speed_owner(
+            payload.as_ptr(),
+            payload.len(),
+            0,
+            payload.len() as u64,
+            parent,
+            address,
+        )
+    })
+}
+
+/// The same, with the masters around it in the chain.
+pub fn owner_chain(
+    payload: &[u8],
+    parent: u32,
+    address: u64,
+    chain: &mut [u64],
+) -> Result<Holder, u64> {
+    // The payload is only read and the chain only written, both within their lengths and during the call.
+    holder(unsafe {
+        exported::speed_owner_chain(
+            payload.as_ptr(),
+            payload.len(),
+            0,
+            payload.len() as u64,
+            parent,
+            address,
+            chain.as_mut_ptr(),
+            chain.len(),
+        )
+    })
 }

@@ -112,7 +112,7 @@ fn head(parts: &[(u32, Vec<u8>)]) -> Vec<u8> {
 }
 
 /// The payload of Chapters, of so many elements, a quarter of them texts.
-fn chapters(size: usize, chance: &mut Chance) -> Vec<u8> {
+pub fn chapters(size: usize, chance: &mut Chance) -> Vec<u8> {
     let mut all = Vec::new();
     let mut left = size;
     while left > 0 {

@@ -88,6 +88,17 @@ fn measure(rounds: usize, expected: u64, ways: &[Way]) -> Vec<Took> {
     took
 }
 
+/// What one way took by what another took, in a line.
+fn ratio_line(input: &str, one: &Took, other: &Took) -> String {
+    format!(
+        "{input:<40}{:<24}{:>7.2} of {:<26}{:>7.2}",
+        one.name,
+        one.ratio(other),
+        other.name,
+        one.least() / other.least(),
+    )
+}
+
 /// What the program prints, and the lines that are kept for its end.
 pub struct Report {
     rounds: usize,
@@ -166,24 +177,39 @@ impl Report {
         self.keep(input, &took);
     }
 
+    /// Prints, for each way, nanoseconds per question and questions a second. Each run asks one and returns 1. All ways
+    /// are ours, and the ratios are those to the first.
+    pub fn compare_ours(&mut self, input: &str, unit: &str, ways: &[Way]) -> Vec<Took> {
+        let took = measure(self.rounds, 1, ways);
+        println!("{input}, {unit}:");
+        for took in &took {
+            println!(
+                "  {:<28}{:>9.1} ns  {:>9.1} to {:<9.1}{:>10.0} /s",
+                took.name,
+                took.median(),
+                took.least(),
+                took.most(),
+                1e9 / took.median(),
+            );
+        }
+        for other in &took[1..] {
+            self.ratios.push(ratio_line(input, other, &took[0]));
+        }
+        took
+    }
+
     /// Keeps the ratios: each way of ours by each other.
     fn keep(&mut self, input: &str, took: &[Took]) {
         let (ours, others): (Vec<&Took>, Vec<&Took>) =
             took.iter().partition(|took| took.name.starts_with(OURS));
         for other in others {
             for ours in &ours {
-                self.ratios.push(format!(
-                    "{input:<40}{:<24}{:>5.2} of {:<26}{:>5.2}",
-                    ours.name,
-                    ours.ratio(other),
-                    other.name,
-                    ours.least() / other.least(),
-                ));
+                self.ratios.push(ratio_line(input, ours, other));
             }
         }
     }
 
-    /// Keeps what each way takes for an element, from size to size.
+    /// Keeps what each way takes for an element, or for a header, from size to size.
     pub fn grow(&mut self, input: &str, sizes: &[usize], took: &[Vec<Took>]) {
         for (way, first) in took[0].iter().enumerate() {
             let mut line = format!("{input:<24}{:<26}", first.name);
@@ -199,11 +225,12 @@ impl Report {
 
     /// Prints the lines that were kept.
     pub fn end(&self) {
-        println!("Growth: nanoseconds for an element by the median, and by the least.");
+        println!("Growth: nanoseconds for an element, or for a header looked at, by the median, and by the least.");
         for line in &self.growth {
             println!("  growth {line}");
         }
         println!("Ratios: our time by the other's in the same round, the median, and our least by its least.");
+        println!("Of an address all ways are ours: whose_byte and owner_chain by owner.");
         for line in &self.ratios {
             println!("  ratio {line}");
         }
