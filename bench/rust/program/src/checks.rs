@@ -72,6 +72,12 @@ pub fn run() {
             "an answer changed"
         );
     });
+    grows("siblings, to the last by owner", MANY, |siblings| {
+        let last = siblings * 2 - 2;
+        let owner = ours::owner(&many[..siblings as usize * 2], 0, last);
+        let found = owner.map(|owner| owner.named);
+        assert_eq!(found, Ok(last), "an answer changed");
+    });
     searches(&many);
 }
 
