@@ -33,7 +33,7 @@ nth-behind (r ∷ rs) ss k =
     let e : suc (length rs) + k ≡ suc (length rs + k) = omega arith in
     ap (nth (r ∷ (rs ++ ss))) e ∙ nth-behind rs ss k
 
--- What of a row holds the address, where an owner is told by that part.
+-- What of a row holds the address, where an owner is told by that side.
 abbrev pub holderOf : Side → Holder
 holderOf header = RowHeader
 holderOf payload = RowPayload

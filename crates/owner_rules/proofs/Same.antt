@@ -56,7 +56,7 @@ second-true true b q = q
 second-true false b q = let z : _≡_ {A = ℕ} 0 1 = cc in absurd (omega arith)
 
 module _ (r : Row) (x : ℕ) where
-  -- A row of which a part holds the address holds it.
+  -- A row of which a side holds the address holds it.
   held : (p : Side) → holderIn r x ≡ holderOf p → (inHeader r x || inLeaf r x) ≡ true
   unfolding holderIn
   held p q = go (inHeader r x) (inLeaf r x) p q
@@ -67,11 +67,11 @@ module _ (r : Row) (x : ℕ) where
       go false false header w = let z : _≡_ {A = ℕ} 0 1 = cc in absurd (omega arith)
       go false false payload w = let z : _≡_ {A = ℕ} 0 1 = cc in absurd (omega arith)
 
-  -- Which part it is, by the tests of a row.
-  part-header : (p : Side) → holderIn r x ≡ holderOf p → inHeader r x ≡ true → p ≡ header
+  -- Which side it is, by the tests of a row.
+  side-header : (p : Side) → holderIn r x ≡ holderOf p → inHeader r x ≡ true → p ≡ header
   unfolding holderIn
-  part-header header q a = refl
-  part-header payload q a =
+  side-header header q a = refl
+  side-header payload q a =
       let w = rw a at q in
       let z : _≡_ {A = ℕ} 0 1 = cc in absurd (let y : ⊥ = omega arith in y)
 
@@ -82,16 +82,16 @@ module _ (r : Row) (x : ℕ) where
       let (low′, high′) = inside (r .address + r .header) (r .payload) x (second-true (isLeaf r) _ b) in
       omega arith
 
-  part-payload : (p : Side) → holderIn r x ≡ holderOf p → inLeaf r x ≡ true → p ≡ payload
+  side-payload : (p : Side) → holderIn r x ≡ holderOf p → inLeaf r x ≡ true → p ≡ payload
   unfolding holderIn
-  part-payload payload q b = refl
-  part-payload header q b = by (inHeader r x) refl (rw b at q)
+  side-payload payload q b = refl
+  side-payload header q b = by (inHeader r x) refl (rw b at q)
     where
       by : (a : Bool) → inHeader r x ≡ a → cond a HeaderHolds PayloadHolds ≡ HeaderHolds → header ≡ payload
       by true e w = absurd (not-both e b)
       by false e w = let z : _≡_ {A = ℕ} 0 1 = cc in absurd (let y : ⊥ = omega arith in y)
 
--- The full question's reply by a part and a row.
+-- The full question's reply by a side and a row.
 abbrev rowIs : Side → (row total : ℕ) → WhoseReply
 rowIs header row total = RowHeader row total
 rowIs payload row total = RowPayload row total
@@ -154,10 +154,10 @@ module _
               ⊎-elim
               (λ e. e .0 ∙ ap (λ (n : ℕ). RowHeader n (length rs)) (sym same)
               ∙ sym (ap (λ (y : Side). rowIs y (k .row) (length rs))
-              (part-header (nth rs (g .row)) x (o .side) holds (e .1))))
+              (side-header (nth rs (g .row)) x (o .side) holds (e .1))))
               (λ e. e .0 ∙ ap (λ (n : ℕ). RowPayload n (length rs)) (sym same)
               ∙ sym (ap (λ (y : Side). rowIs y (k .row) (length rs))
-              (part-payload (nth rs (g .row)) x (o .side) holds (e .1))))
+              (side-payload (nth rs (g .row)) x (o .side) holds (e .1))))
               (g .which);
         }
 
