@@ -14,14 +14,14 @@ use refusals::Refusal;
 use rowstore::clear;
 use rowstore::is_allowed;
 
-// The reading into a cleared table, with arguments that are allowed.
-pub fn fill(recording: &[u8], start: u64, size: u64, parent: u32, table: &mut [u64]) -> ReadReply
+// The reading into a cleared table, in live mode or in old mode, with arguments that are allowed.
+pub fn fill(recording: &[u8], live: bool, start: u64, size: u64, parent: u32, table: &mut [u64]) -> ReadReply
     requires { ⌜ allowed (now recording) start (length (now table)) ≡ true ⌝ }
     requires { ⌜ now table ≡ zeros (length (now table)) ⌝ }
-    ensures { λ r. ⌜ ReadPromise (now (recording .entry)) start size parent
+    ensures { λ r. ⌜ ReadPromise live (now (recording .entry)) start size parent
         (now (table .entry)) r (now (table .exit)) ⌝ }
 {
-    let mode = Mode { keep: true };
+    let mode = Mode { keep: true, live };
     let from = Cursor { at: start };
     let above = Above {
         id: parent,
@@ -37,10 +37,10 @@ pub fn fill(recording: &[u8], start: u64, size: u64, parent: u32, table: &mut [u
     }
 }
 
-// The elements of the payload of `size` bytes from `start` on, under a parent id, into the table. A refusal fills the
-// table with zeros. 14: a length is broken, or the start is past the end.
-pub fn read(recording: &[u8], start: u64, size: u64, parent: u32, table: &mut [u64]) -> ReadReply
-    ensures { λ r. ⌜ ReadPromise (now (recording .entry)) start size parent
+// The elements of the payload of `size` bytes from `start` on, under a parent id, into the table; in live mode, which
+// knows unknown sizes, or in old mode. A refusal fills the table with zeros. 14: a length is broken, or the start is past the end.
+pub fn read(recording: &[u8], live: bool, start: u64, size: u64, parent: u32, table: &mut [u64]) -> ReadReply
+    ensures { λ r. ⌜ ReadPromise live (now (recording .entry)) start size parent
         (now (table .entry)) r (now (table .exit)) ⌝ }
 {
     clear(table);
@@ -50,5 +50,5 @@ pub fn read(recording: &[u8], start: u64, size: u64, parent: u32, table: &mut [u
             cause: Cause::BadArgument,
         });
     }
-    fill(recording, start, size, parent, table)
+    fill(recording, live, start, size, parent, table)
 }

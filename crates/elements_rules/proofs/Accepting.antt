@@ -19,6 +19,7 @@ use Rattle.elements_rules.specs.Promise.{keeping, allowed, filled, readO
 use Rattle.elements_rules.specs.Acceptance.{AcceptedExactly, ReadableTree, BodyExactly}
 use Rattle.elements_rules.specs.declared.row.Mode.{Mode}
 use Rattle.elements_rules.specs.declared.reply.ReadReply.the-variants.{Rows}
+use Rattle.elements_rules.proofs.Parts.{taken-there}
 use Rattle.elements_rules.proofs.Outcomes.{passes, of-refuse}
 use Rattle.elements_rules.proofs.Bodies.{by-kind, master-body}
 use Rattle.elements_rules.proofs.Tables.{full-free, full-unkept}
@@ -42,7 +43,7 @@ module _ (s : List ℕ) (mode : Mode) (cap : ℕ) where
       go false k = full-unkept mode cap n k
 
   -- An element whose children are read is read.
-  element-read : (levels parent at n : ℕ) (e : Element) (kids : Forest) → StandsAt s parent at e kids
+  element-read : (levels parent at n : ℕ) (e : Element) (kids : Forest) → StandsAt (mode .live) s parent at e kids
       → (mode .keep ≡ true → n < cap)
       → siblings (element s mode cap levels (e .header .id)) (span kids) (at + e .header .length) (span kids) (n + 1)
       ≡ done kids
@@ -56,14 +57,14 @@ module _ (s : List ℕ) (mode : Mode) (cap : ℕ) where
       (λ m. rw (held-value at (bodyOf s from (e .header .size) (e .kind)) _ (i .value m), i .childless m))))
 
   -- Elements that stand are read one after another.
-  stands-read : (levels parent most at n : ℕ) (f : Forest) → Stands s parent at f → deep f ≤ levels → span f ≤ most
-      → (mode .keep ≡ true → n + count f ≤ cap)
+  stands-read : (levels parent most at n : ℕ) (f : Forest) → Stands (mode .live) s parent at f → deep f ≤ levels
+      → span f ≤ most → (mode .keep ≡ true → n + count f ≤ cap)
       → siblings (element s mode cap levels parent) most at (span f) n ≡ done f
   unfolding Stands deep span count join
   stands-read levels parent most at n none i d l c = stops (element s mode cap levels parent) most at n
   stands-read zero parent most at n (node e kids rest) i d l c = absurd (omega arith)
   stands-read (suc levels) parent most at n (node e kids rest) i d l c =
-      let h = header-inside s at (e .header) (i .0 .head) in
+      let h = header-inside s at (e .header) (taken-there (mode .live) s at (e .header) (i .0 .head)) in
       let below = stands-read levels (e .header .id) (span kids) (at + e .header .length) (n + 1) kids (i .1)
       (omega arith) (omega arith) (λ k. let m = c k in omega arith) in
       let one = element-read levels parent at n e kids (i .0) (λ k. let m = c k in omega arith) below in
@@ -98,29 +99,29 @@ body-exactly s mode cap depth parent at size n f inside room = (
 
 -- ---- the public read
 
-pub read-done : (s : List ℕ) (start size parent numbers : ℕ) (f : Forest) → allowed s start numbers ≡ true
-    → Stands s parent start f → span f ≡ size → deep f ≤ depths → count f ≤ numbers / width
-    → readOf s start size parent numbers ≡ done f
+pub read-done : (live : Bool) (s : List ℕ) (start size parent numbers : ℕ) (f : Forest) → allowed s start numbers ≡ true
+    → Stands live s parent start f → span f ≡ size → deep f ≤ depths → count f ≤ numbers / width
+    → readOf live s start size parent numbers ≡ done f
 unfolding readOf filled
-read-done s start size parent numbers f a i w d c =
+read-done live s start size parent numbers f a i w d c =
     passes _ _ _ (ap not a)
-    ∙ body-read s keeping (numbers / width) 0 parent start size 0 f
+    ∙ body-read s (keeping live) (numbers / width) 0 parent start size 0 f
     (record { stands = i; taken = w; low = d; free = λ k. omega arith })
 
 -- A tree that was read, as the promise tells it.
-pub promised-rows : (s : List ℕ) (start size parent : ℕ) (t : List ℕ) (f : Forest)
-    → readOf s start size parent (length t) ≡ done f
-    → ReadPromise s start size parent t (Rows (count f)) (tableOf start (length t) (done f))
-promised-rows s start size parent t f q =
+pub promised-rows : (live : Bool) (s : List ℕ) (start size parent : ℕ) (t : List ℕ) (f : Forest)
+    → readOf live s start size parent (length t) ≡ done f
+    → ReadPromise live s start size parent t (Rows (count f)) (tableOf start (length t) (done f))
+promised-rows live s start size parent t f q =
     record { reply = sym (ap replyOf q); table = sym (ap (tableOf start (length t)) q) }
 
 pub accepted-exactly : AcceptedExactly
 unfolding readOf
-accepted-exactly s start size parent t n t′ = (
+accepted-exactly live s start size parent t n t′ = (
   λ p.
-      let a = accepted-read s start size parent t n t′ p in
-      let (taken, stands) = read-stands s start size parent (length t) (a .forest) (a .outcome) in
-      let low = read-low s start size parent (length t) (a .forest) (a .outcome) in
+      let a = accepted-read live s start size parent t n t′ p in
+      let (taken, stands) = read-stands live s start size parent (length t) (a .forest) (a .outcome) in
+      let low = read-low live s start size parent (length t) (a .forest) (a .outcome) in
       record {
         arguments = not-false _ (of-refuse _ _ _ (a .outcome) .0);
         forest = a .forest;
@@ -136,9 +137,9 @@ accepted-exactly s start size parent t n t′ = (
   λ a.
       let n-is = a .number in
       let fits = a .fits in
-      let q = read-done s start size parent (length t) (a .forest) (a .arguments) (a .stands) (a .taken) (a .low)
+      let q = read-done live s start size parent (length t) (a .forest) (a .arguments) (a .stands) (a .taken) (a .low)
       (omega arith) in
-      let p = promised-rows s start size parent t (a .forest) q in
+      let p = promised-rows live s start size parent t (a .forest) q in
       record {
         reply = rw n-is (p .reply);
         table = a .table ∙ rw n-is (sym (table-is start (length t) (a .forest)) ∙ p .table);

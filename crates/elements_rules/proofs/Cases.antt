@@ -4,6 +4,7 @@ use lib.ListN.{drop}
 use Rattle.header.specs.Vint.{octetBits, bits, oneMore, widthOf, bigEndianFrom, bigEndian, ofWidth, vintOf}
 use Rattle.header.specs.Header.{sized, named, headerOf}
 use Rattle.header.specs.Promise.{headerReply}
+use Rattle.sizes.specs.Unknown.{unknown}
 use Rattle.kinds.specs.Elements.{elements}
 use Rattle.kinds.specs.Kinds.{kindIn, member, keeps, demoted, kindUnder}
 use Rattle.utf8.specs.Utf8.{utf8Char, behind, anyOf, goesOn, utf8}
@@ -20,9 +21,11 @@ pub cases-hold : Hold cases
 unfolding octetBits bits oneMore widthOf bigEndianFrom bigEndian ofWidth vintOf sized named headerOf headerReply
     elements kindIn member keeps demoted kindUnder behind utf8Char anyOf goesOn utf8 signedOf bodyOf bodyReply
     span count join refuseIf full siblings element masterBody rows flat flatten isTable allowed filled readOf tableOf
+    unknown
 cases-hold =
+    let live-cases : Hold (drop 30 cases) = (refl, (refl, (refl, (refl, (refl, (refl, (refl, tt))))))) in
     let broken : Hold (drop 19 cases) =
-    (refl, (refl, (refl, (refl, (refl, (refl, (refl, (refl, (refl, (refl, (refl, tt))))))))))) in
+    (refl, (refl, (refl, (refl, (refl, (refl, (refl, (refl, (refl, (refl, (refl, live-cases))))))))))) in
     let read-cases : Hold (drop 16 cases) = ((refl, refl), ((refl, refl), ((refl, refl), broken))) in
     let body-cases : Hold (drop 10 cases) = (refl, (refl, (refl, (refl, (refl, (refl, read-cases)))))) in
     (refl, (refl, (refl, (refl, (refl, (refl, (refl, (refl, (refl, (refl, body-cases))))))))))

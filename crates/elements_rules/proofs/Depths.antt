@@ -3,6 +3,7 @@
 use Prim.Native.Nat.{ℕ, zero, suc, _+_, _-_, _/_, _≤_, _<_, max}
 use mathlib.Core.Path.{_≡_, sym, subst}
 use mathlib.Core.List.{List}
+use mathlib.Core.Bool.{Bool}
 use native.Mathlib.Omega.{arith}
 use lib.ListN.{length}
 use Rattle.kinds.specs.Kinds.{kindUnder}
@@ -72,20 +73,20 @@ rows-low parent depth at n (node e kids rest) d = (
       (rows-low parent depth (at + whole e) (n + 1 + count kids) rest (omega arith)),
 )
 
-pub read-low : (s : List ℕ) (start size parent numbers : ℕ) (f : Forest)
-    → readOf s start size parent numbers ≡ done f → deep f ≤ depths
+pub read-low : (live : Bool) (s : List ℕ) (start size parent numbers : ℕ) (f : Forest)
+    → readOf live s start size parent numbers ≡ done f → deep f ≤ depths
 unfolding readOf filled
-read-low s start size parent numbers f q =
-    body-low s keeping (numbers / width) 0 parent start size 0 f (of-refuse _ _ _ q .1)
+read-low live s start size parent numbers f q =
+    body-low s (keeping live) (numbers / width) 0 parent start size 0 f (of-refuse _ _ _ q .1)
 
 pub depths-allowed : DepthsAllowed
-depths-allowed s start size parent t n t′ p =
-    let a = accepted-read s start size parent t n t′ p in
-    let l = read-low s start size parent (length t) (a .forest) (a .outcome) in
+depths-allowed live s start size parent t n t′ p =
+    let a = accepted-read live s start size parent t n t′ p in
+    let l = read-low live s start size parent (length t) (a .forest) (a .outcome) in
     subst (λ (rs : List Row). Each (λ r. r .depth < depths) rs) (sym (a .rows-are))
     (rows-low 0 0 start 0 (a .forest) (omega arith))
 
 pub rows-fit-table : RowsFit
-rows-fit-table s start size parent t n t′ p =
-    let a = accepted-read s start size parent t n t′ p in
+rows-fit-table live s start size parent t n t′ p =
+    let a = accepted-read live s start size parent t n t′ p in
     (a .fits, a .as-long)

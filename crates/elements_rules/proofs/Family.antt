@@ -2,6 +2,7 @@
 use Prim.Native.Nat.{ℕ, zero, suc, _+_, _<_}
 use mathlib.Core.Path.{_≡_, refl, sym, ap, _∙_, subst}
 use mathlib.Core.List.{List, [], _∷_, _++_, append-assoc, append-nil}
+use mathlib.Core.Bool.{Bool}
 use native.Mathlib.Omega.{arith}
 use lib.ListN.{length, length-append}
 use Rattle.kinds.specs.Kinds.{numberOf, kindUnder}
@@ -32,7 +33,7 @@ data Parent (parent : ℕ) (before : List Row) (row depth id : ℕ) : Type 0 whe
       (p : ℕ) → p < length before → row ≡ suc p → depth ≡ suc (nth before p .depth) → id ≡ nth before p .id
       → Parent parent before row depth id
 
-module _ (parent : ℕ) where
+module _ (live : Bool) (parent : ℕ) where
   -- More rows do not matter.
   still : (before more : List Row) (row depth id : ℕ) → Parent parent before row depth id
       → Parent parent (before ++ more) row depth id
@@ -58,7 +59,7 @@ module _ (parent : ℕ) where
       (a .0, family-append (before ++ (r ∷ [])) rs ss (a .1) (subst (λ (x : List Row). Family parent x ss) e b))
 
   family : (s : List ℕ) (before : List Row) (id row depth at n : ℕ) (f : Forest) → length before ≡ n
-      → Parent parent before row depth id → Stands s id at f → Family parent before (rows row depth at n f)
+      → Parent parent before row depth id → Stands live s id at f → Family parent before (rows row depth at n f)
   unfolding Family rows Stands
   family s before id row depth at n none l p i = tt
   family s before id row depth at n (node e kids rest) l p i =
@@ -81,8 +82,8 @@ module _ (parent : ℕ) where
       )
 
 pub parents-before : ParentsBefore
-parents-before s start size parent t n t′ p =
-    let a = accepted-read s start size parent t n t′ p in
-    let (w, i) = read-stands s start size parent (length t) (a .forest) (a .outcome) in
+parents-before live s start size parent t n t′ p =
+    let a = accepted-read live s start size parent t n t′ p in
+    let (w, i) = read-stands live s start size parent (length t) (a .forest) (a .outcome) in
     subst (λ (rs : List Row). Family parent [] rs) (sym (a .rows-are))
-    (family parent s [] parent 0 0 start 0 (a .forest) refl (caller refl refl refl) i)
+    (family live parent s [] parent 0 0 start 0 (a .forest) refl (caller refl refl refl) i)

@@ -20,6 +20,7 @@ use Rattle.header.specs.Header.{refused as refusedHeader}
 use Rattle.header.specs.Promise.{mostBytes, headerReply}
 use Rattle.header.specs.Promise.{replyOf as headerTold}
 use Rattle.header.specs.declared.cursor.Header.{Header}
+use Rattle.sizes.specs.Unknown.{unknown}
 use Rattle.kinds.specs.Kinds.{kindUnder}
 use Rattle.kinds.specs.declared.kind.Kind.{Kind}
 use Rattle.kinds.specs.declared.kind.Kind.the-variants as K
@@ -37,12 +38,13 @@ use Rattle.elements_rules.specs.Reading.{Outcome, done, refused, andThen
 use Rattle.elements_rules.specs.Reading.{full, siblings, elementHeader, elementOf, depths, element, masterBody}
 use Rattle.elements_rules.specs.Rows.{width}
 use Rattle.elements_rules.specs.Promise.{keeping, allowed, filled, readOf, replyOf}
-use Rattle.elements_rules.specs.Faults.{Errand, toHeader, toBody, toElement, NoHeader, headerAlone}
-use Rattle.elements_rules.specs.Faults.{headerOfElement, NoBody, bodyOfElement, bodyNamed, largerElement}
+use Rattle.elements_rules.specs.Faults.{Errand, toHeader, toBody, toElement, readsHeader, barred}
+use Rattle.elements_rules.specs.Faults.{unsized, NoHeader, noHeader, NoBody, bodyOfElement, bodyNamed, largerElement}
 use Rattle.elements_rules.specs.Faults.{Deeper, deeperElement, fullElement, Fault, FaultThere, Honest, there}
 use Rattle.elements_rules.specs.Faults.{callers, Comes, here, past}
 use Rattle.elements_rules.specs.Faults.{into, HonestReading, HeaderHonest, BodyHonest, ReadHonest}
 use Rattle.elements_rules.specs.declared.row.Mode.{Mode}
+use Rattle.elements_rules.proofs.Parts.{of-taken, of-untaken}
 use Rattle.elements_rules.proofs.Standing.{is-master}
 
 -- ---- which causes a header and a body have
@@ -55,12 +57,14 @@ of-size id n long c q = inr (cc)
 
 module _ (s : List ℕ) (at : ℕ) (x : Errand) where
   -- A header that is refused is the fault that its cause says, whoever reads it.
-  pub header-fault : ((c : Cause) → elementHeader s at ≡ refusedHeader c → NoHeader s at c x) → (c : Cause)
-      → elementHeader s at ≡ refusedHeader c → Fault s at x c
+  pub header-fault : readsHeader x ≡ true → (c : Cause) → headerOf (drop at s) ≡ refusedHeader c → Fault s at x c
   unfolding headerOf named
-  header-fault make c q = by (vintOf 4 (drop at s)) refl q
+  header-fault reads c q = by (vintOf 4 (drop at s)) refl q
     where
-      told : (d : Cause) → c ≡ d → (elementHeader s at ≡ refusedHeader d → Fault s at x d) → Fault s at x c
+      make : (d : Cause) → headerOf (drop at s) ≡ refusedHeader d → NoHeader s at d x
+      make d v = noHeader reads v
+
+      told : (d : Cause) → c ≡ d → (headerOf (drop at s) ≡ refusedHeader d → Fault s at x d) → Fault s at x c
       told d e f = subst (Fault s at x) (sym e) (f (q ∙ ap refusedHeader e))
 
       ended : c ≡ C.PastEnd → Fault s at x c
@@ -74,6 +78,14 @@ module _ (s : List ℕ) (at : ℕ) (x : Errand) where
       by (vint n id) w r = of (of-size id n _ c r)
       by ends w r = ended (cc)
       by long w r = told C.InvalidId (cc) (make C.InvalidId)
+
+-- The same of the step of the element rules: its header is refused, or of unknown size where that is barred.
+pub step-fault : (live : Bool) (s : List ℕ) (at : ℕ) (x : Errand) → readsHeader x ≡ true
+    → ((h : Header) → (live && unknown h) ≡ true → barred x h ≡ true)
+    → (c : Cause) → elementHeader live s at ≡ refusedHeader c → Fault s at x c
+step-fault live s at x reads bars c q =
+    of-untaken live (headerOf (drop at s)) c q (λ w. header-fault s at x reads c w)
+    (λ h w k e. subst (Fault s at x) (sym e) (unsized h w (bars h k)))
 
 module _ (s : List ℕ) (at from n : ℕ) (k : Kind) (x : Errand) where
   -- A body that is refused is the fault that its cause says.
@@ -216,13 +228,21 @@ module _ (s : List ℕ) (mode : Mode) (cap : ℕ) where
             by-read (omega (arith, some)) fewer (read at n) refl w
 
   -- A header that was not read, wherever one is read for an element.
-  unread : (depth parent at size n : ℕ) (e : Refusal) (c : Cause) → 0 < size → elementHeader s at ≡ refusedHeader c
-      → because c at ≡ e → Found depth parent at size n e
+  unread : (depth parent at size n : ℕ) (e : Refusal) (c : Cause) → 0 < size
+      → elementHeader (mode .live) s at ≡ refusedHeader c → because c at ≡ e → Found depth parent at size n e
   unread depth parent at size n e c l w i =
       let x = toElement mode cap parent depth n size in
       subst (Found depth parent at size n) i
-      (own depth parent at size n c l
-      (header-fault s at x (λ d v. headerOfElement mode cap parent depth n size v) c w))
+      (own depth parent at size n c l (step-fault (mode .live) s at x refl (λ h k. k) c w))
+
+  -- A header that was read, on the errand for an element.
+  abbrev Taken : (depth parent at size n : ℕ) → Header → Type 0
+  Taken depth parent at size n h =
+      (headerOf (drop at s) ≡ heading h) × (barred (toElement mode cap parent depth n size) h ≡ false)
+
+  took : (depth parent at size n : ℕ) (h : Header) → elementHeader (mode .live) s at ≡ heading h
+      → Taken depth parent at size n h
+  took depth parent at size n h w = of-taken (mode .live) (headerOf (drop at s)) h w
 
   -- What is known of elements with so many depths left.
   abbrev Below : ℕ → Type 0
@@ -233,9 +253,9 @@ module _ (s : List ℕ) (mode : Mode) (cap : ℕ) where
   -- The element at a place: it is at fault itself, or one below it.
   element-found : (levels : ℕ) → Below levels
   unfolding element
-  element-found zero depth parent at size n e k d l q = by (elementHeader s at) refl q
+  element-found zero depth parent at size n e k d l q = by (elementHeader (mode .live) s at) refl q
     where
-      by : (x : Heading) → elementHeader s at ≡ x → headed at x (λ h. refused (tooDeep at)) ≡ refused e
+      by : (x : Heading) → elementHeader (mode .live) s at ≡ x → headed at x (λ h. refused (tooDeep at)) ≡ refused e
           → Found depth parent at size n e
       by (refusedHeader c) w r = unread depth parent at size n e c l w (cc)
       by (heading h) w r =
@@ -244,9 +264,9 @@ module _ (s : List ℕ) (mode : Mode) (cap : ℕ) where
           subst (Found depth parent at size n) i
           (own depth parent at size n C.TooDeep l
           (subst (λ (j : ℕ). Deeper s at (toElement mode cap parent j n size)) z
-          (deeperElement mode cap parent n size (h, w, tt))))
+          (let (a, b) = took depth parent at size n h w in deeperElement mode cap parent n size (h, a, b, tt))))
   element-found (suc levels) depth parent at size n e k d l q =
-      by (elementHeader s at) refl q (element-found levels)
+      by (elementHeader (mode .live) s at) refl q (element-found levels)
     where
       inner : Header → Outcome
       inner h = siblings (element s mode cap levels (h .id)) (h .size) (at + h .length) (h .size) (n + 1)
@@ -257,7 +277,7 @@ module _ (s : List ℕ) (mode : Mode) (cap : ℕ) where
           (held at (bodyOf s (at + h .length) (h .size) (kindUnder (h .id) parent)) (inner h))
 
       -- below a master
-      by-inner : (h : Header) → elementHeader s at ≡ heading h → full mode cap n ≡ false
+      by-inner : (h : Header) → elementHeader (mode .live) s at ≡ heading h → full mode cap n ≡ false
           → bodyOf s (at + h .length) (h .size) (kindUnder (h .id) parent) ≡ master
           → Below levels
           → (o : Outcome) → inner h ≡ o → above (elementOf parent h) o ≡ refused e → Found depth parent at size n e
@@ -279,7 +299,7 @@ module _ (s : List ℕ) (mode : Mode) (cap : ℕ) where
             fault = found .fault;
           }
 
-      by-body : (h : Header) → elementHeader s at ≡ heading h → full mode cap n ≡ false
+      by-body : (h : Header) → elementHeader (mode .live) s at ≡ heading h → full mode cap n ≡ false
           → Below levels
           → (t : Told) → bodyOf s (at + h .length) (h .size) (kindUnder (h .id) parent) ≡ t
           → above (elementOf parent h) (held at t (inner h)) ≡ refused e → Found depth parent at size n e
@@ -291,9 +311,11 @@ module _ (s : List ℕ) (mode : Mode) (cap : ℕ) where
           subst (Found depth parent at size n) i
           (own depth parent at size n c l
           (body-fault s at (at + h .length) (h .size) (kindUnder (h .id) parent) x
-          (λ b v. bodyOfElement mode cap parent depth n size (omega arith) f (h, w, v)) c m))
+          (λ b v.
+          let (a, g) = took depth parent at size n h w in
+          bodyOfElement mode cap parent depth n size (omega arith) f (h, a, g, v)) c m))
 
-      by : (x : Heading) → elementHeader s at ≡ x
+      by : (x : Heading) → elementHeader (mode .live) s at ≡ x
           → headed at x (λ h. refuseIf (full mode cap n) (noFreeRow at) (goes-on h)) ≡ refused e
           → Below levels
           → Found depth parent at size n e
@@ -302,7 +324,9 @@ module _ (s : List ℕ) (mode : Mode) (cap : ℕ) where
           of-test (full mode cap n) (noFreeRow at) (goes-on h) e r
           (λ b i.
           subst (Found depth parent at size n) i
-          (own depth parent at size n C.NoFreeRow l (fullElement mode cap parent depth n size (omega arith) (h, w, b))))
+          (let (a, g) = took depth parent at size n h w in
+          own depth parent at size n C.NoFreeRow l
+          (fullElement mode cap parent depth n size (omega arith) (h, a, g, b))))
           (λ b v. by-body h w b lower (bodyOf s (at + h .length) (h .size) (kindUnder (h .id) parent)) refl v)
 
   -- A master's payload that is refused.
@@ -316,31 +340,31 @@ module _ (s : List ℕ) (mode : Mode) (cap : ℕ) where
 -- ---- the public calls
 
 -- A refusal of a payload that is read with rows.
-pub filled-found : (s : List ℕ) (start size parent numbers : ℕ) (e : Refusal)
-    → filled s start size parent numbers ≡ refused e
-    → FaultThere s (Comes s keeping (numbers / width) 0 parent start size 0) e
+pub filled-found : (live : Bool) (s : List ℕ) (start size parent numbers : ℕ) (e : Refusal)
+    → filled live s start size parent numbers ≡ refused e
+    → FaultThere s (Comes s (keeping live) (numbers / width) 0 parent start size 0) e
 unfolding filled
-filled-found s start size parent numbers e q =
-    body-found s keeping (numbers / width) 0 parent start size 0 e (omega arith) q
+filled-found live s start size parent numbers e q =
+    body-found s (keeping live) (numbers / width) 0 parent start size 0 e (omega arith) q
 
-pub reading-honest : (s : List ℕ) (start size parent numbers : ℕ) (e : Refusal)
-    → readOf s start size parent numbers ≡ refused e → HonestReading s start size parent numbers e
+pub reading-honest : (live : Bool) (s : List ℕ) (start size parent numbers : ℕ) (e : Refusal)
+    → readOf live s start size parent numbers ≡ refused e → HonestReading live s start size parent numbers e
 unfolding readOf
-reading-honest s start size parent numbers e q =
-    of-test (not (allowed s start numbers)) badArgument (filled s start size parent numbers) e q
-    (λ b i. subst (HonestReading s start size parent numbers) i (callers (inl refl) refl))
-    (λ b v. there (filled-found s start size parent numbers e v))
+reading-honest live s start size parent numbers e q =
+    of-test (not (allowed s start numbers)) badArgument (filled live s start size parent numbers) e q
+    (λ b i. subst (HonestReading live s start size parent numbers) i (callers (inl refl) refl))
+    (λ b v. there (filled-found live s start size parent numbers e v))
 
 pub read-honest : ReadHonest
-read-honest s start size parent t e t′ p =
-    by (readOf s start size parent (length t)) refl (p .reply)
+read-honest live s start size parent t e t′ p =
+    by (readOf live s start size parent (length t)) refl (p .reply)
   where
-    by : (o : Outcome) → readOf s start size parent (length t) ≡ o → refusal e ≡ replyOf o
-        → HonestReading s start size parent (length t) e
+    by : (o : Outcome) → readOf live s start size parent (length t) ≡ o → refusal e ≡ replyOf o
+        → HonestReading live s start size parent (length t) e
     by (done f) k q = let z : _≡_ {A = ℕ} 0 1 = cc in absurd (let y : ⊥ = omega arith in y)
     by (refused e′) k q =
         let i : e′ ≡ e = cc in
-        reading-honest s start size parent (length t) e (k ∙ ap refused i)
+        reading-honest live s start size parent (length t) e (k ∙ ap refused i)
 
 pub header-honest : HeaderHonest
 unfolding headerReply
@@ -349,7 +373,7 @@ header-honest s at e p = by (leb (length s) mostBytes && leb at (length s)) (p .
     asked : ℕ → Errand → Type 0
     asked a x = (a ≡ at) × (x ≡ toHeader)
 
-    by-heading : (x : Heading) → elementHeader s at ≡ x → refusal e ≡ headerTold at x → Honest s asked e
+    by-heading : (x : Heading) → headerOf (drop at s) ≡ x → refusal e ≡ headerTold at x → Honest s asked e
     by-heading (heading h) w q = let z : _≡_ {A = ℕ} 0 1 = cc in absurd (let y : ⊥ = omega arith in y)
     by-heading (refusedHeader c) w q =
         let i : because c at ≡ e = cc in
@@ -357,7 +381,7 @@ header-honest s at e p = by (leb (length s) mostBytes && leb at (length s)) (p .
         (there (record {
           errand = toHeader;
           reached = (refl, refl);
-          fault = header-fault s at toHeader (λ d v. headerAlone v) c w;
+          fault = header-fault s at toHeader refl c w;
         }))
 
     by : (b : Bool) → refusal e ≡ cond b (headerTold at (headerOf (drop at s))) (refusal badArgument)

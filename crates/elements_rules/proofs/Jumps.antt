@@ -11,6 +11,7 @@ use borrow.Author.Tests.{ltb-true, ltb-false}
 use Rattle.header.specs.Vint.{octetBits, bits, oneMore, widthOf, bigEndianFrom, bigEndian, ofWidth, vintOf}
 use Rattle.header.specs.Header.{sized, named, headerOf}
 use Rattle.refusals.specs.Reply.{accepted}
+use Rattle.sizes.specs.Unknown.{unknown}
 use Rattle.kinds.specs.Elements.{elements}
 use Rattle.kinds.specs.Kinds.{kindIn, keeps, kindUnder}
 use Rattle.bodies_rules.specs.Bodies.{bodyOf}
@@ -320,28 +321,30 @@ module _ (rs : List Row) (a : Lie 0 rs) where
     }
 
 pub jumps-over : JumpsOver
-jumps-over s start size parent t n t′ p =
-    let a = reads-a-tree s start size parent t n t′ p in
+jumps-over live s start size parent t n t′ p =
+    let a = reads-a-tree live s start size parent t n t′ p in
     let lie = subst (Lie 0) (sym (a .preorder)) (rows-lie 0 0 start 0 (a .forest) (omega arith)) in
     (length-rows-of t′ n, λ k l. jump _ lie k (omega (arith, length-rows-of t′ n)))
 
 -- ---- a payload, computed
 
-abbrev read-nested : Outcome
-read-nested = readOf nested 0 8 0 (4 * width)
+abbrev read-nested : (live : Bool) → Outcome
+read-nested live = readOf live nested 0 8 0 (4 * width)
 
-unfoldable computed : Type 0
-computed = (replyOf read-nested ≡ accepted 4) × (tableOf 0 (4 * width) read-nested ≡ nestedTable)
+unfoldable computed : (live : Bool) → Type 0
+computed live =
+    (replyOf (read-nested live) ≡ accepted 4) × (tableOf 0 (4 * width) (read-nested live) ≡ nestedTable)
 
-nested-read : computed
+nested-read : (live : Bool) → computed live
 unfolding computed octetBits bits oneMore widthOf bigEndianFrom bigEndian ofWidth vintOf sized named headerOf
     elements kindIn keeps kindUnder span bodyOf count join refuseIf full siblings element masterBody rows flat flatten
-    isTable allowed filled readOf tableOf
-nested-read = (refl, refl)
+    isTable allowed filled readOf tableOf unknown
+nested-read true = (refl, refl)
+nested-read false = (refl, refl)
 
 pub nested-jumps : NestedJumps
 unfolding computed
-nested-jumps t r t′ l p =
-    let a = ap (λ (n : ℕ). replyOf (readOf nested 0 8 0 n)) l in
-    let b = ap (λ (n : ℕ). tableOf 0 n (readOf nested 0 8 0 n)) l in
-    (rows-told r 4 (p .reply ∙ a ∙ nested-read .0), p .table ∙ b ∙ nested-read .1)
+nested-jumps live t r t′ l p =
+    let a = ap (λ (n : ℕ). replyOf (readOf live nested 0 8 0 n)) l in
+    let b = ap (λ (n : ℕ). tableOf 0 n (readOf live nested 0 8 0 n)) l in
+    (rows-told r 4 (p .reply ∙ a ∙ nested-read live .0), p .table ∙ b ∙ nested-read live .1)

@@ -24,4 +24,5 @@ pub mod Jumps
 pub mod Depths
 pub mod Accepting
 pub mod Faults
+pub mod Live
 pub mod Moves

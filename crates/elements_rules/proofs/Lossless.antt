@@ -2,7 +2,7 @@
 use Prim.Native.Nat.{ℕ, _+_, _-_, _*_, _≤_}
 use mathlib.Core.Path.{_≡_, refl, sym, ap, _∙_, subst}
 use mathlib.Core.List.{List, [], _∷_, _++_}
-use mathlib.Core.Bool.{not}
+use mathlib.Core.Bool.{Bool, not}
 use native.Mathlib.Omega.{arith}
 use lib.ListN.{length, getD, take, drop}
 use lib.Seq.{take-add, drop-drop}
@@ -21,6 +21,7 @@ use Rattle.elements_rules.specs.Stands.{StandsAt, Stands}
 use Rattle.elements_rules.specs.Promise.{zeros, tableOf}
 use Rattle.elements_rules.specs.Theorems.{Each, SameLeaf, Sound, Lossless}
 use Rattle.elements_rules.specs.declared.row.Row.{Row}
+use Rattle.elements_rules.proofs.Parts.{taken-there}
 use Rattle.elements_rules.proofs.Bodies.{by-kind}
 use Rattle.elements_rules.proofs.Tables.{zeros-at}
 use Rattle.elements_rules.proofs.Standing.{read-stands}
@@ -54,20 +55,20 @@ each-right P (r ∷ rs) ss a = each-right P rs ss (a .1)
 
 -- ---- along the tree that was read in the first recording
 
-module _ (s s′ : List ℕ) (o : Octets s) (o′ : Octets s′) where
+module _ (live : Bool) (s s′ : List ℕ) (o : Octets s) (o′ : Octets s′) where
   same-header : (at : ℕ) (h : Header) → headerOf (drop at s) ≡ heading h
       → headerAt s′ at ≡ Read (headedAt at h) → part s at (h .length) ≡ part s′ at (h .length)
   same-header at h q r =
-      header-determined s s′ o o′ at at (headedAt at h) (headedAt at h) (header-there s at h q) r refl
+      header-determined s s′ o o′ at at (headedAt at h) (headedAt at h) (header-there live s at h q) r refl
 
-  same-payload : (id parent depth at after : ℕ) (e : Element) (kids : Forest) → StandsAt s id at e kids
+  same-payload : (id parent depth at after : ℕ) (e : Element) (kids : Forest) → StandsAt live s id at e kids
       → SameLeaf s s′ (rowOf e parent depth at after)
       → part s (at + e .header .length) (span kids) ≡ part s′ (at + e .header .length) (span kids)
       → part s (at + e .header .length) (e .header .size) ≡ part s′ (at + e .header .length) (e .header .size)
   same-payload id parent depth at after e kids i leaf k =
       by-kind (e .kind) (λ m. rw (i .taken m) at k) (λ m. leaf (ap not (ne-eqb (numberOf (e .kind)) 1 m)))
 
-  same-span : (id parent depth at n : ℕ) (f : Forest) → Stands s id at f
+  same-span : (id parent depth at n : ℕ) (f : Forest) → Stands live s id at f
       → Each (Sound s′) (rows parent depth at n f) → Each (SameLeaf s s′) (rows parent depth at n f)
       → part s at (span f) ≡ part s′ at (span f)
   unfolding Stands Each rows span
@@ -76,7 +77,7 @@ module _ (s s′ : List ℕ) (o : Octets s) (o′ : Octets s′) where
       let h = e .header .length in
       let inner = rows (n + 1) (depth + 1) (at + h) (n + 1) kids in
       let others = rows parent depth (at + whole e) (n + 1 + count kids) rest in
-      let head = same-header at (e .header) (i .0 .head) (a .0 .head) in
+      let head = same-header at (e .header) (taken-there live s at (e .header) (i .0 .head)) (a .0 .head) in
       let k = same-span (e .header .id) (n + 1) (depth + 1) (at + h) (n + 1) kids (i .1)
       (each-left (Sound s′) inner others (a .1)) (each-left (SameLeaf s s′) inner others (b .1)) in
       let p = same-payload id parent depth at (n + 1 + count kids) e kids (i .0) (b .0) k in
@@ -114,12 +115,12 @@ with-headers s (r ∷ rs) a =
 -- ---- the theorem
 
 pub lossless : Lossless
-lossless s s′ o o′ start size parent t u n m t′ p q leaves =
-    let a = accepted-read s start size parent t n t′ p in
-    let b = accepted-read s′ start size parent u m t′ q in
-    let (w, i) = read-stands s start size parent (length t) (a .forest) (a .outcome) in
-    let mine = subst (Each (Sound s)) (a .rows-are) (rows-sound s start size parent t n t′ p) in
-    let theirs = subst (Each (Sound s′)) (b .rows-are) (rows-sound s′ start size parent u m t′ q) in
+lossless live s s′ o o′ start size parent t u n m t′ p q leaves =
+    let a = accepted-read live s start size parent t n t′ p in
+    let b = accepted-read live s′ start size parent u m t′ q in
+    let (w, i) = read-stands live s start size parent (length t) (a .forest) (a .outcome) in
+    let mine = subst (Each (Sound s)) (a .rows-are) (rows-sound live s start size parent t n t′ p) in
+    let theirs = subst (Each (Sound s′)) (b .rows-are) (rows-sound live s′ start size parent u m t′ q) in
     let one-table = sym (p .table ∙ ap (tableOf start (length t)) (a .outcome) ∙ table-is start (length t) (a .forest))
     ∙ (q .table ∙ ap (tableOf start (length u)) (b .outcome) ∙ table-is start (length u) (b .forest)) in
     let same = rows-same (rows 0 0 start 0 (a .forest)) (rows 0 0 start 0 (b .forest))
@@ -127,4 +128,4 @@ lossless s s′ o o′ start size parent t u n m t′ p q leaves =
     (with-headers s _ mine) (with-headers s′ _ theirs) one-table in
     let sound = subst (Each (Sound s′)) (sym same) theirs in
     let leaf = subst (Each (SameLeaf s s′)) (a .rows-are) leaves in
-    rw w at (same-span s s′ o o′ parent 0 0 start 0 (a .forest) i sound leaf)
+    rw w at (same-span live s s′ o o′ parent 0 0 start 0 (a .forest) i sound leaf)

@@ -26,6 +26,8 @@ use Rattle.elements_rules.specs.Promise.{allowed, readOf, tableOf, ReadP
 use Rattle.elements_rules.specs.Acceptance.{OwnBytes, elsewhere, Moves, BodyMoves}
 use Rattle.elements_rules.specs.declared.reply.ReadReply.{ReadReply}
 use Rattle.elements_rules.specs.declared.reply.ReadReply.the-variants.{Rows}
+use Rattle.header.specs.Header.{headerOf}
+use Rattle.elements_rules.proofs.Parts.{of-taken, known-taken}
 use Rattle.elements_rules.proofs.Limits.{within}
 use Rattle.elements_rules.proofs.Bodies.{by-kind}
 use Rattle.elements_rules.proofs.Standing.{stands-inside, read-stands}
@@ -34,7 +36,7 @@ use Rattle.elements_rules.proofs.Unique.{read-unique}
 use Rattle.elements_rules.proofs.Depths.{read-low}
 use Rattle.elements_rules.proofs.Accepting.{body-read, body-exactly, read-done, promised-rows}
 
-module _ (s s′ : List ℕ) where
+module _ (live : Bool) (s s′ : List ℕ) where
   -- The n octets at a place of the one recording stand at a place of the other.
   record Same (at at′ n : ℕ) : Type 0 where
     octets : take n (drop at s) ≡ take n (drop at′ s′)
@@ -105,24 +107,26 @@ module _ (s s′ : List ℕ) where
 
   -- ---- elements
 
-  children-fit : (parent at : ℕ) (e : Element) (kids : Forest) → StandsAt s parent at e kids
+  children-fit : (parent at : ℕ) (e : Element) (kids : Forest) → StandsAt live s parent at e kids
       → span kids ≤ e .header .size
   unfolding span
   children-fit parent at e kids i =
       by-kind (e .kind) (λ m. let x = i .taken m in omega arith) (λ m. rw (i .childless m) (omega arith))
 
-  moves : (parent at at′ : ℕ) (f : Forest) → Stands s parent at f → Same at at′ (span f) → Stands s′ parent at′ f
+  moves : (parent at at′ : ℕ) (f : Forest) → Stands live s parent at f → Same at at′ (span f) → Stands live s′ parent at′ f
   unfolding Stands span
   moves parent at at′ none i k = let j = k .there in omega arith
   moves parent at at′ (node e kids rest) i k =
       let h = e .header .length in
       let size = e .header .size in
+      let there = of-taken live (headerOf (drop at s)) (e .header) (i .0 .head) in
       let all = fewer at at′ (h + size) (h + size + span rest) (omega arith) k in
       let head = fewer at at′ h (h + size) (omega arith) all in
       let body = later at at′ h size all in
       let below = fewer (at + h) (at′ + h) (span kids) size (children-fit parent at e kids (i .0)) body in (
         record {
-          head = heading-alike (drop at s) (drop at′ s′) (e .header) (i .0 .head) (head .octets);
+          head = known-taken live s′ at′ (e .header)
+              (heading-alike (drop at s) (drop at′ s′) (e .header) (there .0) (head .octets)) (there .1);
           kind = i .0 .kind;
           taken = i .0 .taken;
           value = λ m. value-moves (at + h) (at′ + h) size body (e .kind) (i .0 .value m);
@@ -134,19 +138,19 @@ module _ (s s′ : List ℕ) where
 
   -- What stands in the one recording stands in the other where its octets do.
   pub stands-moves : (parent at at′ : ℕ) (f : Forest) → at′ ≤ length s′
-      → take (span f) (drop at s) ≡ take (span f) (drop at′ s′) → Stands s parent at f → Stands s′ parent at′ f
+      → take (span f) (drop at s) ≡ take (span f) (drop at′ s′) → Stands live s parent at f → Stands live s′ parent at′ f
   stands-moves parent at at′ f l q i =
-      moves parent at at′ f i (same at at′ (span f) (stands-inside s parent at f i) l q)
+      moves parent at at′ f i (same at at′ (span f) (stands-inside live s parent at f i) l q)
 
   -- The public read, into a table of any length that has rows enough.
   pub outcome-moves : (start start′ size parent numbers numbers′ : ℕ) (f : Forest) → allowed s′ start′ numbers′ ≡ true
       → count f ≤ numbers′ / width → take size (drop start s) ≡ take size (drop start′ s′)
-      → readOf s start size parent numbers ≡ done f → readOf s′ start′ size parent numbers′ ≡ done f
+      → readOf live s start size parent numbers ≡ done f → readOf live s′ start′ size parent numbers′ ≡ done f
   outcome-moves start start′ size parent numbers numbers′ f a c q d =
-      let (taken, stands) = read-stands s start size parent numbers f d in
-      read-done s′ start′ size parent numbers′ f a
+      let (taken, stands) = read-stands live s start size parent numbers f d in
+      read-done live s′ start′ size parent numbers′ f a
       (stands-moves parent start start′ f (within s′ start′ numbers′ a .inside) (rw taken q) stands)
-      taken (read-low s start size parent numbers f d) c
+      taken (read-low live s start size parent numbers f d) c
 
 -- ---- the rows of one tree at two places
 
@@ -170,25 +174,25 @@ rows-elsewhere start start′ parent depth k n (node e kids rest) =
 
 -- ---- the theorems
 
-module _ (s s′ : List ℕ) (start start′ size parent : ℕ) (t u : List ℕ) (n : ℕ) (t′ : List ℕ) where
+module _ (live : Bool) (s s′ : List ℕ) (start start′ size parent : ℕ) (t u : List ℕ) (n : ℕ) (t′ : List ℕ) where
   -- What is permitted of the octets that were moved: the rows of the tree that was read.
-  there-too : (f : Forest) → readOf s start size parent (length t) ≡ done f → n ≡ count f
+  there-too : (f : Forest) → readOf live s start size parent (length t) ≡ done f → n ≡ count f
       → take size (drop start s) ≡ take size (drop start′ s′) → allowed s′ start′ (length u) ≡ true
-      → n ≤ length u / width → (r : ReadReply) (u′ : List ℕ) → ReadPromise s′ start′ size parent u r u′
+      → n ≤ length u / width → (r : ReadReply) (u′ : List ℕ) → ReadPromise live s′ start′ size parent u r u′
       → (r ≡ Rows n) × (u′ ≡ tableOf start′ (length u) (done f))
   there-too f o number same args room r u′ q =
-      let d = outcome-moves s s′ start start′ size parent (length t) (length u) f args (omega arith) same o in
-      let (reply, table) = read-unique s′ start′ size parent u u r (Rows (count f)) u′ _ refl q
-      (promised-rows s′ start′ size parent u f d) in
+      let d = outcome-moves live s s′ start start′ size parent (length t) (length u) f args (omega arith) same o in
+      let (reply, table) = read-unique live s′ start′ size parent u u r (Rows (count f)) u′ _ refl q
+      (promised-rows live s′ start′ size parent u f d) in
       (reply ∙ ap Rows (sym number), table)
 
 pub read-moves : Moves
-read-moves s s′ start start′ size parent t u n t′ r u′ same args room p q =
-    let a = accepted-read s start size parent t n t′ p in
+read-moves live s s′ start start′ size parent t u n t′ r u′ same args room p q =
+    let a = accepted-read live s start size parent t n t′ p in
     let f = a .forest in
-    let (reply, table) = there-too s s′ start start′ size parent t u n t′ f (a .outcome) (a .number) same args room r u′
+    let (reply, table) = there-too live s s′ start start′ size parent t u n t′ f (a .outcome) (a .number) same args room r u′
     q in
-    let there = table-rows s′ start′ size parent u n u′ f (a .number) table in
+    let there = table-rows live s′ start′ size parent u n u′ f (a .number) table in
     let moved = rw (add-zero start, add-zero start′) at (rows-elsewhere start start′ 0 0 0 0 f) in
     (reply, record { forest = f; here = a .rows-are; there = there; moved = there ∙ rw (a .rows-are) moved })
 
@@ -197,18 +201,18 @@ body-moves s s′ mode cap depth parent at at′ size n f i l room q d =
     let o = body-exactly s mode cap depth parent at size n f i room .0 d in
     body-read s′ mode cap depth parent at′ size n f
     (record {
-      stands = stands-moves s s′ parent at at′ f l (rw (o .taken) q) (o .stands);
+      stands = stands-moves (mode .live) s s′ parent at at′ f l (rw (o .taken) q) (o .stands);
       taken = o .taken;
       low = o .low;
       free = o .free;
     })
 
 pub own-bytes : OwnBytes
-own-bytes s s′ start size parent t u n t′ r u′ same args long p q =
-    let a = accepted-read s start size parent t n t′ p in
+own-bytes live s s′ start size parent t u n t′ r u′ same args long p q =
+    let a = accepted-read live s start size parent t n t′ p in
     let f = a .forest in
     let room = rw long at (a .fits) in
-    let (reply, table) = there-too s s′ start start size parent t u n t′ f (a .outcome) (a .number) same args room r u′
+    let (reply, table) = there-too live s s′ start start size parent t u n t′ f (a .outcome) (a .number) same args room r u′
     q in
     let other = table ∙ ap (λ (k : ℕ). tableOf start k (done f)) (sym long) in
     (reply, other ∙ sym (p .table ∙ ap (tableOf start (length t)) (a .outcome)))

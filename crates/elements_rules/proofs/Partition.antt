@@ -75,16 +75,16 @@ module _ (parent depth at after x : ℕ) (e : Element) where
   master-holds m = rw (eq-eqb (numberOf (e .kind)) 1 m) (add-zero (one (within at (e .header .length) x)))
 
 -- What stands has one holder for each of its bytes.
-covers : (s : List ℕ) (id parent depth at n : ℕ) (f : Forest) → Stands s id at f → (x : ℕ)
+covers : (live : Bool) (s : List ℕ) (id parent depth at n : ℕ) (f : Forest) → Stands live s id at f → (x : ℕ)
     → holders (rows parent depth at n f) x ≡ one (within at (span f) x)
 unfolding Stands rows span holders
-covers s id parent depth at n none i x = sym (span-none at x)
-covers s id parent depth at n (node e kids rest) i x =
+covers live s id parent depth at n none i x = sym (span-none at x)
+covers live s id parent depth at n (node e kids rest) i x =
     let h = e .header .length in
     let c = n + 1 + count kids in
     let inner = rows (n + 1) (depth + 1) (at + h) (n + 1) kids in
-    let k = covers s (e .header .id) (n + 1) (depth + 1) (at + h) (n + 1) kids (i .1) x in
-    let r = covers s id parent depth (at + whole e) c rest (i .2) x in
+    let k = covers live s (e .header .id) (n + 1) (depth + 1) (at + h) (n + 1) kids (i .1) x in
+    let r = covers live s id parent depth (at + whole e) c rest (i .2) x in
     let j = span-join at (whole e) (span rest) x in
     let a = holders-append inner (rows parent depth (at + whole e) c rest) x in
     by-kind (e .kind)
@@ -99,12 +99,12 @@ covers s id parent depth at n (node e kids rest) i x =
     let u = span-none (at + h) x in
     omega arith)
 
-pub covered : (s : List ℕ) (start size parent numbers : ℕ) (f : Forest)
-    → readOf s start size parent numbers ≡ done f
+pub covered : (live : Bool) (s : List ℕ) (start size parent numbers : ℕ) (f : Forest)
+    → readOf live s start size parent numbers ≡ done f
     → (x : ℕ) → holders (rows 0 0 start 0 f) x ≡ one (within start size x)
-covered s start size parent numbers f q x =
-    let (w, i) = read-stands s start size parent numbers f q in
-    covers s parent 0 0 start 0 f i x ∙ ap (λ (y : ℕ). one (within start y x)) w
+covered live s start size parent numbers f q x =
+    let (w, i) = read-stands live s start size parent numbers f q in
+    covers live s parent 0 0 start 0 f i x ∙ ap (λ (y : ℕ). one (within start y x)) w
 
 -- ---- the theorem
 
@@ -122,9 +122,9 @@ behind-none start size x a = go (leb start x)
     go false = refl
 
 pub partition : Partition
-partition s start size parent t n t′ p x =
-    let a = accepted-read s start size parent t n t′ p in
-    let c = covered s start size parent (length t) (a .forest) (a .outcome) x in
+partition live s start size parent t n t′ p x =
+    let a = accepted-read live s start size parent t n t′ p in
+    let c = covered live s start size parent (length t) (a .forest) (a .outcome) x in
     let h : holders (rowsOf t′ n) x ≡ one (within start size x)
     = ap (λ (rs : List Row). holders rs x) (a .rows-are) ∙ c in (
       (λ i j. h ∙ inside-one start size x i j),

@@ -2,6 +2,7 @@
 use Prim.Native.Nat.{ℕ, _-_, _*_, _/_, _≤_}
 use mathlib.Core.Path.{_≡_, refl, sym, ap, _∙_}
 use mathlib.Core.List.{List, [], _∷_, _++_}
+use mathlib.Core.Bool.{Bool}
 use native.Mathlib.Omega.{arith}
 use lib.ListN.{length, length-append, length-replicate}
 use Rattle.refusals.specs.Reply.{accepted}
@@ -27,9 +28,9 @@ unfolding tableOf
 table-is start numbers f = refl
 
 -- What an accepted promise says: a forest was read, and the table holds its rows.
-pub record Accepted (s : List ℕ) (start size parent numbers n : ℕ) (t′ : List ℕ) : Type 0 where
+pub record Accepted (live : Bool) (s : List ℕ) (start size parent numbers n : ℕ) (t′ : List ℕ) : Type 0 where
   pub forest : Forest
-  pub outcome : readOf s start size parent numbers ≡ done forest
+  pub outcome : readOf live s start size parent numbers ≡ done forest
   pub number : n ≡ count forest
   pub rows-are : rowsOf t′ n ≡ rows 0 0 start 0 forest
   pub fits : n ≤ numbers / width
@@ -39,7 +40,7 @@ told-rows : (n : ℕ) (o : Outcome) → accepted n ≡ replyOf o → (f : Forest
 told-rows n (done f) q = (f, refl, cc)
 told-rows n (refused e) q = let z : _≡_ {A = ℕ} 0 1 = cc in absurd (omega arith)
 
-module _ (s : List ℕ) (start size parent : ℕ) (t : List ℕ) (n : ℕ) (t′ : List ℕ) where
+module _ (live : Bool) (s : List ℕ) (start size parent : ℕ) (t : List ℕ) (n : ℕ) (t′ : List ℕ) where
   pub table-rows : (f : Forest) → n ≡ count f → t′ ≡ tableOf start (length t) (done f)
       → rowsOf t′ n ≡ rows 0 0 start 0 f
   unfolding tableOf
@@ -58,11 +59,11 @@ module _ (s : List ℕ) (start size parent : ℕ) (t : List ℕ) (n : ℕ) (t′
       = length-replicate (length t - count f * width) 0 in
       ap length w ∙ (omega arith)
 
-  pub accepted-read : ReadPromise s start size parent t (Rows n) t′ → Accepted s start size parent (length t) n t′
+  pub accepted-read : ReadPromise live s start size parent t (Rows n) t′ → Accepted live s start size parent (length t) n t′
   accepted-read p =
-      let (f, o, k) = told-rows n (readOf s start size parent (length t)) (p .reply) in
+      let (f, o, k) = told-rows n (readOf live s start size parent (length t)) (p .reply) in
       let w = p .table ∙ ap (tableOf start (length t)) o in
-      let l = rows-fit s start size parent (length t) f o in
+      let l = rows-fit live s start size parent (length t) f o in
       record {
         forest = f;
         outcome = o;

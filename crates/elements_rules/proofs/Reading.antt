@@ -5,31 +5,30 @@ use mathlib.Core.Path.{_≡_, refl, sym, ap, _∙_, subst}
 use mathlib.Core.List.{List, [], _∷_}
 use mathlib.Core.Bool.{true, false}
 use native.Mathlib.Omega.{arith}
-use lib.ListN.{length, drop}
+use lib.ListN.{length}
 use borrow.Author.Tests.{le-ltb, lt-ltb, ne-eqb}
-use Rattle.header.specs.Header.{heading, headerOf}
+use Rattle.header.specs.Header.{heading}
 use Rattle.refusals.specs.Refusals.{because, overrun, tooDeep, noFreeRow}
-use Rattle.header.specs.Reads.{headerAt}
 use Rattle.header.specs.declared.cursor.Cursor.{Cursor}
 use Rattle.header.specs.declared.cursor.Headed.{Headed}
 use Rattle.header.specs.declared.cursor.Header.{Header}
 use Rattle.header.specs.declared.cursor.HeaderRead.the-variants.{Read as HeaderIs, Refused as HeaderRefused}
 use Rattle.refusals.specs.declared.refusal.Cause.{Cause}
 use Rattle.refusals.specs.declared.refusal.Refusal.{Refusal}
-use Rattle.header.proofs.Inside.{header-read, header-refused}
 use Rattle.kinds.specs.Kinds.{numberOf, kindUnder}
 use Rattle.bodies_rules.specs.Bodies.{bodyOf}
 use Rattle.bodies_rules.specs.Reads.{bodyRead}
 use Rattle.bodies_rules.specs.declared.body.BodyRead.the-variants.{Refused as BodyRefused}
 use Rattle.elements_rules.specs.Forest.{Element, Forest, none, node, whole, span, count, join}
 use Rattle.elements_rules.specs.Reading.{Outcome, done, refused, prepend, above, held, full, siblings, elementOf}
-use Rattle.elements_rules.specs.Reading.{element, depths, masterBody}
+use Rattle.elements_rules.specs.Reading.{elementHeader, elementHeaderRead, element, depths, masterBody}
 use Rattle.elements_rules.specs.Rows.{rowOf, rows, width}
 use Rattle.elements_rules.specs.Contract.{stepOf, written, closed, Room, Met}
 use Rattle.elements_rules.specs.declared.row.Mode.{Mode}
 use Rattle.elements_rules.specs.declared.element.ElementRead.{ElementRead}
 use Rattle.elements_rules.specs.declared.element.ElementRead.the-variants.{Read, Refused}
 use Rattle.elements_rules.proofs.Outcomes.{never, refuses, passes}
+use Rattle.elements_rules.proofs.Parts.{step-read, step-refused}
 use Rattle.elements_rules.proofs.Bodies.{master-body, held-refused, LeafRead}
 use Rattle.elements_rules.proofs.Forests.{join-none, span-join, count-join, rows-join, length-rows, rows-node}
 use Rattle.elements_rules.proofs.Forests.{prepend-none, prepend-prepend}
@@ -42,20 +41,20 @@ module _ (s : List ℕ) (mode : Mode) (cap depth parent at n : ℕ) where
   abbrev pub element-here : Outcome
   element-here = element s mode cap (depths - depth) parent at n
 
-  pub el-refused : (e : Refusal) → headerAt s at ≡ HeaderRefused e → element-here ≡ refused e
+  pub el-refused : (e : Refusal) → elementHeaderRead (mode .live) s at ≡ HeaderRefused e → element-here ≡ refused e
   unfolding element
   el-refused e q = go (depths - depth)
     where
       go : (l : ℕ) → element s mode cap l parent at n ≡ refused e
-      go zero = let (h, i) = header-refused s at e q in rw h (ap refused i)
-      go (suc l) = let (h, i) = header-refused s at e q in rw h (ap refused i)
+      go zero = let (h, i) = step-refused (mode .live) s at e q in rw h (ap refused i)
+      go (suc l) = let (h, i) = step-refused (mode .live) s at e q in rw h (ap refused i)
 
-  module _ (x : Headed) (q : headerAt s at ≡ HeaderIs x) where
+  module _ (x : Headed) (q : elementHeaderRead (mode .live) s at ≡ HeaderIs x) where
     abbrev h : Header
     h = x .header
 
-    head : headerOf (drop at s) ≡ heading h
-    head = header-read s at x q .0
+    head : elementHeader (mode .live) s at ≡ heading h
+    head = step-read (mode .live) s at x q .0
 
     pub el-deep : depths ≤ depth → element-here ≡ refused (tooDeep at)
     unfolding element

@@ -8,7 +8,6 @@ use native.Mathlib.Omega.{arith}
 use lib.ListN.{length}
 use Rattle.refusals.specs.Refusals.{because, tooDeep, noFreeRow}
 use Rattle.refusals.specs.declared.refusal.Cause.{Cause}
-use Rattle.header.specs.Reads.{headerAt}
 use Rattle.header.specs.declared.cursor.Cursor.{Cursor}
 use Rattle.header.specs.declared.cursor.Headed.{Headed}
 use Rattle.header.specs.declared.cursor.Header.{Header}
@@ -21,12 +20,14 @@ use Rattle.bodies_rules.specs.Reads.{bodyRead}
 use Rattle.bodies_rules.specs.declared.body.Body.{Body}
 use Rattle.bodies_rules.specs.declared.body.BodyRead.the-variants.{Read as BodyIs, Refused as BodyRefused}
 use Rattle.elements_rules.specs.Reading.{Outcome, above as above′, full, elementOf, depths, masterBody}
+use Rattle.elements_rules.specs.Reading.{elementHeaderRead}
 use Rattle.elements_rules.specs.Rows.{rowOf, width}
 use Rattle.elements_rules.specs.Contract.{written, closed, Room, Met}
 use Rattle.elements_rules.specs.declared.element.Above.{Above}
 use Rattle.elements_rules.specs.declared.element.ElementRead.{ElementRead}
 use Rattle.elements_rules.specs.declared.element.ElementRead.the-variants.{Read, Refused}
 use Rattle.elements_rules.specs.declared.row.Mode.{Mode}
+use Rattle.elements_rules.proofs.Parts.{step-read}
 use Rattle.elements_rules.proofs.Bodies.{leaf-read}
 use Rattle.elements_rules.proofs.Tables.{Kept, no-room, has-room, room-free, length-written}
 use Rattle.elements_rules.proofs.Standing.{body-stands}
@@ -41,12 +42,12 @@ module _ (s : List ℕ) (mode : Mode) (t : List ℕ) (place : Cursor) (n : ℕ) 
   abbrev pub Promised : List ℕ → ElementRead → Type 0
   Promised t′ r = Met s mode (place .at + 1) (above .row) (above .depth) (place .at) n here t t′ r
 
-  pub header-fails : (t′ : List ℕ) (e : Refusal) → headerAt s (place .at) ≡ HeaderRefused e → Promised t′ (Refused e)
+  pub header-fails : (t′ : List ℕ) (e : Refusal) → elementHeaderRead (mode .live) s (place .at) ≡ HeaderRefused e → Promised t′ (Refused e)
   header-fails t′ e q =
       met-refused s mode _ _ _ _ n here t t′ e
       (el-refused s mode (length t / width) (above .depth) (above .id) (place .at) n e q)
 
-  module _ (x : Headed) (q : headerAt s (place .at) ≡ HeaderIs x) where
+  module _ (x : Headed) (q : elementHeaderRead (mode .live) s (place .at) ≡ HeaderIs x) where
     abbrev h : Header
     h = x .header
 
@@ -61,7 +62,7 @@ module _ (s : List ℕ) (mode : Mode) (t : List ℕ) (place : Cursor) (n : ℕ) 
     -- Where the payload begins.
     pub payload-at : (1 ≤ h .length) × (next .at ≡ place .at + h .length) × (next .at ≤ length s)
     payload-at =
-        let there = header-there s (place .at) x q in
+        let there = header-there s (place .at) x (step-read (mode .live) s (place .at) x q .1) in
         (there .some, there .behind, there .inside)
 
     module _ (k : Kind) (d : above .depth < depths) (listed : k ≡ kindUnder (h .id) (above .id)) (t₁ : List ℕ) where

@@ -10,21 +10,21 @@ use Rattle.elements_rules.specs.declared.reply.ReadReply.{ReadReply}
 use Rattle.elements_rules.specs.declared.reply.ReadReply.the-variants.{Rows, Refused}
 
 -- What was told tells the reply.
-abbrev replied : Reply ℕ → ReadReply
+abbrev pub replied : Reply ℕ → ReadReply
 replied (accepted n) = Rows n
 replied (refusal e) = Refused e
 
-replied-back : (r : ReadReply) → replied (readTold r) ≡ r
+pub replied-back : (r : ReadReply) → replied (readTold r) ≡ r
 replied-back (Rows n) = refl
 replied-back (Refused e) = refl
 
 pub read-unique : OneReply
-read-unique s start size parent t u r r′ t′ u′ l p q =
-    let a = ap (λ (n : ℕ). replyOf (readOf s start size parent n)) l in
-    let b = ap (λ (n : ℕ). tableOf start n (readOf s start size parent n)) l in (
+read-unique live s start size parent t u r r′ t′ u′ l p q =
+    let a = ap (λ (n : ℕ). replyOf (readOf live s start size parent n)) l in
+    let b = ap (λ (n : ℕ). tableOf start n (readOf live s start size parent n)) l in (
       sym (replied-back r) ∙ ap replied (p .reply ∙ a ∙ sym (q .reply)) ∙ replied-back r′,
       p .table ∙ b ∙ sym (q .table),
     )
 
 pub read-refuses-listed : RefusesListed
-read-refuses-listed s start size parent t e t′ p = listed e
+read-refuses-listed live s start size parent t e t′ p = listed e

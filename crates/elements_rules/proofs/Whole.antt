@@ -2,7 +2,7 @@
 use Prim.Native.Nat.{ℕ, _+_, _-_, _*_, _/_, _≤_}
 use mathlib.Core.Path.{_≡_, refl, sym, ap, _∙_, subst}
 use mathlib.Core.List.{List, _++_}
-use mathlib.Core.Bool.{true, false, not}
+use mathlib.Core.Bool.{Bool, true, false, not}
 use native.Mathlib.Nat.{zero-add}
 use native.Mathlib.Omega.{arith}
 use lib.ListN.{length, length-replicate}
@@ -38,7 +38,7 @@ pub record Gives (start numbers : ℕ) (o : Outcome) (r : ReadReply) (t : List �
   pub reply : readTold r ≡ replyOf o
   pub table : t ≡ tableOf start numbers o
 
-module _ (start numbers : ℕ) (o : Outcome) (t : List ℕ) where
+module _ (live : Bool) (start numbers : ℕ) (o : Outcome) (t : List ℕ) where
   pub gives-refusal : (e : Refusal) → o ≡ refused e → t ≡ zeros numbers → Gives start numbers o (Refused e) t
   unfolding tableOf
   gives-refusal e q z =
@@ -46,7 +46,7 @@ module _ (start numbers : ℕ) (o : Outcome) (t : List ℕ) where
 
   pub gives-rows :
       (f : Forest) (n : ℕ) → o ≡ done f → n ≡ count f
-      → t ≡ written keeping (zeros numbers) 0 (rows 0 0 start 0 f) → count f ≤ numbers / width
+      → t ≡ written (keeping live) (zeros numbers) 0 (rows 0 0 start 0 f) → count f ≤ numbers / width
       → Gives start numbers o (Rows n) t
   unfolding tableOf written
   gives-rows f n q k w l =
@@ -67,57 +67,57 @@ module _ (start numbers : ℕ) (o : Outcome) (t : List ℕ) where
       }
 
 -- They are as promised where the outcome is the read's.
-promised : (s : List ℕ) (start size parent : ℕ) (t : List ℕ) (r : ReadReply) (t′ : List ℕ)
-    → Gives start (length t) (readOf s start size parent (length t)) r t′ → ReadPromise s start size parent t r t′
-promised s start size parent t r t′ g = record { reply = g .reply; table = g .table }
+promised : (live : Bool) (s : List ℕ) (start size parent : ℕ) (t : List ℕ) (r : ReadReply) (t′ : List ℕ)
+    → Gives start (length t) (readOf live s start size parent (length t)) r t′ → ReadPromise live s start size parent t r t′
+promised live s start size parent t r t′ g = record { reply = g .reply; table = g .table }
 
 -- ---- from the reader's answer on the cleared table t₁ to the promise
 
-module _ (s : List ℕ) (start size parent : ℕ) (t₁ : List ℕ) (z : t₁ ≡ zeros (length t₁)) where
+module _ (live : Bool) (s : List ℕ) (start size parent : ℕ) (t₁ : List ℕ) (z : t₁ ≡ zeros (length t₁)) where
   abbrev numbers : ℕ
   numbers = length t₁
 
   abbrev reading : Outcome
-  reading = masterBody s keeping (numbers / width) 0 parent start size 0
+  reading = masterBody s (keeping live) (numbers / width) 0 parent start size 0
 
   module _ (a : allowed s start numbers ≡ true) where
-    outcome : readOf s start size parent numbers ≡ reading
+    outcome : readOf live s start size parent numbers ≡ reading
     unfolding readOf filled
     outcome = passes _ _ _ (ap not a)
 
     pub fill-refused : (e : Refusal) (t t′ : List ℕ)
-        → Met s keeping start 0 0 start 0 reading t₁ t (ReadRefused e)
-        → t′ ≡ zeros numbers → ReadPromise s start size parent t₁ (Refused e) t′
+        → Met s (keeping live) start 0 0 start 0 reading t₁ t (ReadRefused e)
+        → t′ ≡ zeros numbers → ReadPromise live s start size parent t₁ (Refused e) t′
     fill-refused e t t′ m w =
-        promised s start size parent t₁ (Refused e) t′
-        (gives-refusal start numbers (readOf s start size parent numbers) t′ e
+        promised live s start size parent t₁ (Refused e) t′
+        (gives-refusal live start numbers (readOf live s start size parent numbers) t′ e
         (outcome ∙ told-refused start 0 reading e (m .reply)) w)
 
     pub fill-done : (n : ℕ) (next : Cursor) (t : List ℕ)
-        → Met s keeping start 0 0 start 0 reading t₁ t (Read n next) → ReadPromise s start size parent t₁ (Rows n) t
+        → Met s (keeping live) start 0 0 start 0 reading t₁ t (Read n next) → ReadPromise live s start size parent t₁ (Rows n) t
     fill-done n next t m =
         let (f, u, b, c) = told-read start 0 reading n next (m .reply) in
         let k : n ≡ count f = b ∙ zero-add (count f) in
         let l = m .room f u refl in
-        let w = subst (λ (x : List ℕ). t ≡ written keeping x 0 (rows 0 0 start 0 f)) z (m .table f u) in
-        promised s start size parent t₁ (Rows n) t
-        (gives-rows start numbers (readOf s start size parent numbers) t f n (outcome ∙ u) k w (omega arith))
+        let w = subst (λ (x : List ℕ). t ≡ written (keeping live) x 0 (rows 0 0 start 0 f)) z (m .table f u) in
+        promised live s start size parent t₁ (Rows n) t
+        (gives-rows live start numbers (readOf live s start size parent numbers) t f n (outcome ∙ u) k w (omega arith))
 
 -- ---- the public call
 
-module _ (s : List ℕ) (start size parent : ℕ) (t : List ℕ) where
-  refused-argument : allowed s start (length t) ≡ false → readOf s start size parent (length t) ≡ refused badArgument
+module _ (live : Bool) (s : List ℕ) (start size parent : ℕ) (t : List ℕ) where
+  refused-argument : allowed s start (length t) ≡ false → readOf live s start size parent (length t) ≡ refused badArgument
   unfolding readOf
   refused-argument a = refuses _ _ _ (ap not a)
 
   pub not-allowed : (t₁ : List ℕ) → allowed s start (length t) ≡ false → t₁ ≡ zeros (length t)
-      → ReadPromise s start size parent t (Refused badArgument) t₁
+      → ReadPromise live s start size parent t (Refused badArgument) t₁
   not-allowed t₁ a z =
-      promised s start size parent t (Refused badArgument) t₁
-      (gives-refusal start (length t) (readOf s start size parent (length t)) t₁ badArgument (refused-argument a) z)
+      promised live s start size parent t (Refused badArgument) t₁
+      (gives-refusal live start (length t) (readOf live s start size parent (length t)) t₁ badArgument (refused-argument a) z)
 
   -- What was promised of the cleared table holds of the table that the caller lent.
-  pub as-lent : (t₁ t₂ : List ℕ) (r : ReadReply) → length t₁ ≡ length t → ReadPromise s start size parent t₁ r t₂
-      → ReadPromise s start size parent t r t₂
+  pub as-lent : (t₁ t₂ : List ℕ) (r : ReadReply) → length t₁ ≡ length t → ReadPromise live s start size parent t₁ r t₂
+      → ReadPromise live s start size parent t r t₂
   as-lent t₁ t₂ r l p =
       record { reply = rw (← l) (p .reply); table = rw (← l) (p .table) }

@@ -3,7 +3,7 @@
 use Prim.Native.Nat.{ℕ, _+_, _-_, _*_, _/_, _≤_}
 use mathlib.Core.Path.{_≡_}
 use mathlib.Core.List.{List, _++_, map}
-use mathlib.Core.Bool.{true}
+use mathlib.Core.Bool.{Bool, true}
 use lib.ListN.{length, take, drop}
 use Rattle.elements_rules.specs.Forest.{Forest, span, count, deep}
 use Rattle.elements_rules.specs.Reading.{done, depths, masterBody}
@@ -19,10 +19,10 @@ use Rattle.elements_rules.specs.declared.reply.ReadReply.the-variants.{R
 
 -- The arguments are allowed. A tree stands in the payload, takes it up, has at most 16 depths and finds rows enough;
 -- n is how many it has, and t′ is those rows and zeros beyond them.
-pub record Acceptable (s : List ℕ) (start size parent : ℕ) (t : List ℕ) (n : ℕ) (t′ : List ℕ) : Type 0 where
+pub record Acceptable (live : Bool) (s : List ℕ) (start size parent : ℕ) (t : List ℕ) (n : ℕ) (t′ : List ℕ) : Type 0 where
   pub arguments : allowed s start (length t) ≡ true
   pub forest : Forest
-  pub stands : Stands s parent start forest
+  pub stands : Stands live s parent start forest
   pub taken : span forest ≡ size
   pub low : deep forest ≤ depths
   pub number : n ≡ count forest
@@ -33,14 +33,14 @@ pub record Acceptable (s : List ℕ) (start size parent : ℕ) (t : List ℕ) (n
 -- it has to: an element of depth 15, the last row of the table, a master without children.
 abbrev pub AcceptedExactly : Type 0
 AcceptedExactly =
-    (s : List ℕ) (start size parent : ℕ) (t : List ℕ) (n : ℕ) (t′ : List ℕ)
-    → (ReadPromise s start size parent t (Rows n) t′ → Acceptable s start size parent t n t′)
-    × (Acceptable s start size parent t n t′ → ReadPromise s start size parent t (Rows n) t′)
+    (live : Bool) (s : List ℕ) (start size parent : ℕ) (t : List ℕ) (n : ℕ) (t′ : List ℕ)
+    → (ReadPromise live s start size parent t (Rows n) t′ → Acceptable live s start size parent t n t′)
+    × (Acceptable live s start size parent t n t′ → ReadPromise live s start size parent t (Rows n) t′)
 
 -- A tree for the reader of a master's body, whose elements have that depth, with n of `cap` rows taken: it stands
 -- there, takes up the size, has no more depths than are left and, where rows are kept, finds them free.
 pub record ReadableTree (s : List ℕ) (mode : Mode) (cap depth parent at size n : ℕ) (f : Forest) : Type 0 where
-  pub stands : Stands s parent at f
+  pub stands : Stands (mode .live) s parent at f
   pub taken : span f ≡ size
   pub low : deep f ≤ depths - depth
   pub free : mode .keep ≡ true → n + count f ≤ cap
@@ -62,9 +62,9 @@ BodyExactly =
 -- overruns the payload is 1, 3 or 7 by the bytes behind it (P11).
 abbrev pub OwnBytes : Type 0
 OwnBytes =
-    (s s′ : List ℕ) (start size parent : ℕ) (t u : List ℕ) (n : ℕ) (t′ : List ℕ) (r : ReadReply) (u′ : List ℕ)
+    (live : Bool) (s s′ : List ℕ) (start size parent : ℕ) (t u : List ℕ) (n : ℕ) (t′ : List ℕ) (r : ReadReply) (u′ : List ℕ)
     → take size (drop start s) ≡ take size (drop start s′) → allowed s′ start (length u) ≡ true → length t ≡ length u
-    → ReadPromise s start size parent t (Rows n) t′ → ReadPromise s′ start size parent u r u′
+    → ReadPromise live s start size parent t (Rows n) t′ → ReadPromise live s′ start size parent u r u′
     → (r ≡ Rows n) × (u′ ≡ t′)
 
 -- The row of the same element where the payload begins at start′, not at start: its address is as far behind that.
@@ -93,10 +93,10 @@ pub record OneTree (start start′ n : ℕ) (t′ u′ : List ℕ) : Type 0 wher
 -- an element stands, as one that takes even addresses alone, and one whose addresses count from the payload's start.
 abbrev pub Moves : Type 0
 Moves =
-    (s s′ : List ℕ) (start start′ size parent : ℕ) (t u : List ℕ) (n : ℕ) (t′ : List ℕ) (r : ReadReply) (u′ : List ℕ)
+    (live : Bool) (s s′ : List ℕ) (start start′ size parent : ℕ) (t u : List ℕ) (n : ℕ) (t′ : List ℕ) (r : ReadReply) (u′ : List ℕ)
     → take size (drop start s) ≡ take size (drop start′ s′) → allowed s′ start′ (length u) ≡ true
     → n ≤ length u / width
-    → ReadPromise s start size parent t (Rows n) t′ → ReadPromise s′ start′ size parent u r u′
+    → ReadPromise live s start size parent t (Rows n) t′ → ReadPromise live s′ start′ size parent u r u′
     → (r ≡ Rows n) × OneTree start start′ n t′ u′
 
 -- The same of a master's body, with rows or without: a seek head that is copied to another place is the same tree there.

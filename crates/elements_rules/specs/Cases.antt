@@ -1,8 +1,9 @@
 -- Document 01's cases that are to be proved, as one table (Cases, P1 to P12): what is asked of the bytes, and the
--- reply. And small reads that are refused, each at an address of its own sort (document 02, C-12).
+-- reply. And small reads that are refused, each at an address of its own sort (document 02, C-12; C-18).
 use Prim.Native.Nat.{ℕ, zero, suc, _+_, _^_, _-_, _*_}
 use mathlib.Core.Path.{_≡_}
 use mathlib.Core.List.{List, [], _∷_}
+use mathlib.Core.Bool.{true, false}
 use lib.ListN.{length}
 use lib.IntN.{pos, negsuc}
 use Rattle.refusals.specs.Refusals.{because}
@@ -28,6 +29,8 @@ pub data Case : Type 0 where
   read : (name : ℕ) → List ℕ → (size parent : ℕ) → ByNumber ℕ → List ℕ → Case
   -- the elements of a whole list of bytes under no parent, into a table of so many rows, refused: number and address
   breaks : List ℕ → (rows : ℕ) → (number address : ℕ) → Case
+  -- the same in live mode
+  breaksLive : List ℕ → (rows : ℕ) → (number address : ℕ) → Case
 
 -- Two rows.
 abbrev pub numbers : ℕ
@@ -80,6 +83,15 @@ cases =
     ∷ breaks (0x45 ∷ 0xB9 ∷ 0xA0 ∷ nested 16 0 []) 17 12 33
     ∷ breaks (0xEC ∷ 0x80 ∷ []) 0 13 0
     ∷ breaks (0xEC ∷ 0x80 ∷ 0xEC ∷ 0x80 ∷ []) 1 13 2
+    -- In live mode an unknown size is 17, directly after its header: of a Cluster and a Segment too, before 12, before 13
+    -- and before the body. In old mode it is a number.
+    ∷ breaksLive (0x1F ∷ 0x43 ∷ 0xB6 ∷ 0x75 ∷ 0xFF ∷ []) 0 17 0
+    ∷ breaks (0x1F ∷ 0x43 ∷ 0xB6 ∷ 0x75 ∷ 0xFF ∷ []) 0 13 0
+    ∷ breaksLive (0xEC ∷ 0x80 ∷ 0x18 ∷ 0x53 ∷ 0x80 ∷ 0x67 ∷ 0x7F ∷ 0xFF ∷ []) 2 17 2
+    ∷ breaksLive (0x45 ∷ 0xB9 ∷ 0xA0 ∷ nested 15 2 (0xEC ∷ 0xFF ∷ [])) 17 17 33
+    ∷ breaks (0x45 ∷ 0xB9 ∷ 0xA0 ∷ nested 15 2 (0xEC ∷ 0xFF ∷ [])) 17 12 33
+    ∷ breaksLive (0xEC ∷ 0xFF ∷ []) 1 17 0
+    ∷ breaksLive (0xEC ∷ 0x40 ∷ 0x7F ∷ []) 1 1 0
     ∷ []
 
 -- The body behind a header that was read at 0.
@@ -91,10 +103,12 @@ abbrev pub Holds : Case → Type 0
 Holds (header name s reply) = byNumber (headerReply s 0) ≡ reply
 Holds (body name s reply) = byNumber (bodyBehind s (headerOf s)) ≡ reply
 Holds (read name s size parent reply table) =
-    (byNumber (replyOf (readOf s 0 size parent numbers)) ≡ reply)
-    × (tableOf 0 numbers (readOf s 0 size parent numbers) ≡ table)
+    (byNumber (replyOf (readOf false s 0 size parent numbers)) ≡ reply)
+    × (tableOf 0 numbers (readOf false s 0 size parent numbers) ≡ table)
 Holds (breaks s rows number address) =
-    byNumber (replyOf (readOf s 0 (length s) 0 (rows * width))) ≡ refused number 0 address
+    byNumber (replyOf (readOf false s 0 (length s) 0 (rows * width))) ≡ refused number 0 address
+Holds (breaksLive s rows number address) =
+    byNumber (replyOf (readOf true s 0 (length s) 0 (rows * width))) ≡ refused number 0 address
 
 -- The one statement: each case's question has the case's reply.
 abbrev pub Hold : List Case → Type 0

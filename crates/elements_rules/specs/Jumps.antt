@@ -3,6 +3,7 @@
 use Prim.Native.Nat.{ℕ, suc, _*_, _≤_, _<_}
 use mathlib.Core.Path.{_≡_}
 use mathlib.Core.List.{List, [], _∷_}
+use mathlib.Core.Bool.{Bool}
 use lib.ListN.{length}
 use Rattle.elements_rules.specs.Rows.{width, rowsOf, nth}
 use Rattle.elements_rules.specs.Promise.{ReadPromise}
@@ -29,8 +30,8 @@ pub record Jump (rs : List Row) (k : ℕ) : Type 0 where
 -- After an accepted read each row does so; n is how many rows there are, so none jumps past it.
 abbrev pub JumpsOver : Type 0
 JumpsOver =
-    (s : List ℕ) (start size parent : ℕ) (t : List ℕ) (n : ℕ) (t′ : List ℕ)
-    → ReadPromise s start size parent t (Rows n) t′
+    (live : Bool) (s : List ℕ) (start size parent : ℕ) (t : List ℕ) (n : ℕ) (t′ : List ℕ)
+    → ReadPromise live s start size parent t (Rows n) t′
     → (length (rowsOf t′ n) ≡ n) × ((k : ℕ) → k < n → Jump (rowsOf t′ n) k)
 
 -- A master in a master around a leaf, and a leaf behind them: 3, 3, 3 and 4, the row count.
@@ -46,5 +47,5 @@ nestedTable =
 
 abbrev pub NestedJumps : Type 0
 NestedJumps =
-    (t : List ℕ) (r : ReadReply) (t′ : List ℕ) → length t ≡ 4 * width → ReadPromise nested 0 8 0 t r t′
+    (live : Bool) (t : List ℕ) (r : ReadReply) (t′ : List ℕ) → length t ≡ 4 * width → ReadPromise live nested 0 8 0 t r t′
     → (r ≡ Rows 4) × (t′ ≡ nestedTable)

@@ -12,3 +12,4 @@ pub mod Useless
 pub mod Jumps
 pub mod Acceptance
 pub mod Faults
+pub mod Live

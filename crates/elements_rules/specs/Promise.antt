@@ -19,9 +19,9 @@ use Rattle.elements_rules.specs.declared.reply.ReadReply.the-variants.{R
 abbrev pub mostRows : ℕ
 mostRows = 4096
 
--- A read with rows.
-abbrev pub keeping : Mode
-keeping = record { keep = true }
+-- A read with rows, in live mode or in old mode.
+abbrev pub keeping : (live : Bool) → Mode
+keeping live = record { keep = true; live = live }
 
 -- A table of so many numbers: whole rows, and not too many.
 unfoldable pub isTable : (numbers : ℕ) → Bool
@@ -33,13 +33,13 @@ unfoldable pub allowed : List ℕ → (start numbers : ℕ) → Bool
 allowed s start numbers = leb (length s) mostBytes && (isTable numbers && leb start (length s))
 
 -- The reading into a table of so many numbers: the payload's elements have depth 0.
-unfoldable pub filled : List ℕ → (start size parent numbers : ℕ) → Outcome
-filled s start size parent numbers = masterBody s keeping (numbers / width) 0 parent start size 0
+unfoldable pub filled : (live : Bool) → List ℕ → (start size parent numbers : ℕ) → Outcome
+filled live s start size parent numbers = masterBody s (keeping live) (numbers / width) 0 parent start size 0
 
 -- The public read: 14, then the reading.
-unfoldable pub readOf : List ℕ → (start size parent numbers : ℕ) → Outcome
-readOf s start size parent numbers =
-    refuseIf (not (allowed s start numbers)) badArgument (filled s start size parent numbers)
+unfoldable pub readOf : (live : Bool) → List ℕ → (start size parent numbers : ℕ) → Outcome
+readOf live s start size parent numbers =
+    refuseIf (not (allowed s start numbers)) badArgument (filled live s start size parent numbers)
 
 -- The reply: how many rows there are.
 abbrev pub replyOf : Outcome → Reply ℕ
@@ -59,6 +59,7 @@ abbrev pub readTold : ReadReply → Reply ℕ
 readTold (Rows n) = accepted n
 readTold (Refused e) = refusal e
 
-pub record ReadPromise (s : List ℕ) (start size parent : ℕ) (t : List ℕ) (r : ReadReply) (t′ : List ℕ) : Type 0 where
-  pub reply : readTold r ≡ replyOf (readOf s start size parent (length t))
-  pub table : t′ ≡ tableOf start (length t) (readOf s start size parent (length t))
+pub record ReadPromise
+    (live : Bool) (s : List ℕ) (start size parent : ℕ) (t : List ℕ) (r : ReadReply) (t′ : List ℕ) : Type 0 where
+  pub reply : readTold r ≡ replyOf (readOf live s start size parent (length t))
+  pub table : t′ ≡ tableOf start (length t) (readOf live s start size parent (length t))

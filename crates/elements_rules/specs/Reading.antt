@@ -1,4 +1,4 @@
--- How elements are read (document 01, Element table): an element holds a body, and a master's body holds elements, read
+-- How elements are read (document 01, Element table; document 02, C-18): an element holds a body, and a master's body holds elements, read
 -- until its size is used up.
 use Prim.Native.Nat.{ℕ, zero, suc, _+_, _-_}
 use mathlib.Core.List.{List}
@@ -11,7 +11,9 @@ use Rattle.refusals.specs.Refusals.{because, overrun, tooDeep, noFreeRow}
 use Rattle.header.specs.Reads.{headerRead}
 use Rattle.header.specs.declared.cursor.Header.{Header}
 use Rattle.header.specs.declared.cursor.HeaderRead.{HeaderRead}
+use Rattle.refusals.specs.declared.refusal.Cause.the-variants.{UnknownSize}
 use Rattle.refusals.specs.declared.refusal.Refusal.{Refusal}
+use Rattle.sizes.specs.Unknown.{unknown}
 use Rattle.kinds.specs.Kinds.{kindUnder}
 use Rattle.bodies_rules.specs.Bodies.{Told, body, bodyOf}
 use Rattle.bodies_rules.specs.Bodies.{refused as refusedBody}
@@ -44,13 +46,18 @@ unfoldable pub refuseIf : Bool → Refusal → Outcome → Outcome
 refuseIf true e o = refused e
 refuseIf false e o = o
 
+-- A header as a mode takes it: in live mode 17 where its size is unknown (document 02, C-18).
+abbrev pub taken : (live : Bool) → Heading → Heading
+taken live (heading h) = cond (live && unknown h) (refusedHeader UnknownSize) (heading h)
+taken live (refusedHeader cause) = refusedHeader cause
+
 -- The header of an element at a place: the one step by which the element rules read a header.
-abbrev pub elementHeader : List ℕ → ℕ → Heading
-elementHeader s at = headerOf (drop at s)
+abbrev pub elementHeader : (live : Bool) → List ℕ → ℕ → Heading
+elementHeader live s at = taken live (headerOf (drop at s))
 
 -- The same as the code tells it.
-abbrev pub elementHeaderRead : List ℕ → ℕ → HeaderRead
-elementHeaderRead s at = headerRead at (elementHeader s at)
+abbrev pub elementHeaderRead : (live : Bool) → List ℕ → ℕ → HeaderRead
+elementHeaderRead live s at = headerRead at (elementHeader live s at)
 
 -- What follows a header that was read at an address; one that is refused is refused there.
 abbrev pub headed : ℕ → Heading → (Header → Outcome) → Outcome
@@ -87,11 +94,11 @@ depths = 16
 -- Of a recording, in a mode, with room for `cap` rows.
 module _ (s : List ℕ) (mode : Mode) (cap : ℕ) where
   -- One element at a place, under a parent id, with n rows taken; `levels` tells how many depths are left. The order:
-  -- header; 12; 13; body.
+  -- header; 17; 12; 13; body.
   unfoldable pub element : (levels parent at n : ℕ) → Outcome
-  element zero parent at n = headed at (elementHeader s at) (λ h. refused (tooDeep at))
+  element zero parent at n = headed at (elementHeader (mode .live) s at) (λ h. refused (tooDeep at))
   element (suc levels) parent at n =
-      headed at (elementHeader s at) (λ h.
+      headed at (elementHeader (mode .live) s at) (λ h.
       refuseIf (full mode cap n) (noFreeRow at)
       (above (elementOf parent h)
       (held at (bodyOf s (at + h .length) (h .size) (kindUnder (h .id) parent))

@@ -3,7 +3,7 @@ use Prim.Native.Nat.{ℕ, suc, _+_, _-_, _/_, _≤_, _<_}
 use mathlib.Core.Path.{_≡_}
 use mathlib.Core.List.{List, [], _∷_, _++_}
 use mathlib.Core.Logic.{_⊎_}
-use mathlib.Core.Bool.{true, cond}
+use mathlib.Core.Bool.{Bool, true, cond}
 use lib.ListN.{length, take, drop}
 use lib.Dec.{ltb, eqb}
 use Rattle.refusals.specs.Refusals.{overrun}
@@ -29,14 +29,14 @@ use Rattle.elements_rules.specs.declared.reply.ReadReply.the-variants.{R
 -- promises). The numbers that stood in the lent table do not matter, only how many there are.
 abbrev pub OneReply : Type 0
 OneReply =
-    (s : List ℕ) (start size parent : ℕ) (t u : List ℕ) (r r′ : ReadReply) (t′ u′ : List ℕ) → length t ≡ length u
-    → ReadPromise s start size parent t r t′ → ReadPromise s start size parent u r′ u′ → (r ≡ r′) × (t′ ≡ u′)
+    (live : Bool) (s : List ℕ) (start size parent : ℕ) (t u : List ℕ) (r r′ : ReadReply) (t′ u′ : List ℕ) → length t ≡ length u
+    → ReadPromise live s start size parent t r t′ → ReadPromise live s start size parent u r′ u′ → (r ≡ r′) × (t′ ≡ u′)
 
 -- A refusal that the promise permits is one of document 01's list.
 abbrev pub RefusesListed : Type 0
 RefusesListed =
-    (s : List ℕ) (start size parent : ℕ) (t : List ℕ) (e : Refusal) (t′ : List ℕ)
-    → ReadPromise s start size parent t (Refused e) t′ → Listed e
+    (live : Bool) (s : List ℕ) (start size parent : ℕ) (t : List ℕ) (e : Refusal) (t′ : List ℕ)
+    → ReadPromise live s start size parent t (Refused e) t′ → Listed e
 
 -- ---- the table loses nothing
 
@@ -44,8 +44,8 @@ RefusesListed =
 -- other byte lies in any. The rows are those that the table holds at exit.
 abbrev pub Partition : Type 0
 Partition =
-    (s : List ℕ) (start size parent : ℕ) (t : List ℕ) (n : ℕ) (t′ : List ℕ)
-    → ReadPromise s start size parent t (Rows n) t′
+    (live : Bool) (s : List ℕ) (start size parent : ℕ) (t : List ℕ) (n : ℕ) (t′ : List ℕ)
+    → ReadPromise live s start size parent t (Rows n) t′
     → (x : ℕ)
     → (start ≤ x → x < start + size → holders (rowsOf t′ n) x ≡ 1)
     × (x < start ⊎ start + size ≤ x → holders (rowsOf t′ n) x ≡ 0)
@@ -63,25 +63,25 @@ SameLeaf s s′ r = isLeaf r ≡ true → payloadOf s r ≡ payloadOf s′ r
 -- in every leaf payload, are equal.
 abbrev pub Lossless : Type 0
 Lossless =
-    (s s′ : List ℕ) → Octets s → Octets s′ → (start size parent : ℕ) (t u : List ℕ) (n m : ℕ) (t′ : List ℕ)
-    → ReadPromise s start size parent t (Rows n) t′ → ReadPromise s′ start size parent u (Rows m) t′
+    (live : Bool) (s s′ : List ℕ) → Octets s → Octets s′ → (start size parent : ℕ) (t u : List ℕ) (n m : ℕ) (t′ : List ℕ)
+    → ReadPromise live s start size parent t (Rows n) t′ → ReadPromise live s′ start size parent u (Rows m) t′
     → Each (SameLeaf s s′) (rowsOf t′ n)
     → take size (drop start s) ≡ take size (drop start s′)
 
 -- ---- the tree
 
 -- An accepted read is a tree that stands in the payload, and the table's rows are that tree in preorder.
-pub record Tree (s : List ℕ) (start size parent n : ℕ) (t′ : List ℕ) : Type 0 where
+pub record Tree (live : Bool) (s : List ℕ) (start size parent n : ℕ) (t′ : List ℕ) : Type 0 where
   pub forest : Forest
-  pub stands : Stands s parent start forest
+  pub stands : Stands live s parent start forest
   pub taken : span forest ≡ size
   pub number : n ≡ count forest
   pub preorder : rowsOf t′ n ≡ rowsAt start forest
 
 abbrev pub ReadsATree : Type 0
 ReadsATree =
-    (s : List ℕ) (start size parent : ℕ) (t : List ℕ) (n : ℕ) (t′ : List ℕ)
-    → ReadPromise s start size parent t (Rows n) t′ → Tree s start size parent n t′
+    (live : Bool) (s : List ℕ) (start size parent : ℕ) (t : List ℕ) (n : ℕ) (t′ : List ℕ)
+    → ReadPromise live s start size parent t (Rows n) t′ → Tree live s start size parent n t′
 
 -- A row beside its parent: a direct row has depth 0 and the kind that the caller's parent id gives; any other has a
 -- parent among the rows before it, one depth less, and the kind that the parent's id gives.
@@ -98,8 +98,8 @@ Family parent before (r ∷ rs) = Under parent before r × Family parent (before
 
 abbrev pub ParentsBefore : Type 0
 ParentsBefore =
-    (s : List ℕ) (start size parent : ℕ) (t : List ℕ) (n : ℕ) (t′ : List ℕ)
-    → ReadPromise s start size parent t (Rows n) t′ → Family parent [] (rowsOf t′ n)
+    (live : Bool) (s : List ℕ) (start size parent : ℕ) (t : List ℕ) (n : ℕ) (t′ : List ℕ)
+    → ReadPromise live s start size parent t (Rows n) t′ → Family parent [] (rowsOf t′ n)
 
 -- A row of an accepted read: its header stands at its address, header and payload lie in the recording, and a leaf's
 -- body is a value, so that it has the size that its kind asks.
@@ -112,20 +112,20 @@ pub record Sound (s : List ℕ) (r : Row) : Type 0 where
 
 abbrev pub RowsSound : Type 0
 RowsSound =
-    (s : List ℕ) (start size parent : ℕ) (t : List ℕ) (n : ℕ) (t′ : List ℕ)
-    → ReadPromise s start size parent t (Rows n) t′ → Each (Sound s) (rowsOf t′ n)
+    (live : Bool) (s : List ℕ) (start size parent : ℕ) (t : List ℕ) (n : ℕ) (t′ : List ℕ)
+    → ReadPromise live s start size parent t (Rows n) t′ → Each (Sound s) (rowsOf t′ n)
 
 -- The direct rows have depth 0, so no row is deeper than 15.
 abbrev pub DepthsAllowed : Type 0
 DepthsAllowed =
-    (s : List ℕ) (start size parent : ℕ) (t : List ℕ) (n : ℕ) (t′ : List ℕ)
-    → ReadPromise s start size parent t (Rows n) t′ → Each (λ r. r .depth < depths) (rowsOf t′ n)
+    (live : Bool) (s : List ℕ) (start size parent : ℕ) (t : List ℕ) (n : ℕ) (t′ : List ℕ)
+    → ReadPromise live s start size parent t (Rows n) t′ → Each (λ r. r .depth < depths) (rowsOf t′ n)
 
 -- There are no more rows than the table has, and it stays as long as it was.
 abbrev pub RowsFit : Type 0
 RowsFit =
-    (s : List ℕ) (start size parent : ℕ) (t : List ℕ) (n : ℕ) (t′ : List ℕ)
-    → ReadPromise s start size parent t (Rows n) t′ → (n ≤ length t / width) × (length t′ ≡ length t)
+    (live : Bool) (s : List ℕ) (start size parent : ℕ) (t : List ℕ) (n : ℕ) (t′ : List ℕ)
+    → ReadPromise live s start size parent t (Rows n) t′ → (n ≤ length t / width) × (length t′ ≡ length t)
 
 -- ---- the bound of the definition
 

@@ -60,12 +60,12 @@ first (b ∷ bs) z o l q = go (eqb b 0) refl
         record { octet = b; rest = bs; is = refl; lo = rw c lo; hi = rw d hi }
 
 -- a VINT of n octets and value v at the head of s: its marker is the highest bit of 7 * n + 1
-record Number (s : List ℕ) (n v : ℕ) : Type 0 where
-  some-octets : 1 ≤ n
-  there : n ≤ length s
-  value : v ≡ bigEndian (take n s)
-  low : 2 ^ (7 * n) ≤ v
-  high : v < 2 ^ (7 * n + 1)
+pub record Number (s : List ℕ) (n v : ℕ) : Type 0 where
+  pub some-octets : 1 ≤ n
+  pub there : n ≤ length s
+  pub value : v ≡ bigEndian (take n s)
+  pub low : 2 ^ (7 * n) ≤ v
+  pub high : v < 2 ^ (7 * n + 1)
 
 marker : (b z : ℕ) (bs : List ℕ) → Octets bs → z < 8 → z ≤ length bs → 2 ^ (7 - z) ≤ b → b < 2 ^ (8 - z)
     → (2 ^ (7 * (z + 1)) ≤ bigEndian (take (suc z) (b ∷ bs)))
@@ -101,6 +101,10 @@ number most n v s w o k m a =
       high = rw (m .octets, t) (r .1);
     }
 
+vint-few : (most n v : ℕ) (s : List ℕ) → vintOf most s ≡ vint n v → n ≤ most
+unfolding vintOf
+vint-few most n v s q = let m = made most n v s (widthOf (bits s)) q in omega (arith, m .octets, m .few)
+
 of-vint : (most n v : ℕ) (s : List ℕ) → Octets s → most ≤ 8 → vintOf most s ≡ vint n v → Number s n v
 unfolding vintOf
 of-vint most n v s o k q =
@@ -124,7 +128,7 @@ number-octets s t n v f g a b =
     .1
 
 -- VINT_DATA and the length determine the value
-number-value : (s : List ℕ) (n v : ℕ) → Number s n v → v ≡ 2 ^ (7 * n) + vintData n v
+pub number-value : (s : List ℕ) (n v : ℕ) → Number s n v → v ≡ 2 ^ (7 * n) + vintData n v
 number-value s n v a =
     let p = 2 ^ (7 * n) in
     let d : 2 ^ (7 * n + 1) ≡ p * 2 = pow-add 2 (7 * n) 1 in
@@ -135,23 +139,27 @@ number-value s n v a =
 
 -- ---- a header that was read
 
-record Parts (s : List ℕ) (h : Header) : Type 0 where
-  n : ℕ
-  m : ℕ
-  v : ℕ
-  named : Number s n (h .id)
-  sized : Number (drop n s) m v
-  size : h .size ≡ vintData m v
-  long : h .length ≡ n + m
+-- its id of n octets and its size of m, each as a VINT
+pub record Parts (s : List ℕ) (h : Header) : Type 0 where
+  pub n : ℕ
+  pub m : ℕ
+  pub v : ℕ
+  pub named : Number s n (h .id)
+  pub sized : Number (drop n s) m v
+  pub few : n ≤ 4
+  pub short : m ≤ 8
+  pub size : h .size ≡ vintData m v
+  pub long : h .length ≡ n + m
 
-parts : (s : List ℕ) → Octets s → (h : Header) → headerOf s ≡ heading h → Parts s h
+pub parts : (s : List ℕ) → Octets s → (h : Header) → headerOf s ≡ heading h → Parts s h
 unfolding headerOf named sized
 parts s o h = name (vintOf 4 s) refl
   where
-    sizes : (n id : ℕ) → Number s n id → (y : Vint) → vintOf 8 (drop n s) ≡ y → sized id n y ≡ heading h → Parts s h
-    sizes n id a ends e w = let x : _≡_ {A = ℕ} 0 1 = cc in absurd (omega arith)
-    sizes n id a long e w = let x : _≡_ {A = ℕ} 0 1 = cc in absurd (omega arith)
-    sizes n id a (vint m v) e w =
+    sizes : (n id : ℕ) → Number s n id → n ≤ 4 → (y : Vint) → vintOf 8 (drop n s) ≡ y → sized id n y ≡ heading h
+        → Parts s h
+    sizes n id a l ends e w = let x : _≡_ {A = ℕ} 0 1 = cc in absurd (omega arith)
+    sizes n id a l long e w = let x : _≡_ {A = ℕ} 0 1 = cc in absurd (omega arith)
+    sizes n id a l (vint m v) e w =
         let k : record { id = id; size = vintData m v; length = n + m } ≡ h = cc in
         record {
           n = n;
@@ -159,6 +167,8 @@ parts s o h = name (vintOf 4 s) refl
           v = v;
           named = subst (Number s n) (ap (λ (y : Header). y .id) k) a;
           sized = of-vint 8 m v (drop n s) (octets-drop s o n) (omega arith) e;
+          few = l;
+          short = vint-few 8 m v (drop n s) e;
           size = sym (ap (λ (y : Header). y .size) k);
           long = sym (ap (λ (y : Header). y .length) k);
         }
@@ -166,7 +176,8 @@ parts s o h = name (vintOf 4 s) refl
     name : (x : Vint) → vintOf 4 s ≡ x → named s x ≡ heading h → Parts s h
     name ends e w = let x : _≡_ {A = ℕ} 0 1 = cc in absurd (omega arith)
     name long e w = let x : _≡_ {A = ℕ} 0 1 = cc in absurd (omega arith)
-    name (vint n id) e w = sizes n id (of-vint 4 n id s o (omega arith) e) (vintOf 8 (drop n s)) refl w
+    name (vint n id) e w =
+        sizes n id (of-vint 4 n id s o (omega arith) e) (vint-few 4 n id s e) (vintOf 8 (drop n s)) refl w
 
 joined : (s t : List ℕ) → Octets s → Octets t → (id n m v : ℕ) → Number s n id → Number t n id
     → Number (drop n s) m v → Number (drop n t) m v → take (n + m) s ≡ take (n + m) t

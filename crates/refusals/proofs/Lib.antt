@@ -1,2 +1,3 @@
 -- The theorems of `refusals`.
+pub mod Tags
 pub mod Listed

@@ -15,29 +15,34 @@ use Rattle.refusals.specs.declared.refusal.Cause.the-variants.{PastEnd, 
 use Rattle.refusals.specs.declared.refusal.Cause.the-variants.{InvalidUint, InvalidFloat, InvalidDate, NotUtf8}
 use Rattle.refusals.specs.declared.refusal.Cause.the-variants.{InvalidSeekHead, StaleEntry, HeadAgain}
 use Rattle.refusals.specs.declared.refusal.Cause.the-variants.{TooManyHeads, TooDeep, NoFreeRow}
-use Rattle.refusals.specs.declared.refusal.Cause.the-variants.{BadArgument, Outside}
+use Rattle.refusals.specs.declared.refusal.Cause.the-variants.{BadArgument, Outside, UnknownSize}
 
 -- A cause without an id.
-plain : (at : ℕ) (c : Cause) → 1 ≤ causeNumber c → causeNumber c ≤ 15 → causeId c ≡ 0 → Listed (because c at)
-plain at c least most z = record { least = least; most = most; alone = λ some. absurd (some z) }
+plain : (at : ℕ) (c : Cause) → 1 ≤ causeNumber c → (causeNumber c ≤ 15) ⊎ (causeNumber c ≡ 17) → causeId c ≡ 0
+    → Listed (because c at)
+plain at c least (inl most) z =
+    record { least = least; most = omega arith; but = λ q. omega arith; alone = λ some. absurd (some z) }
+plain at c least (inr is) z =
+    record { least = least; most = omega arith; but = λ q. omega arith; alone = λ some. absurd (some z) }
 
 of-cause : (at : ℕ) (c : Cause) → Listed (because c at)
-of-cause at PastEnd = plain at PastEnd (omega arith) (omega arith) refl
-of-cause at InvalidId = plain at InvalidId (omega arith) (omega arith) refl
-of-cause at InvalidSize = plain at InvalidSize (omega arith) (omega arith) refl
-of-cause at Overrun = plain at Overrun (omega arith) (omega arith) refl
-of-cause at InvalidUint = plain at InvalidUint (omega arith) (omega arith) refl
-of-cause at InvalidFloat = plain at InvalidFloat (omega arith) (omega arith) refl
-of-cause at InvalidDate = plain at InvalidDate (omega arith) (omega arith) refl
-of-cause at NotUtf8 = plain at NotUtf8 (omega arith) (omega arith) refl
-of-cause at (InvalidSeekHead id) = record { least = omega arith; most = omega arith; alone = λ some. refl }
-of-cause at StaleEntry = plain at StaleEntry (omega arith) (omega arith) refl
-of-cause at HeadAgain = plain at HeadAgain (omega arith) (omega arith) refl
-of-cause at TooManyHeads = plain at TooManyHeads (omega arith) (omega arith) refl
-of-cause at TooDeep = plain at TooDeep (omega arith) (omega arith) refl
-of-cause at NoFreeRow = plain at NoFreeRow (omega arith) (omega arith) refl
-of-cause at BadArgument = plain at BadArgument (omega arith) (omega arith) refl
-of-cause at Outside = plain at Outside (omega arith) (omega arith) refl
+of-cause at PastEnd = plain at PastEnd (omega arith) (inl (omega arith)) refl
+of-cause at InvalidId = plain at InvalidId (omega arith) (inl (omega arith)) refl
+of-cause at InvalidSize = plain at InvalidSize (omega arith) (inl (omega arith)) refl
+of-cause at Overrun = plain at Overrun (omega arith) (inl (omega arith)) refl
+of-cause at InvalidUint = plain at InvalidUint (omega arith) (inl (omega arith)) refl
+of-cause at InvalidFloat = plain at InvalidFloat (omega arith) (inl (omega arith)) refl
+of-cause at InvalidDate = plain at InvalidDate (omega arith) (inl (omega arith)) refl
+of-cause at NotUtf8 = plain at NotUtf8 (omega arith) (inl (omega arith)) refl
+of-cause at (InvalidSeekHead id) = record { least = omega arith; most = omega arith; but = λ q. omega arith; alone = λ some. refl }
+of-cause at StaleEntry = plain at StaleEntry (omega arith) (inl (omega arith)) refl
+of-cause at HeadAgain = plain at HeadAgain (omega arith) (inl (omega arith)) refl
+of-cause at TooManyHeads = plain at TooManyHeads (omega arith) (inl (omega arith)) refl
+of-cause at TooDeep = plain at TooDeep (omega arith) (inl (omega arith)) refl
+of-cause at NoFreeRow = plain at NoFreeRow (omega arith) (inl (omega arith)) refl
+of-cause at BadArgument = plain at BadArgument (omega arith) (inl (omega arith)) refl
+of-cause at Outside = plain at Outside (omega arith) (inl (omega arith)) refl
+of-cause at UnknownSize = plain at UnknownSize (omega arith) (inr refl) refl
 
 pub listed : AllListed
 listed e = of-cause (e .address) (e .cause)
@@ -60,6 +65,7 @@ causes id =
     ∷ NoFreeRow
     ∷ BadArgument
     ∷ Outside
+    ∷ UnknownSize
     ∷ []
 
 abbrev causeIn : List Cause → ℕ → Cause
@@ -87,6 +93,7 @@ back TooDeep = inl refl
 back NoFreeRow = inl refl
 back BadArgument = inl refl
 back Outside = inl refl
+back UnknownSize = inl refl
 
 -- One with the number of an overrun is one of the two.
 beside : (c d : Cause) → causeNumber c ≡ causeNumber d → causeIn (causes (causeId c)) (causeNumber c) ≡ c → d ≡ Overrun

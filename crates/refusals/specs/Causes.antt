@@ -1,11 +1,12 @@
--- Document 01's number for each cause, and the id that 8 carries (document 01, Numbers that bound a call).
+-- Document 01's number for each cause, and the id that 8 carries (document 01, Numbers that bound a call; document 02,
+-- C-18).
 use Prim.Native.Nat.{ℕ}
 use Rattle.refusals.specs.declared.refusal.Cause.{Cause}
 use Rattle.refusals.specs.declared.refusal.Cause.the-variants.{PastEnd, InvalidId, InvalidSize, Overrun}
 use Rattle.refusals.specs.declared.refusal.Cause.the-variants.{InvalidUint, InvalidFloat, InvalidDate, NotUtf8}
 use Rattle.refusals.specs.declared.refusal.Cause.the-variants.{InvalidSeekHead, StaleEntry, HeadAgain}
 use Rattle.refusals.specs.declared.refusal.Cause.the-variants.{TooManyHeads, TooDeep, NoFreeRow}
-use Rattle.refusals.specs.declared.refusal.Cause.the-variants.{BadArgument, Outside}
+use Rattle.refusals.specs.declared.refusal.Cause.the-variants.{BadArgument, Outside, UnknownSize}
 
 abbrev pub causeNumber : Cause → ℕ
 causeNumber PastEnd = 1
@@ -24,6 +25,7 @@ causeNumber TooDeep = 12
 causeNumber NoFreeRow = 13
 causeNumber BadArgument = 14
 causeNumber Outside = 15
+causeNumber UnknownSize = 17
 
 abbrev pub causeId : Cause → ℕ
 causeId (InvalidSeekHead id) = id
@@ -42,3 +44,4 @@ causeId TooDeep = 0
 causeId NoFreeRow = 0
 causeId BadArgument = 0
 causeId Outside = 0
+causeId UnknownSize = 0

@@ -4,7 +4,7 @@ use Rattle.refusals.specs.declared.refusal.Cause.{Cause}
 use Rattle.refusals.specs.declared.refusal.Cause.the-variants.{PastEnd, Overrun}
 use Rattle.refusals.specs.declared.refusal.Cause.the-variants.{InvalidSeekHead, StaleEntry, HeadAgain}
 use Rattle.refusals.specs.declared.refusal.Cause.the-variants.{TooManyHeads, TooDeep, NoFreeRow}
-use Rattle.refusals.specs.declared.refusal.Cause.the-variants.{BadArgument, Outside}
+use Rattle.refusals.specs.declared.refusal.Cause.the-variants.{BadArgument, Outside, UnknownSize}
 use Rattle.refusals.specs.declared.refusal.Refusal.{Refusal}
 
 -- Of what stands at an address: the header of the element that was being read, or where it began.
@@ -40,6 +40,10 @@ tooDeep = because TooDeep
 
 abbrev pub noFreeRow : ℕ → Refusal
 noFreeRow = because NoFreeRow
+
+-- An unknown size on an element that has to have a known one (document 02, C-18).
+abbrev pub unknownSize : ℕ → Refusal
+unknownSize = because UnknownSize
 
 -- ---- of what the caller gave: these have address 0
 

@@ -8,10 +8,12 @@ use Rattle.refusals.specs.declared.refusal.Cause.{Cause}
 use Rattle.refusals.specs.declared.refusal.Cause.the-variants.{InvalidSize, Overrun}
 use Rattle.refusals.specs.declared.refusal.Refusal.{Refusal}
 
--- A refusal of document 01's list: a number from 1 to 15, and an id other than 0 with 8 alone.
+-- A refusal of document 01's list, as document 02 (C-18) extends it: a number from 1 to 15 or 17, and an id other than
+-- 0 with 8 alone.
 pub record Listed (e : Refusal) : Type 0 where
   pub least : 1 ≤ causeNumber (e .cause)
-  pub most : causeNumber (e .cause) ≤ 15
+  pub most : causeNumber (e .cause) ≤ 17
+  pub but : causeNumber (e .cause) ≡ 16 → ⊥
   pub alone : (causeId (e .cause) ≡ 0 → ⊥) → causeNumber (e .cause) ≡ 8
 
 -- Each refusal is one. It shuts out a reader that tells a refusal as 0, so that a caller takes it for an answer. The

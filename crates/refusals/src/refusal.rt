@@ -1,7 +1,7 @@
 // A refusal, and its cause with document 01's number.
 ghost use Rattle.refusals.specs.Promise.{NumberPromise, IdPromise};
 
-// One case for each of document 01's numbers, and two for 3.
+// One case for each number of document 01's list, as document 02 (C-18) extends it, and two for 3.
 pub enum Cause {
     // 1: a byte needed lies beyond the recording.
     PastEnd,
@@ -36,6 +36,8 @@ pub enum Cause {
     BadArgument,
     // 15: the address is outside the payload, or there is no k-th record or list member.
     Outside,
+    // 17: in live mode, an unknown size on an element that has to have a known one.
+    UnknownSize,
 }
 
 // What a call answers when it refuses: why, and the address of the header that was being read. Where that header itself
@@ -68,6 +70,7 @@ impl Cause {
             Cause::NoFreeRow => 13,
             Cause::BadArgument => 14,
             Cause::Outside => 15,
+            Cause::UnknownSize => 17,
         }
     }
 
@@ -92,6 +95,7 @@ impl Cause {
             Cause::NoFreeRow => 0,
             Cause::BadArgument => 0,
             Cause::Outside => 0,
+            Cause::UnknownSize => 0,
         }
     }
 }

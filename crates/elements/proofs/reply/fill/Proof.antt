@@ -24,7 +24,7 @@ returns c =
     let b = a .before .before .before .before .before .before in
     let m = c .before .before .before .before .before .before .before .before .before .master-body in
     let k = c .before .before .clear in
-    fill-refused _ _ _ _ _ (b .pre .1) (b .pre .0) _ _ _
+    fill-refused _ _ _ _ _ _ (b .pre .1) (b .pre .0) _ _ _
     (rw (c .before .before .before .before .before .refusal .given .1) at (m .ensures))
     (k .ensures ∙ zeros-as (m .kept .1 .0))
 
@@ -32,7 +32,7 @@ returns-2 : tie.Need-returns-2
 returns-2 c =
     let b = c .before .before .before .before .before .before .before .before .before in
     let m = c .before .before .before .before .before .master-body in
-    fill-done _ _ _ _ _ (b .pre .1) (b .pre .0) _ _ _ (rw (c .before .rows .given .1) at (m .ensures))
+    fill-done _ _ _ _ _ _ (b .pre .1) (b .pre .0) _ _ _ (rw (c .before .rows .given .1) at (m .ensures))
 
 pub fill-spec : {M : Type 1} → statement M
 fill-spec =

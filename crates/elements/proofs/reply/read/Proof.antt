@@ -10,7 +10,7 @@ returns : tie.Need-returns
 returns c =
     let k = c .before .before .before .before .before .clear in
     let i = c .before .is-allowed in
-    not-allowed _ _ _ _ _ _ (failed _ _ (i .ensures ∙ allowed-as _ _ (k .kept .0)) (c .if1 .taken))
+    not-allowed _ _ _ _ _ _ _ (failed _ _ (i .ensures ∙ allowed-as _ _ (k .kept .0)) (c .if1 .taken))
     (k .ensures)
 
 fill-requires : tie.Need-fill-requires
@@ -22,7 +22,7 @@ fill-requires c κs =
 returns-2 : tie.Need-returns-2
 returns-2 c =
     let k = c .before .before .before .before .before .before .before .before .before .clear in
-    as-lent _ _ _ _ _ _ _ _ (k .kept .0) (c .before .before .fill .ensures)
+    as-lent _ _ _ _ _ _ _ _ _ (k .kept .0) (c .before .before .fill .ensures)
 
 pub read-spec : {M : Type 1} → statement M
 read-spec =
