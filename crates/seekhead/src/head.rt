@@ -2,7 +2,7 @@
 ghost use mathlib.Core.Path.{_≡_};
 ghost use mathlib.Core.List.{[], _∷_};
 ghost use Rattle.seekhead_rules.specs.Table.{later as laterOf, positionsFrom};
-ghost use Rattle.seekhead_rules.specs.Contract.{Readable, childTold, inserted, headTold};
+ghost use Rattle.seekhead_rules.specs.Contract.{Readable, Taken, childTold, inserted, headTold};
 use crate::seek::seek_body;
 use crate::skim::skim_body;
 use elements::element_header;
@@ -62,26 +62,38 @@ fn insert(table: Seektable, wanted: Wanted, seek: Seek) -> Seektable
 }
 
 // The table with the child of a head whose header was read: an entry if it is a Seek, else nothing more.
-fn head_child(recording: &[u8], wanted: Wanted, table: Seektable, child: Headed) -> HeadRead
-    requires { ⌜ Readable (now recording) child ⌝ }
-    ensures { λ r. ⌜ r ≡ childTold (now (recording .entry)) wanted table child ⌝ }
+fn head_child(
+    recording: &[u8],
+    live: bool,
+    wanted: Wanted,
+    table: Seektable,
+    child: Headed,
+) -> HeadRead
+    requires { ⌜ Taken live (now recording) child ⌝ }
+    ensures { λ r. ⌜ r ≡ childTold live (now (recording .entry)) wanted table child ⌝ }
 {
     if child.header.id == ids::SEEK {
-        return match seek_body(recording, child) {
+        return match seek_body(recording, live, child) {
             SeekRead::Refused(refusal) => HeadRead::Refused(refusal),
             SeekRead::Read(seek) => HeadRead::Read(insert(table, wanted, seek)),
         };
     }
-    match skim_body(recording, child, ids::SEGMENT, 0) {
+    match skim_body(recording, live, child, ids::SEGMENT, 0) {
         SkimRead::Refused(refusal) => HeadRead::Refused(refusal),
         SkimRead::Read(_) => HeadRead::Read(table),
     }
 }
 
 // The positions of the wanted ids with those of a head whose header was read, and its entry for a further head.
-pub fn head_body(recording: &[u8], wanted: Wanted, parts: Positions, head: Headed) -> HeadRead
+pub fn head_body(
+    recording: &[u8],
+    live: bool,
+    wanted: Wanted,
+    parts: Positions,
+    head: Headed,
+) -> HeadRead
     requires { ⌜ Readable (now recording) head ⌝ }
-    ensures { λ r. ⌜ r ≡ headTold (now (recording .entry)) wanted parts head ⌝ }
+    ensures { λ r. ⌜ r ≡ headTold live (now (recording .entry)) wanted parts head ⌝ }
 {
     let mut at = head.payload.at;
     let end = at + head.header.size;
@@ -91,11 +103,11 @@ pub fn head_body(recording: &[u8], wanted: Wanted, parts: Positions, head: Heade
     };
     while at < end {
         let place = Cursor { at };
-        match element_header(recording, place) {
+        match element_header(recording, live, place) {
             HeaderRead::Refused(refusal) => {
                 return HeadRead::Refused(refusal);
             }
-            HeaderRead::Read(child) => match head_child(recording, wanted, table, child) {
+            HeaderRead::Read(child) => match head_child(recording, live, wanted, table, child) {
                 HeadRead::Refused(refusal) => {
                     return HeadRead::Refused(refusal);
                 }

@@ -3,7 +3,7 @@ ghost use mathlib.Core.Path.{_≡_};
 ghost use Prim.Native.Nat.{min};
 ghost use Rattle.bodies_rules.specs.Bodies.{body as bodyIs};
 ghost use Rattle.seekhead_rules.specs.Seeks.{lastFour, noted as notedOf};
-ghost use Rattle.seekhead_rules.specs.Contract.{Readable, Whole, memberTold, seekTold};
+ghost use Rattle.seekhead_rules.specs.Contract.{Readable, Taken, Whole, memberTold, seekTold};
 use crate::skim::skim_body;
 use bodies_rules::Body;
 use bodies_rules::Value;
@@ -76,31 +76,31 @@ fn noted(recording: &[u8], seek: Seek, member: Headed, body: Body) -> Seek
 }
 
 // A Seek with the member whose header was read.
-fn seek_member(recording: &[u8], seek: Seek, member: Headed) -> SeekRead
-    requires { ⌜ Readable (now recording) member ⌝ }
-    ensures { λ r. ⌜ r ≡ memberTold (now (recording .entry)) seek member ⌝ }
+fn seek_member(recording: &[u8], live: bool, seek: Seek, member: Headed) -> SeekRead
+    requires { ⌜ Taken live (now recording) member ⌝ }
+    ensures { λ r. ⌜ r ≡ memberTold live (now (recording .entry)) seek member ⌝ }
 {
-    match skim_body(recording, member, ids::SEEK, 1) {
+    match skim_body(recording, live, member, ids::SEEK, 1) {
         SkimRead::Refused(refusal) => SeekRead::Refused(refusal),
         SkimRead::Read(body) => SeekRead::Read(noted(recording, seek, member, body)),
     }
 }
 
 // A Seek whose header was read, with its members.
-pub fn seek_body(recording: &[u8], element: Headed) -> SeekRead
+pub fn seek_body(recording: &[u8], live: bool, element: Headed) -> SeekRead
     requires { ⌜ Readable (now recording) element ⌝ }
-    ensures { λ r. ⌜ r ≡ seekTold (now (recording .entry)) element ⌝ }
+    ensures { λ r. ⌜ r ≡ seekTold live (now (recording .entry)) element ⌝ }
 {
     let mut at = element.payload.at;
     let end = at + element.header.size;
     let mut seek = Seek { id: 0, position: 0 };
     while at < end {
         let place = Cursor { at };
-        match element_header(recording, place) {
+        match element_header(recording, live, place) {
             HeaderRead::Refused(refusal) => {
                 return SeekRead::Refused(refusal);
             }
-            HeaderRead::Read(member) => match seek_member(recording, seek, member) {
+            HeaderRead::Read(member) => match seek_member(recording, live, seek, member) {
                 SeekRead::Refused(refusal) => {
                     return SeekRead::Refused(refusal);
                 }

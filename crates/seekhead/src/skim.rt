@@ -1,5 +1,5 @@
 // What follows a header, read by the element rules and without rows.
-ghost use Rattle.seekhead_rules.specs.Contract.{Readable, Shallow, Skimmed};
+ghost use Rattle.seekhead_rules.specs.Contract.{Taken, Shallow, Skimmed};
 use bodies::read_body;
 use bodies_rules::Body;
 use bodies_rules::BodyRead;
@@ -14,10 +14,10 @@ use refusals::Refusal;
 use seekhead_rules::SkimRead;
 
 // The body of an element whose header was read, under a parent id and at a depth. A master's elements are read too.
-pub fn skim_body(recording: &[u8], element: Headed, parent: u32, depth: u64) -> SkimRead
-    requires { ⌜ Readable (now recording) element ⌝ }
+pub fn skim_body(recording: &[u8], live: bool, element: Headed, parent: u32, depth: u64) -> SkimRead
+    requires { ⌜ Taken live (now recording) element ⌝ }
     requires { ⌜ Shallow depth ⌝ }
-    ensures { λ r. ⌜ Skimmed (now (recording .entry)) depth parent element r ⌝ }
+    ensures { λ r. ⌜ Skimmed live (now (recording .entry)) depth parent element r ⌝ }
 {
     let header = element.header;
     let kind = kind_of(header.id, parent);
@@ -29,7 +29,7 @@ pub fn skim_body(recording: &[u8], element: Headed, parent: u32, depth: u64) -> 
             row: 0,
             depth: below,
         };
-        let mode = Mode { keep: false };
+        let mode = Mode { keep: false, live };
         // The readers ask for a table; no row is kept in this one.
         let mut none = [0u64; 1];
         return match master_body(recording, &mut none, mode, payload, header.size, 0, above) {

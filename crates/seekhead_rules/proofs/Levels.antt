@@ -3,6 +3,7 @@
 use Prim.Native.Nat.{ℕ, _+_, _-_, _≤_, _<_}
 use mathlib.Core.Path.{_≡_, refl, sym, ap, _∙_}
 use mathlib.Core.List.{List}
+use mathlib.Core.Bool.{Bool}
 use native.Mathlib.Omega.{arith}
 use Rattle.refusals.specs.Refusals.{overrun}
 use Rattle.refusals.specs.declared.refusal.Refusal.{Refusal}
@@ -11,13 +12,13 @@ use Rattle.bodies_rules.specs.Bodies.{bodyOf}
 use Rattle.elements_rules.specs.Forest.{Forest, none, node, span, count, join}
 use Rattle.elements_rules.specs.Reading.{Outcome, done, refused, prepend, above, full, held, siblings, elementOf}
 use Rattle.elements_rules.specs.Reading.{elementHeaderRead, element, depths, masterBody}
+use Rattle.elements_rules.proofs.Parts.{step-read}
 use Rattle.elements_rules.proofs.Forests.{join-none, span-join, prepend-none, prepend-prepend}
 use Rattle.elements_rules.proofs.Reading.{el-refused, el-body, stops, child-refused, child-over, child-more}
-use Rattle.header.specs.Reads.{behind, headerAt}
+use Rattle.header.specs.Reads.{behind}
 use Rattle.seekhead_rules.specs.Seeks.{withoutRows}
 use Rattle.seekhead_rules.specs.Contract.{elementAt, told}
 use Rattle.header.specs.declared.cursor.Headed.{Headed}
-use Rattle.header.specs.declared.cursor.HeaderRead.{HeaderRead}
 use Rattle.header.specs.declared.cursor.HeaderRead.the-variants.{Read, Refused}
 use Rattle.header.proofs.Inside.{header-there}
 use Rattle.seekhead_rules.proofs.Uncounted.{rest-uncounted}
@@ -43,15 +44,10 @@ pub record Lawful (l : Level) : Type 0 where
   pub further :
       (at : ℕ) (f g : Forest) (a : l .A) → l .make at (join f g) a ≡ l .make (at + span f) g (l .make at f a)
 
--- The element rules read the header that is there.
-pub header-is : (s : List ℕ) (at : ℕ) (r : HeaderRead) → elementHeaderRead s at ≡ r → headerAt s at ≡ r
-unfolding headerAt
-header-is s at r q = q
-
-module _ (s : List ℕ) (l : Level) (law : Lawful l) where
+module _ (live : Bool) (s : List ℕ) (l : Level) (law : Lawful l) where
   -- What one element at an address makes of a value, told.
   abbrev pub child-told : ℕ → l .A → l .R
-  child-told at a = told (l .read) (l .stop) (λ f. l .make at f a) (elementAt s (l .depth) (l .parent) at)
+  child-told at a = told (l .read) (l .stop) (λ f. l .make at f a) (elementAt live s (l .depth) (l .parent) at)
 
   pub told-stopped : (make : Forest → l .A) (e : Refusal) (o : Outcome) → l .stop e ≡ told (l .read) (l .stop) make o
       → o ≡ refused e
@@ -64,28 +60,28 @@ module _ (s : List ℕ) (l : Level) (law : Lawful l) where
   told-read make x (refused e) q = absurd (law .other x e q)
 
   -- An element that was read takes its header and its size.
-  spans : (at : ℕ) (e : Headed) → headerAt s at ≡ Read e → (f : Forest) → elementAt s (l .depth) (l .parent) at ≡ done f
+  spans : (at : ℕ) (e : Headed) → elementHeaderRead live s at ≡ Read e → (f : Forest) → elementAt live s (l .depth) (l .parent) at ≡ done f
       → at + span f ≡ behind e
   unfolding span full
   spans at e q f k =
       let h = e .header in
       go (held at (bodyOf s (at + h .length) (h .size) (kindUnder (h .id) (l .parent)))
-      (masterBody s withoutRows 0 (l .depth + 1) (h .id) (at + h .length) (h .size) (0 + 1)))
-      (sym (el-body s withoutRows 0 (l .depth) (l .parent) at 0 e q (law .shallow) refl) ∙ k)
+      (masterBody s (withoutRows live) 0 (l .depth + 1) (h .id) (at + h .length) (h .size) (0 + 1)))
+      (sym (el-body s (withoutRows live) 0 (l .depth) (l .parent) at 0 e q (law .shallow) refl) ∙ k)
     where
       go : (o : Outcome) → above (elementOf (l .parent) (e .header)) o ≡ done f → at + span f ≡ behind e
       go (done kids) w =
-          let t = header-there s at e q in
+          let t = header-there s at e (step-read live s at e q .1) in
           let x : node (elementOf (l .parent) (e .header)) kids none ≡ f = cc in
           let y = ap span x in
           omega (arith, t .behind)
       go (refused r) w = let z : _≡_ {A = ℕ} 0 1 = cc in absurd (omega arith)
 
   abbrev child-read : ℕ → ℕ → Outcome
-  child-read = element s withoutRows 0 (depths - l .depth) (l .parent)
+  child-read = element s (withoutRows live) 0 (depths - l .depth) (l .parent)
 
   abbrev payload-read : ℕ → ℕ → Outcome
-  payload-read from size = masterBody s withoutRows 0 (l .depth) (l .parent) from size 0
+  payload-read from size = masterBody s (withoutRows live) 0 (l .depth) (l .parent) from size 0
 
   module _ (from end : ℕ) (first : l .A) where
     -- `ago` are the elements of the payload from `from` to `end` that were read so far, and `a` is what they make of
@@ -136,14 +132,14 @@ module _ (s : List ℕ) (l : Level) (law : Lawful l) where
             comes-to (refused e)
             (g .rest ∙ rw (child-refused child-read (g .most) at _ 0 e (omega arith) (g .enough) q))
 
-        pub pass-unread : (e : Refusal) → headerAt s at ≡ Refused e → l .stop e ≡ level-told
+        pub pass-unread : (e : Refusal) → elementHeaderRead live s at ≡ Refused e → l .stop e ≡ level-told
         pass-unread e q =
-            lost e (el-refused s withoutRows 0 (l .depth) (l .parent) at 0 e q)
+            lost e (el-refused s (withoutRows live) 0 (l .depth) (l .parent) at 0 e q)
 
-        module _ (e : Headed) (q : headerAt s at ≡ Read e) where
+        module _ (e : Headed) (q : elementHeaderRead live s at ≡ Read e) where
           -- The child's answer names its place by its header.
           here : (r : l .R) → r ≡ child-told (e .place .at) a → r ≡ child-told at a
-          here r w = w ∙ ap (λ (x : ℕ). child-told x a) (header-there s at e q .begins)
+          here r w = w ∙ ap (λ (x : ℕ). child-told x a) (header-there s at e (step-read live s at e q .1) .begins)
 
           pub pass-refused : (x : Refusal) → l .stop x ≡ child-told (e .place .at) a → l .stop x ≡ level-told
           pass-refused x w = lost x (told-stopped _ x _ (here (l .stop x) w))
@@ -156,15 +152,15 @@ module _ (s : List ℕ) (l : Level) (law : Lawful l) where
                 (g .rest ∙ rw (child-over child-read (g .most) at _ 0 f (omega arith) (g .enough) k
                 (omega (arith, spans at e q f k))))
 
-            step : (f : Forest) → elementAt s (l .depth) (l .parent) at ≡ done f → x ≡ l .make at f a → behind e ≤ end
+            step : (f : Forest) → elementAt live s (l .depth) (l .parent) at ≡ done f → x ≡ l .make at f a → behind e ≤ end
                 → Passing (behind e) x
             step f k y o =
                 let p = spans at e q f k in
-                let t = header-there s at e q in
+                let t = header-there s at e (step-read live s at e q .1) in
                 let (fewer, m, u) =
                 child-more child-read (g .most) at (end - at) 0 f (omega arith) (g .enough) k (omega arith) in
                 let b : end - at - span f ≡ end - behind e = omega arith in
-                let v = rest-uncounted s 0 (depths - l .depth) (l .parent) fewer (at + span f) (end - at - span f)
+                let v = rest-uncounted live s 0 (depths - l .depth) (l .parent) fewer (at + span f) (end - at - span f)
                 (0 + count f) in
                 let z : siblings child-read fewer (at + span f) (end - at - span f) 0
                 ≡ siblings child-read fewer (behind e) (end - behind e) 0 = cc in

@@ -3,6 +3,7 @@
 use Prim.Native.Nat.{ℕ, _+_}
 use mathlib.Core.Path.{_≡_, refl, ap, _∙_}
 use mathlib.Core.List.{List, [], _∷_, _++_, append-assoc}
+use mathlib.Core.Bool.{Bool}
 use native.Mathlib.Nat.{add-zero}
 use native.Mathlib.Omega.{arith}
 use borrow.Author.Tests.{ne-eqb}
@@ -13,8 +14,8 @@ use Rattle.kinds.specs.Kinds.{numberOf, kindIn, member, keeps, kindUnder}
 use Rattle.bodies_rules.specs.Bodies.{Told, body, bodyOf}
 use Rattle.bodies_rules.specs.declared.body.Body.{Body}
 use Rattle.elements_rules.specs.Forest.{Forest, none, node, whole, span, join}
-use Rattle.elements_rules.specs.Reading.{above, elementOf}
-use Rattle.header.specs.Reads.{headerAt}
+use Rattle.elements_rules.specs.Reading.{elementHeaderRead, above, elementOf}
+use Rattle.elements_rules.proofs.Parts.{step-read}
 use Rattle.seekhead_rules.specs.Seeks.{segmentId, seekHeadId, seekId, seekBody, noted, noSeek, withMembers}
 use Rattle.seekhead_rules.specs.Seeks.{entryOf, entries}
 use Rattle.seekhead_rules.specs.Table.{latestFrom}
@@ -101,11 +102,12 @@ children-law s wanted = record {
 
 -- ---- a member of a Seek
 
-pub member-more : (s : List ℕ) (seek : Seek) (e : Headed) → headerAt s (e .place .at) ≡ Read e
-    → (b : Body) → Holds s 1 seekId e b → (r : Seek) → r ≡ noted s e (body b) seek → SeekIs r ≡ memberTold s seek e
+pub member-more : (live : Bool) (s : List ℕ) (seek : Seek) (e : Headed)
+    → elementHeaderRead live s (e .place .at) ≡ Read e
+    → (b : Body) → Holds live s 1 seekId e b → (r : Seek) → r ≡ noted s e (body b) seek → SeekIs r ≡ memberTold live s seek e
 unfolding withMembers
-member-more s seek e q b x r w =
-    let t = header-there s (e .place .at) e q in
+member-more live s seek e q b x r w =
+    let t = header-there s (e .place .at) e (step-read live s (e .place .at) e q .1) in
     rw (x .holds) (ap SeekIs (w ∙ ap (λ (y : Told). noted s e y seek) (x .is)
     ∙ ap (λ (y : Headed).
     noted s y (bodyOf s (y .payload .at) (e .header .size) (kindUnder (e .header .id) seekId)) seek) (t .is)))
@@ -117,33 +119,33 @@ seek-is-master : (h : Header) → h .id ≡ seekId → numberOf (kindUnder (h .i
 unfolding kindUnder member keeps kindIn elements
 seek-is-master h q = rw q refl
 
-module _ (s : List ℕ) (wanted : Wanted) (table : Seektable) (e : Headed) where
+module _ (live : Bool) (s : List ℕ) (wanted : Wanted) (table : Seektable) (e : Headed) where
   -- What is no Seek adds nothing.
-  pub other-more : (e .header .id ≡ seekId → ⊥) → (b : Body) → Holds s 0 segmentId e b
-      → HeadIs table ≡ childTold s wanted table e
+  pub other-more : (e .header .id ≡ seekId → ⊥) → (b : Body) → Holds live s 0 segmentId e b
+      → HeadIs table ≡ childTold live s wanted table e
   unfolding withEntries entries entryOf latestFrom
   other-more o b x =
       rw (x .holds, ne-eqb (e .header .id) seekId o, positions-none wanted (table .parts)) refl
 
-  module _ (there : headerAt s (e .place .at) ≡ Read e) (q : e .header .id ≡ seekId) where
+  module _ (there : elementHeaderRead live s (e .place .at) ≡ Read e) (q : e .header .id ≡ seekId) where
     -- A Seek is its members.
-    by-members : elementAt s 0 segmentId (e .place .at) ≡ above (elementOf segmentId (e .header)) (seekBody s e)
+    by-members : elementAt live s 0 segmentId (e .place .at) ≡ above (elementOf segmentId (e .header)) (seekBody live s e)
     by-members =
-        by-elements s 0 segmentId e there (omega arith) (seek-is-master (e .header) q) ∙ rw q refl
+        by-elements live s 0 segmentId e there (omega arith) (seek-is-master (e .header) q) ∙ rw q refl
 
-    pub seek-refusal : (x : Refusal) → SeekRefused x ≡ seekTold s e → HeadRefused x ≡ childTold s wanted table e
-    seek-refusal x w = rw (by-members, told-stopped s (members s) (members-law s) _ x (seekBody s e) w) refl
+    pub seek-refusal : (x : Refusal) → SeekRefused x ≡ seekTold live s e → HeadRefused x ≡ childTold live s wanted table e
+    seek-refusal x w = rw (by-members, told-stopped live s (members s) (members-law s) _ x (seekBody live s e) w) refl
 
     its-entry : (f : Forest)
         → withMembers s (e .payload .at) f noSeek ∷ []
         ≡ entries s (e .place .at) (node (elementOf segmentId (e .header)) f none)
     unfolding entries entryOf
-    its-entry f = rw (q, header-there s (e .place .at) e there .behind) refl
+    its-entry f = rw (q, header-there s (e .place .at) e (step-read live s (e .place .at) e there .1) .behind) refl
 
-    pub seek-more : (x : Seek) → SeekIs x ≡ seekTold s e
-        → (r : Seektable) → r ≡ inserted wanted table (x ∷ []) → HeadIs r ≡ childTold s wanted table e
+    pub seek-more : (x : Seek) → SeekIs x ≡ seekTold live s e
+        → (r : Seektable) → r ≡ inserted wanted table (x ∷ []) → HeadIs r ≡ childTold live s wanted table e
     unfolding withEntries
     seek-more x w r i =
-        let (f, k, y) = told-read s (members s) (members-law s) _ x (seekBody s e) w in
+        let (f, k, y) = told-read live s (members s) (members-law s) _ x (seekBody live s e) w in
         rw (by-members, k) (ap HeadIs (i ∙ ap (λ (v : Seek). inserted wanted table (v ∷ [])) y
         ∙ ap (inserted wanted table) (its-entry f)))

@@ -2,7 +2,7 @@
 use Prim.Native.Nat.{ℕ, zero, suc, _+_, _-_}
 use mathlib.Core.Path.{_≡_, refl, sym, ap, _∙_}
 use mathlib.Core.List.{List}
-use mathlib.Core.Bool.{cond}
+use mathlib.Core.Bool.{Bool, cond}
 use lib.ListN.{drop}
 use lib.Dec.{ltb, eqb}
 use Rattle.header.specs.Header.{Heading, heading, headerOf}
@@ -12,8 +12,8 @@ use Rattle.header.specs.declared.cursor.Header.{Header}
 use Rattle.kinds.specs.Kinds.{kindUnder}
 use Rattle.bodies_rules.specs.Bodies.{bodyOf}
 use Rattle.elements_rules.specs.Forest.{Forest, none, span, count}
-use Rattle.elements_rules.specs.Reading.{Outcome, done, refused, andThen, prepend, above, refuseIf, headed, held, full}
-use Rattle.elements_rules.specs.Reading.{siblings, elementOf, element, depths, masterBody}
+use Rattle.elements_rules.specs.Reading.{elementHeader, Outcome, done, refused, andThen, prepend, above, refuseIf, headed, held, full}
+use Rattle.elements_rules.specs.Reading.{elementHeader, siblings, elementOf, element, depths, masterBody}
 use Rattle.seekhead_rules.specs.Seeks.{withoutRows}
 
 siblings-uncounted : (read : ℕ → ℕ → Outcome) → ((at n : ℕ) → read at n ≡ read at 0) → (most at left n : ℕ)
@@ -36,25 +36,25 @@ siblings-uncounted read same (suc most) at left n =
         (fewer (at + span f) (left - span f) (n + count f) ∙ sym (fewer (at + span f) (left - span f) (0 + count f)))
     go (refused e) fewer = refl
 
-module _ (s : List ℕ) (cap : ℕ) where
+module _ (live : Bool) (s : List ℕ) (cap : ℕ) where
   element-uncounted : (levels parent at n : ℕ)
-      → element s withoutRows cap levels parent at n ≡ element s withoutRows cap levels parent at 0
+      → element s (withoutRows live) cap levels parent at n ≡ element s (withoutRows live) cap levels parent at 0
   unfolding element full refuseIf
   element-uncounted zero parent at n = refl
-  element-uncounted (suc levels) parent at n = go (headerOf (drop at s)) (element-uncounted levels)
+  element-uncounted (suc levels) parent at n = go (elementHeader live s at) (element-uncounted levels)
     where
       body : ℕ → Header → Outcome
       body m h =
-          refuseIf (full withoutRows cap m) (noFreeRow at)
+          refuseIf (full (withoutRows live) cap m) (noFreeRow at)
           (above (elementOf parent h)
           (held at (bodyOf s (at + h .length) (h .size) (kindUnder (h .id) parent))
-          (siblings (element s withoutRows cap levels (h .id)) (h .size) (at + h .length) (h .size) (m + 1))))
+          (siblings (element s (withoutRows live) cap levels (h .id)) (h .size) (at + h .length) (h .size) (m + 1))))
 
       go : (x : Heading)
-          → ((p a m : ℕ) → element s withoutRows cap levels p a m ≡ element s withoutRows cap levels p a 0)
+          → ((p a m : ℕ) → element s (withoutRows live) cap levels p a m ≡ element s (withoutRows live) cap levels p a 0)
           → headed at x (body n) ≡ headed at x (body 0)
       go (heading h) lower =
-          let read = element s withoutRows cap levels (h .id) in
+          let read = element s (withoutRows live) cap levels (h .id) in
           let start = at + h .length in
           ap (λ (x : Outcome). above (elementOf parent h)
           (held at (bodyOf s start (h .size) (kindUnder (h .id) parent)) x))
@@ -63,14 +63,14 @@ module _ (s : List ℕ) (cap : ℕ) where
       go (refusedHeader e) lower = refl
 
   pub body-uncounted : (depth parent at size n : ℕ)
-      → masterBody s withoutRows cap depth parent at size n ≡ masterBody s withoutRows cap depth parent at size 0
+      → masterBody s (withoutRows live) cap depth parent at size n ≡ masterBody s (withoutRows live) cap depth parent at size 0
   unfolding masterBody
   body-uncounted depth parent at size n =
-      siblings-uncounted (element s withoutRows cap (depths - depth) parent)
+      siblings-uncounted (element s (withoutRows live) cap (depths - depth) parent)
       (element-uncounted (depths - depth) parent) size at size n
 
   pub rest-uncounted : (levels parent most at left n : ℕ)
-      → siblings (element s withoutRows cap levels parent) most at left n
-      ≡ siblings (element s withoutRows cap levels parent) most at left 0
+      → siblings (element s (withoutRows live) cap levels parent) most at left n
+      ≡ siblings (element s (withoutRows live) cap levels parent) most at left 0
   rest-uncounted levels parent most at left n =
-      siblings-uncounted (element s withoutRows cap levels parent) (element-uncounted levels parent) most at left n
+      siblings-uncounted (element s (withoutRows live) cap levels parent) (element-uncounted levels parent) most at left n

@@ -2,6 +2,7 @@
 use Prim.Native.Nat.{ℕ, _-_, _≤_, _<_}
 use mathlib.Core.Path.{_≡_}
 use mathlib.Core.List.{List}
+use mathlib.Core.Bool.{Bool}
 use lib.ListN.{length}
 use Rattle.header.specs.Promise.{mostBytes}
 use Rattle.refusals.specs.declared.refusal.Refusal.{Refusal}
@@ -9,7 +10,7 @@ use Rattle.kinds.specs.Kinds.{kindUnder}
 use Rattle.bodies_rules.specs.Bodies.{body, bodyOf}
 use Rattle.bodies_rules.specs.declared.body.Body.{Body}
 use Rattle.elements_rules.specs.Forest.{Forest, none, node}
-use Rattle.elements_rules.specs.Reading.{Outcome, done, refused, depths, elementOf, element}
+use Rattle.elements_rules.specs.Reading.{Outcome, done, refused, elementHeaderRead, depths, elementOf, element}
 use Rattle.header.specs.Reads.{behind, headerAt}
 use Rattle.seekhead_rules.specs.Seeks.{segmentId, seekHeadId, seekId, withoutRows, noSeek, withMembers}
 use Rattle.seekhead_rules.specs.Seeks.{headOf, seekBody, entries}
@@ -33,6 +34,11 @@ pub record Readable (s : List ℕ) (e : Headed) : Type 0 where
   pub small : length s ≤ mostBytes
   pub there : headerAt s (e .place .at) ≡ Read e
 
+-- What a reader of an element of a payload asks: its header was read by the element rules.
+pub record Taken (live : Bool) (s : List ℕ) (e : Headed) : Type 0 where
+  pub small : length s ≤ mostBytes
+  pub there : elementHeaderRead live s (e .place .at) ≡ Read e
+
 -- The whole payload of an element is in the recording.
 abbrev pub Whole : List ℕ → Headed → Type 0
 Whole s e = behind e ≤ length s
@@ -42,20 +48,20 @@ abbrev pub Shallow : ℕ → Type 0
 Shallow depth = depth < depths
 
 -- An element at an address that is read without rows, at a depth and under a parent id.
-abbrev pub elementAt : List ℕ → (depth parent at : ℕ) → Outcome
-elementAt s depth parent at = element s withoutRows 0 (depths - depth) parent at 0
+abbrev pub elementAt : (live : Bool) → List ℕ → (depth parent at : ℕ) → Outcome
+elementAt live s depth parent at = element s (withoutRows live) 0 (depths - depth) parent at 0
 
 -- A body that was read, and the elements below it.
-pub record Holds (s : List ℕ) (depth parent : ℕ) (e : Headed) (b : Body) : Type 0 where
+pub record Holds (live : Bool) (s : List ℕ) (depth parent : ℕ) (e : Headed) (b : Body) : Type 0 where
   pub kids : Forest
-  pub holds : elementAt s depth parent (e .place .at) ≡ done (node (elementOf parent (e .header)) kids none)
+  pub holds : elementAt live s depth parent (e .place .at) ≡ done (node (elementOf parent (e .header)) kids none)
   pub is : body b ≡ bodyOf s (e .payload .at) (e .header .size) (kindUnder (e .header .id) parent)
   pub inside : Whole s e
 
 -- What `skim_body` answers: the body and what it holds, or the element's refusal.
-pub record Skimmed (s : List ℕ) (depth parent : ℕ) (e : Headed) (r : SkimRead) : Type 0 where
-  pub refusal : (x : Refusal) → r ≡ SkimRefused x → elementAt s depth parent (e .place .at) ≡ refused x
-  pub body : (b : Body) → r ≡ Skim b → Holds s depth parent e b
+pub record Skimmed (live : Bool) (s : List ℕ) (depth parent : ℕ) (e : Headed) (r : SkimRead) : Type 0 where
+  pub refusal : (x : Refusal) → r ≡ SkimRefused x → elementAt live s depth parent (e .place .at) ≡ refused x
+  pub body : (b : Body) → r ≡ Skim b → Holds live s depth parent e b
 
 -- ---- how the readers tell
 
@@ -65,13 +71,13 @@ told read stop make (done f) = read (make f)
 told read stop make (refused e) = stop e
 
 -- A Seek with one more member: `seek_member`.
-abbrev pub memberTold : List ℕ → Seek → Headed → SeekRead
-memberTold s seek e =
-    told SeekIs SeekRefused (λ f. withMembers s (e .place .at) f seek) (elementAt s 1 seekId (e .place .at))
+abbrev pub memberTold : (live : Bool) → List ℕ → Seek → Headed → SeekRead
+memberTold live s seek e =
+    told SeekIs SeekRefused (λ f. withMembers s (e .place .at) f seek) (elementAt live s 1 seekId (e .place .at))
 
 -- A Seek with all its members: `seek_body`.
-abbrev pub seekTold : List ℕ → Headed → SeekRead
-seekTold s e = told SeekIs SeekRefused (λ f. withMembers s (e .payload .at) f noSeek) (seekBody s e)
+abbrev pub seekTold : (live : Bool) → List ℕ → Headed → SeekRead
+seekTold live s e = told SeekIs SeekRefused (λ f. withMembers s (e .payload .at) f noSeek) (seekBody live s e)
 
 -- A table with more entries, and with those of the elements that begin at an address.
 abbrev pub inserted : Wanted → Seektable → List Seek → Seektable
@@ -82,16 +88,16 @@ unfoldable pub withEntries : List ℕ → Wanted → ℕ → Forest → Seektabl
 withEntries s wanted at f table = inserted wanted table (entries s at f)
 
 -- A table with one more child of a head: `head_child`.
-abbrev pub childTold : List ℕ → Wanted → Seektable → Headed → HeadRead
-childTold s wanted table e =
+abbrev pub childTold : (live : Bool) → List ℕ → Wanted → Seektable → Headed → HeadRead
+childTold live s wanted table e =
     told HeadIs HeadRefused (λ f. withEntries s wanted (e .place .at) f table)
-    (elementAt s 0 segmentId (e .place .at))
+    (elementAt live s 0 segmentId (e .place .at))
 
 -- Before a head was read, with the positions by those before.
 abbrev pub fresh : Positions → Seektable
 fresh parts = record { parts = parts; head = Nowhere }
 
 -- The positions with those of a head, and the link to a further one: `head_body`.
-abbrev pub headTold : List ℕ → Wanted → Positions → Headed → HeadRead
-headTold s wanted parts e =
-    told HeadIs HeadRefused (λ f. withEntries s wanted (e .payload .at) f (fresh parts)) (headOf s e)
+abbrev pub headTold : (live : Bool) → List ℕ → Wanted → Positions → Headed → HeadRead
+headTold live s wanted parts e =
+    told HeadIs HeadRefused (λ f. withEntries s wanted (e .payload .at) f (fresh parts)) (headOf live s e)

@@ -1,7 +1,7 @@
 -- One seek head and its entries (document 01, Seek tables and the search).
 use Prim.Native.Nat.{ℕ, _+_, _-_}
 use mathlib.Core.List.{List, [], _∷_, _++_}
-use mathlib.Core.Bool.{cond, false}
+use mathlib.Core.Bool.{Bool, cond, false}
 use lib.ListN.{drop}
 use lib.Dec.{eqb}
 use Rattle.header.specs.Vint.{bigEndian}
@@ -31,22 +31,22 @@ seekIdId = 0x53AB
 abbrev pub seekPositionId : ℕ
 seekPositionId = 0x53AC
 
--- A read without rows.
-abbrev pub withoutRows : Mode
-withoutRows = record { keep = false }
+-- A read without rows, in live mode or in old mode.
+abbrev pub withoutRows : (live : Bool) → Mode
+withoutRows live = record { keep = false; live = live }
 
 -- The whole payload of an element, read by the element rules without rows: its direct children have that depth, and
 -- stand under that id.
-abbrev pub skimmed : List ℕ → (depth parent : ℕ) → Headed → Outcome
-skimmed s depth parent e = masterBody s withoutRows 0 depth parent (e .payload .at) (e .header .size) 0
+abbrev pub skimmed : (live : Bool) → List ℕ → (depth parent : ℕ) → Headed → Outcome
+skimmed live s depth parent e = masterBody s (withoutRows live) 0 depth parent (e .payload .at) (e .header .size) 0
 
 -- A seek head's direct children have depth 0, and Segment's full set of kinds applies to them. A Seek's members have
 -- depth 1.
-abbrev pub headOf : List ℕ → Headed → Outcome
-headOf s head = skimmed s 0 segmentId head
+abbrev pub headOf : (live : Bool) → List ℕ → Headed → Outcome
+headOf live s head = skimmed live s 0 segmentId head
 
-abbrev pub seekBody : List ℕ → Headed → Outcome
-seekBody s seek = skimmed s 1 seekId seek
+abbrev pub seekBody : (live : Bool) → List ℕ → Headed → Outcome
+seekBody live s seek = skimmed live s 1 seekId seek
 
 -- ---- a Seek
 

@@ -14,7 +14,7 @@ returns c = rw (c .before .before .before .skim-body .ensures .refusal _ (c .bef
 returns-2 : tie.Need-returns-2
 returns-2 c =
     let s = c .before .before .before .before in
-    member-more _ _ _ (s .before .before .pre .there) _
+    member-more _ _ _ _ (s .before .before .pre .there) _
     (s .skim-body .ensures .body _ (c .before .before .body .given .1)) _ (c .noted .ensures)
 
 pub seek-member-spec : {M : Type 1} → statement M
