@@ -15,7 +15,14 @@ use rowstore::clear;
 use rowstore::is_allowed;
 
 // The reading into a cleared table, in live mode or in old mode, with arguments that are allowed.
-pub fn fill(recording: &[u8], live: bool, start: u64, size: u64, parent: u32, table: &mut [u64]) -> ReadReply
+pub fn fill(
+    recording: &[u8],
+    live: bool,
+    start: u64,
+    size: u64,
+    parent: u32,
+    table: &mut [u64],
+) -> ReadReply
     requires { ⌜ allowed (now recording) start (length (now table)) ≡ true ⌝ }
     requires { ⌜ now table ≡ zeros (length (now table)) ⌝ }
     ensures { λ r. ⌜ ReadPromise live (now (recording .entry)) start size parent
@@ -39,7 +46,14 @@ pub fn fill(recording: &[u8], live: bool, start: u64, size: u64, parent: u32, ta
 
 // The elements of the payload of `size` bytes from `start` on, under a parent id, into the table; in live mode, which
 // knows unknown sizes, or in old mode. A refusal fills the table with zeros. 14: a length is broken, or the start is past the end.
-pub fn read(recording: &[u8], live: bool, start: u64, size: u64, parent: u32, table: &mut [u64]) -> ReadReply
+pub fn read(
+    recording: &[u8],
+    live: bool,
+    start: u64,
+    size: u64,
+    parent: u32,
+    table: &mut [u64],
+) -> ReadReply
     ensures { λ r. ⌜ ReadPromise live (now (recording .entry)) start size parent
         (now (table .entry)) r (now (table .exit)) ⌝ }
 {

@@ -41,7 +41,7 @@ read-body at n (refusedBody c) b next q = let x : _≡_ {A = ℕ} 0 1 = cc in ab
 other-answer : {A : Type 0} {e : Refusal} {b : Body} → SkimRefused e ≡ Skim b → A
 other-answer q = let z : _≡_ {A = ℕ} 0 1 = cc in let z′ : ⊥ = omega arith in absurd z′
 
-module _ (live : Bool) (s : List ℕ) (depth parent : ℕ) (e : Headed) 
+module _ (live : Bool) (s : List ℕ) (depth parent : ℕ) (e : Headed)
     (there : elementHeaderRead live s (e .place .at) ≡ HeaderIs e) (d : depth < depths) where
   -- The elements of a master, and what the element is therefore.
   abbrev below : Outcome
