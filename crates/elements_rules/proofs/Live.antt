@@ -1,5 +1,5 @@
 -- Live mode beside old mode (`BodyLiveOr`, `LiveReads`, `EqualReads`, `RowsKnown`). Assumes nothing.
-use Prim.Native.Nat.{ℕ, zero, suc, _+_, _-_, _/_}
+use Prim.Native.Nat.{ℕ, zero, suc, _+_, _-_, _/_, _≤_}
 use mathlib.Core.Path.{_≡_, refl, sym, ap, _∙_, subst}
 use mathlib.Core.List.{List}
 use mathlib.Core.Logic.{_⊎_, inl, inr}
@@ -40,7 +40,7 @@ use Rattle.elements_rules.proofs.Standing.{read-stands}
 use Rattle.elements_rules.proofs.Readback.{accepted-read}
 use Rattle.elements_rules.proofs.Sound.{each-append}
 use Rattle.elements_rules.proofs.Unique.{replied, replied-back}
-use Rattle.elements_rules.proofs.Faults.{reading-honest}
+use Rattle.elements_rules.proofs.Faults.{body-found, reading-honest}
 
 pub none-is-all : NoneIsAll
 none-is-all s reached k a x h r y q = k a h q
@@ -167,6 +167,32 @@ unfolding masterBody
 body-live-or s keep cap depth parent at size n =
     siblings-or _ _ (element-or s keep cap (depths - depth) parent) size at size n
 
+-- A reader that comes to known sizes alone does not come to one that is barred.
+never-barred : (s : List ℕ) (keep : Bool) (cap depth parent at size n a : ℕ) (x : Errand)
+    → AllKnown s (Comes s (record { keep = keep; live = false }) cap depth parent at size n)
+    → Comes s (record { keep = keep; live = true }) cap depth parent at size n a x → Unsized s a x → ⊥
+never-barred s keep cap depth parent at size n a x k c (unsized h w b) =
+    let o = comes-old s keep cap depth parent at size n a x c in
+    let y = sym (k a (o .errand) h (o .comes) (o .reads) w) ∙ sym (o .bars h) ∙ b in
+    let z : _≡_ {A = ℕ} 0 1 = cc in
+    omega arith
+
+-- If no header that is read in old mode has an unknown size, a master's body is the same in live mode.
+pub body-known : (s : List ℕ) (keep : Bool) (cap depth parent at size n : ℕ) → depth ≤ depths
+    → AllKnown s (Comes s (record { keep = keep; live = false }) cap depth parent at size n)
+    → masterBody s (record { keep = keep; live = true }) cap depth parent at size n
+    ≡ masterBody s (record { keep = keep; live = false }) cap depth parent at size n
+body-known s keep cap depth parent at size n d k = by (body-live-or s keep cap depth parent at size n)
+  where
+    by : LiveOr (masterBody s (record { keep = keep; live = false }) cap depth parent at size n)
+        (masterBody s (record { keep = keep; live = true }) cap depth parent at size n)
+        → masterBody s (record { keep = keep; live = true }) cap depth parent at size n
+        ≡ masterBody s (record { keep = keep; live = false }) cap depth parent at size n
+    by (seventeen a e) =
+        let f = body-found s (record { keep = keep; live = true }) cap depth parent at size n (unknownSize a) d e in
+        absurd (never-barred s keep cap depth parent at size n a (f .errand) k (f .reached) (f .fault))
+    by (equal e) = e
+
 -- ---- the public read
 
 pub filled-or : (s : List ℕ) (start size parent numbers : ℕ)
@@ -199,15 +225,9 @@ pub known-reading : (s : List ℕ) (start size parent numbers a : ℕ)
 known-reading s start size parent numbers a k q =
     by (reading-honest true s start size parent numbers (unknownSize a) q)
   where
-    at-fault : (x : Errand) → Comes s (keeping true) (numbers / width) 0 parent start size 0 a x → Unsized s a x → ⊥
-    at-fault x c (unsized h w b) =
-        let o = comes-old s true (numbers / width) 0 parent start size 0 a x c in
-        let y = sym (k a (o .errand) h (o .comes) (o .reads) w) ∙ sym (o .bars h) ∙ b in
-        let z : _≡_ {A = ℕ} 0 1 = cc in
-        omega arith
-
     by : HonestReading true s start size parent numbers (unknownSize a) → ⊥
-    by (there f) = at-fault (f .errand) (f .reached) (f .fault)
+    by (there f) =
+        never-barred s true (numbers / width) 0 parent start size 0 a (f .errand) k (f .reached) (f .fault)
     by (callers (inl z) e) = let y : _≡_ {A = ℕ} 0 1 = cc in omega arith
     by (callers (inr z) e) = let y : _≡_ {A = ℕ} 0 1 = cc in omega arith
 

@@ -16,7 +16,7 @@ use Rattle.seekhead_rules.specs.Seeks.{lastFour, withMembers, entryOf, entries}
 use Rattle.seekhead_rules.specs.Table.{later, latestFrom}
 use Rattle.seekchain_rules.specs.Heads.{sought, lastHead, nextHead, chain}
 use Rattle.seekchain_rules.specs.Lookup.{partAt, byHeads}
-use Rattle.seekchain_rules.specs.Step.{childAt}
+use Rattle.walks_rules.specs.Step.{childAt}
 use Rattle.segments_rules.specs.Walk.{walk}
 use Rattle.segments_rules.specs.Segment.{segmentOf, visit, segmentChildren, lookupOf}
 use Rattle.search_rules.specs.Part.{parentOf, searchOf}

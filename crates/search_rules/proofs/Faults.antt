@@ -27,12 +27,13 @@ use Rattle.elements_rules.specs.Faults.{Errand, toHeader, toPass, headerAlone, 
 use Rattle.elements_rules.specs.Faults.{FaultThere, Honest, there, callers}
 use Rattle.elements_rules.proofs.Faults.{header-fault, filled-found}
 use Rattle.seekhead_rules.specs.Seeks.{segmentId, seekHeadId}
-use Rattle.seekchain_rules.specs.Answers.{onHeader, onOutcome}
-use Rattle.seekchain_rules.specs.Step.{childAt, onChild}
+use Rattle.walks_rules.specs.Answers.{onHeader}
+use Rattle.seekchain_rules.specs.Answers.{onOutcome}
+use Rattle.walks_rules.specs.Step.{childAt, onChild}
 use Rattle.seekchain_rules.specs.Lookup.{Lookup, stopped}
 use Rattle.seekchain_rules.specs.Lookup.{found as foundAt, absent as absentAt, byHeads}
-use Rattle.seekchain_rules.specs.declared.step.ChildRead.{ChildRead}
-use Rattle.seekchain_rules.specs.declared.step.ChildRead.the-variants.{Child, End, Refused as ChildRefused}
+use Rattle.walks_rules.specs.declared.step.ChildRead.{ChildRead}
+use Rattle.walks_rules.specs.declared.step.ChildRead.the-variants.{Child, End, Refused as ChildRefused}
 use Rattle.seekchain_rules.proofs.Sought.{child-is}
 use Rattle.seekchain_rules.proofs.Faults.{past-end, step-ended, step-refused, heads-honest}
 use Rattle.segments_rules.specs.Walk.{Visit, ends, over, onVisit, Walk, walk, walkFrom}

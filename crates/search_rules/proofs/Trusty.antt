@@ -16,7 +16,7 @@ use Rattle.header.specs.declared.cursor.HeaderRead.{HeaderRead}
 use Rattle.header.specs.declared.cursor.HeaderRead.the-variants.{Read, Refused}
 use Rattle.header.proofs.Inside.{header-there}
 use Rattle.seekhead_rules.specs.Seeks.{seekHeadId}
-use Rattle.seekchain_rules.specs.Answers.{onHeader}
+use Rattle.walks_rules.specs.Answers.{onHeader}
 use Rattle.seekchain_rules.specs.Lookup.{Lookup, found, absent, stopped, byHeads}
 use Rattle.seekchain_rules.specs.Theorems.{IsAt, AreHeads, Distinct, GoodHeads, ByHeads}
 use Rattle.seekchain_rules.proofs.Leads.{heads-lead}

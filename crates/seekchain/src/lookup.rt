@@ -1,6 +1,6 @@
 // The part that the seek heads lead to.
 ghost use mathlib.Core.Path.{_≡_};
-ghost use Rattle.seekhead_rules.specs.Contract.{Readable};
+ghost use Rattle.walks_rules.specs.Contract.{Readable};
 ghost use Rattle.seekchain_rules.specs.Lookup.{byHeads};
 ghost use Rattle.seekchain_rules.specs.Contract.{placeTold, PartMet};
 use crate::heads::is_too_far;

@@ -2,6 +2,7 @@
 use Prim.Native.Nat.{ℕ, suc, _+_, _-_, _<_}
 use mathlib.Core.Path.{_≡_, refl, sym, ap, _∙_}
 use mathlib.Core.List.{List, [], _∷_, _++_}
+use mathlib.Core.Bool.{Bool}
 use native.Mathlib.Omega.{arith}
 use lib.ListN.{length, take, set, length-set, length-append}
 use lib.Seq.{length-take-le}
@@ -32,26 +33,26 @@ use Rattle.seekchain_rules.specs.declared.heads.HeadsRead.the-variants.{
 use Rattle.seekchain_rules.proofs.Seen.{noted-address, last-noted}
 use Rattle.seekchain_rules.proofs.Sought.{next-is}
 
-unfolds : (s : List ℕ) (start : ℕ) (heads : Heads) (head : Headed) → length (heads .addresses) < mostHeads
-    → headsFrom s start heads head
-    ≡ onOutcome (headOf s head) broken (λ f.
+unfolds : (live : Bool) (s : List ℕ) (start : ℕ) (heads : Heads) (head : Headed) → length (heads .addresses) < mostHeads
+    → headsFrom live s start heads head
+    ≡ onOutcome (headOf live s head) broken (λ f.
     let own = entries s (head .payload .at) f in
     let all = withHead heads head own in
-    onNext (nextHead s start (all .addresses) (latest seekHeadId own)) (chained all) broken (headsFrom s start all))
+    onNext (nextHead live s start (all .addresses) (latest seekHeadId own)) (chained all) broken (headsFrom live s start all))
 unfolding chain
-unfolds s start heads head l =
+unfolds live s start heads head l =
     let m : mostHeads - length (heads .addresses) ≡ suc (mostHeads - (length (heads .addresses) + 1)) = omega arith in
     rw (m, ← (length-append (heads .addresses) (head .place .at ∷ []))) refl
 
-pub chain-unfolds : ChainUnfolds
-chain-unfolds =
-    record { unfolds = unfolds; bounded = λ s start seen link head q. next-is s start seen head link q .few }
+pub chain-unfolds : (live : Bool) → ChainUnfolds live
+chain-unfolds live =
+    record { unfolds = unfolds live; bounded = λ s start seen link head q. next-is live s start seen head link q .few }
 
 -- ---- the loop over the heads
 
-module _ (s : List ℕ) (wanted : Wanted) (start : ℕ) (first : Headed) where
+module _ (live : Bool) (s : List ℕ) (wanted : Wanted) (start : ℕ) (first : Headed) where
   abbrev all-heads : Chain
-  all-heads = linkedHeads s start first
+  all-heads = linkedHeads live s start first
 
   abbrev read-so-far : List ℕ → ℕ → List Seek → Heads
   read-so-far seen n es = record { addresses = take n seen; entries = es }
@@ -62,7 +63,7 @@ module _ (s : List ℕ) (wanted : Wanted) (start : ℕ) (first : Headed) where
     pub few : n < 64
     pub long : length seen ≡ 64
     pub there : headerAt s (head .place .at) ≡ Read head
-    pub rest : all-heads ≡ chain s start (64 - n) (read-so-far seen n es) head
+    pub rest : all-heads ≡ chain live s start (64 - n) (read-so-far seen n es) head
     pub are : parts ≡ positions wanted es
 
   pub chaining-holds : (seen : List ℕ) → length seen ≡ 64 → headerAt s (first .place .at) ≡ Read first
@@ -80,11 +81,11 @@ module _ (s : List ℕ) (wanted : Wanted) (start : ℕ) (first : Headed) where
     more : 64 - n ≡ suc (63 - n)
     more = omega (arith, g .few)
 
-    pub chaining-lost : (e : Refusal) → HeadRefused e ≡ headTold s wanted parts head
+    pub chaining-lost : (e : Refusal) → HeadRefused e ≡ headTold live s wanted parts head
         → HeadsRefused e ≡ headsTold wanted all-heads
     unfolding chain
     chaining-lost e q =
-        let k = told-stopped s (children s wanted) (children-law s wanted) _ e (headOf s head) q in
+        let k = told-stopped live s (children s wanted) (children-law s wanted) _ e (headOf live s head) q in
         rw (g .rest, more, k) refl
 
     -- The addresses, with this head's.
@@ -98,18 +99,18 @@ module _ (s : List ℕ) (wanted : Wanted) (start : ℕ) (first : Headed) where
     pub chaining-last : head .place .at ≡ lastHead (take (n + 1) seen-now)
     chaining-last = last-noted seen n (head .place .at) (omega (arith, g .few, g .long))
 
-    module _ (found : Seektable) (q : HeadIs found ≡ headTold s wanted parts head) where
+    module _ (found : Seektable) (q : HeadIs found ≡ headTold live s wanted parts head) where
       -- The head was read, and its own entries are known.
       record Followed : Type 0 where
         own : List Seek
         is :
             all-heads
-            ≡ onNext (nextHead s start (take (n + 1) seen-now) (found .head))
+            ≡ onNext (nextHead live s start (take (n + 1) seen-now) (found .head))
             (chained (read-so-far seen-now (n + 1) (g .es ++ own))) broken
-            (chain s start (63 - n) (read-so-far seen-now (n + 1) (g .es ++ own)))
+            (chain live s start (63 - n) (read-so-far seen-now (n + 1) (g .es ++ own)))
         are : found .parts ≡ positions wanted (g .es ++ own)
 
-      follow : (f : Forest) → headOf s head ≡ done f
+      follow : (f : Forest) → headOf live s head ≡ done f
           → found ≡ withEntries s wanted (head .payload .at) f (fresh parts) → Followed
       unfolding chain withEntries
       follow f k e =
@@ -127,14 +128,14 @@ module _ (s : List ℕ) (wanted : Wanted) (start : ℕ) (first : Headed) where
 
       followed : Followed
       followed =
-          let (f, k, e) = told-read s (children s wanted) (children-law s wanted) _ found (headOf s head) q in
+          let (f, k, e) = told-read live s (children s wanted) (children-law s wanted) _ found (headOf live s head) q in
           follow f k e
 
-      pub chaining-stops : (e : Refusal) → Refused e ≡ nextHead s start (take (n + 1) seen-now) (found .head)
+      pub chaining-stops : (e : Refusal) → Refused e ≡ nextHead live s start (take (n + 1) seen-now) (found .head)
           → HeadsRefused e ≡ headsTold wanted all-heads
       chaining-stops e k = rw (followed .is, ← k) refl
 
-      pub chaining-ends : Last ≡ nextHead s start (take (n + 1) seen-now) (found .head)
+      pub chaining-ends : Last ≡ nextHead live s start (take (n + 1) seen-now) (found .head)
           → HeadsAre (found .parts) (n + 1) (head .place .at) ≡ headsTold wanted all-heads
       chaining-ends k =
           let l = length-take-le (n + 1) seen-now (omega (arith, seen-long, g .few)) in
@@ -142,11 +143,11 @@ module _ (s : List ℕ) (wanted : Wanted) (start : ℕ) (first : Headed) where
           ∙ rw (followed .is, ← k, l)
           (ap (λ (x : ℕ). HeadsAre (positions wanted (g .es ++ followed .own)) (n + 1) x) chaining-last)
 
-      pub chaining-on : (next : Headed) → Next next ≡ nextHead s start (take (n + 1) seen-now) (found .head)
+      pub chaining-on : (next : Headed) → Next next ≡ nextHead live s start (take (n + 1) seen-now) (found .head)
           → Chaining seen-now (n + 1) next (found .parts)
       chaining-on next k =
           let w = followed in
-          let i = next-is s start (take (n + 1) seen-now) next (found .head) (sym k) in
+          let i = next-is live s start (take (n + 1) seen-now) next (found .head) (sym k) in
           let l = length-take-le (n + 1) seen-now (omega (arith, seen-long, g .few)) in
           let m : 63 - n ≡ 64 - (n + 1) = omega arith in
           record {

@@ -6,3 +6,4 @@ pub mod Chains
 pub mod Leads
 pub mod Faults
 pub mod Lookups
+pub mod Live

@@ -2,6 +2,7 @@
 use Prim.Native.Nat.{ℕ}
 use mathlib.Core.Path.{_≡_}
 use mathlib.Core.List.{List}
+use mathlib.Core.Bool.{Bool}
 use lib.ListN.{length}
 use Rattle.seekhead_rules.specs.Table.{positions}
 use Rattle.seekhead_rules.specs.declared.head.Wanted.{Wanted}
@@ -27,7 +28,7 @@ placeTold (absent heads) = Absent (length heads)
 placeTold (stopped e) = Refused e
 
 -- What `part_at` answers where so many heads were read: it needs their count and the last one alone.
-abbrev pub PartMet : List ℕ → (wanted start n last : ℕ) → Latest → PartPlace → Type 0
-PartMet s wanted start n last link r =
+abbrev pub PartMet : (live : Bool) → List ℕ → (wanted start n last : ℕ) → Latest → PartPlace → Type 0
+PartMet live s wanted start n last link r =
     (heads : List ℕ) → length heads ≡ n → lastHead heads ≡ last
-    → r ≡ placeTold (partAt s wanted start heads link)
+    → r ≡ placeTold (partAt live s wanted start heads link)

@@ -16,8 +16,10 @@ use Rattle.seekhead_rules.specs.Seeks.{seekHeadId, headOf, entries}
 use Rattle.seekhead_rules.specs.Table.{onLatest, latest}
 use Rattle.seekhead_rules.specs.declared.seek.Seek.{Seek}
 use Rattle.seekhead_rules.specs.declared.head.Latest.{Latest}
-use Rattle.seekchain_rules.specs.Answers.{onHeader, onOutcome}
-use Rattle.seekchain_rules.specs.Step.{childAt, onChild}
+use Rattle.walks_rules.specs.Answers.{onHeader}
+use Rattle.seekchain_rules.specs.Answers.{onOutcome}
+use Rattle.walks_rules.specs.Step.{childAt, onChild}
+use Rattle.walks_rules.specs.declared.step.Stretch.the-variants.{Sized}
 use Rattle.seekchain_rules.specs.declared.heads.NextHead.{NextHead}
 use Rattle.seekchain_rules.specs.declared.heads.NextHead.the-variants.{Next, Last, Refused}
 
@@ -31,11 +33,11 @@ lastAddress = 18446744073709551615
 abbrev pub tooFar : (start position : ℕ) → Bool
 tooFar start position = ltb lastAddress (start + position)
 
--- The element that a sought address holds, up to the recording's end: 1 past it, 9 where its id is another, each at
--- the address.
-unfoldable pub sought : List ℕ → (address id : ℕ) → HeaderRead
-sought s address id =
-    onChild (childAt s (length s) address) (HeaderRefused (pastEnd address)) HeaderRefused (λ e.
+-- The element that a sought address holds, up to the recording's end: 1 past it, header, 17, 9 where its id is another,
+-- each at the address.
+unfoldable pub sought : (live : Bool) → List ℕ → (address id : ℕ) → HeaderRead
+sought live s address id =
+    onChild (childAt live s (Sized (length s)) address) (HeaderRefused (pastEnd address)) HeaderRefused (λ e.
     cond (eqb (e .header .id) id) (Read e) (HeaderRefused (staleEntry address)))
 
 -- ---- the next head
@@ -52,13 +54,13 @@ lastHead (a ∷ b ∷ rest) = lastHead (b ∷ rest)
 
 -- The head that a head's entry for one leads to, where the heads at some addresses were read: 8, 10, 11, header, 9.
 -- Without such an entry there is none. 8 is at the last head that was read, 10 and 11 at the one that is not.
-unfoldable pub nextHead : List ℕ → (start : ℕ) (seen : List ℕ) (link : Latest) → NextHead
-nextHead s start seen link =
+unfoldable pub nextHead : (live : Bool) → List ℕ → (start : ℕ) (seen : List ℕ) (link : Latest) → NextHead
+nextHead live s start seen link =
     onLatest link Last (λ position.
     cond (tooFar start position) (Refused (invalidSeekHead seekHeadId (lastHead seen)))
     (cond (member (start + position) seen) (Refused (headAgain (start + position)))
     (cond (leb mostHeads (length seen)) (Refused (tooManyHeads (start + position)))
-    (onHeader (sought s (start + position) seekHeadId) Refused Next))))
+    (onHeader (sought live s (start + position) seekHeadId) Refused Next))))
 
 abbrev pub onNext : {A : Type 0} → NextHead → A → (Refusal → A) → (Headed → A) → A
 onNext (Next head) last stop next = next head
@@ -90,14 +92,14 @@ pub data Chain : Type 0 where
 -- The heads from one on, after others: its payload is read by the element rules, and its entry for a head leads to the
 -- next. It is looked for in the head's own entries, since those before were followed and dropped. `more` heads may be
 -- read.
-unfoldable pub chain : List ℕ → (start more : ℕ) → Heads → Headed → Chain
-chain s start zero heads head = broken (tooManyHeads (head .place .at))
-chain s start (suc more) heads head =
-    onOutcome (headOf s head) broken (λ f.
+unfoldable pub chain : (live : Bool) → List ℕ → (start more : ℕ) → Heads → Headed → Chain
+chain live s start zero heads head = broken (tooManyHeads (head .place .at))
+chain live s start (suc more) heads head =
+    onOutcome (headOf live s head) broken (λ f.
     let own = entries s (head .payload .at) f in
     let all = withHead heads head own in
-    onNext (nextHead s start (all .addresses) (latest seekHeadId own)) (chained all) broken (chain s start more all))
+    onNext (nextHead live s start (all .addresses) (latest seekHeadId own)) (chained all) broken (chain live s start more all))
 
 -- All heads from the first on.
-abbrev pub linkedHeads : List ℕ → (start : ℕ) → Headed → Chain
-linkedHeads s start first = chain s start mostHeads noHeads first
+abbrev pub linkedHeads : (live : Bool) → List ℕ → (start : ℕ) → Headed → Chain
+linkedHeads live s start first = chain live s start mostHeads noHeads first

@@ -1,13 +1,13 @@
 -- The part that seek heads lead to (document 01, Seek tables and the search).
 use Prim.Native.Nat.{ℕ, _+_}
 use mathlib.Core.List.{List}
-use mathlib.Core.Bool.{cond}
+use mathlib.Core.Bool.{Bool, cond}
 use Rattle.refusals.specs.Refusals.{invalidSeekHead}
 use Rattle.refusals.specs.declared.refusal.Refusal.{Refusal}
 use Rattle.header.specs.declared.cursor.Headed.{Headed}
 use Rattle.seekhead_rules.specs.Table.{onLatest, latest}
 use Rattle.seekhead_rules.specs.declared.head.Latest.{Latest}
-use Rattle.seekchain_rules.specs.Answers.{onHeader}
+use Rattle.walks_rules.specs.Answers.{onHeader}
 use Rattle.seekchain_rules.specs.Heads.{Heads, Chain, chained, broken, tooFar, lastHead, sought, linkedHeads}
 
 -- Where a part is: the part, or that it is absent, with the addresses of the heads that were read; or why the search
@@ -23,15 +23,15 @@ onChain (broken e) next = stopped e
 
 -- The part by the latest position of its id, where the heads at some addresses were read: absent, or 8 at the last of
 -- them, header, 9.
-unfoldable pub partAt : List ℕ → (wanted start : ℕ) (heads : List ℕ) (link : Latest) → Lookup
-partAt s wanted start heads link =
+unfoldable pub partAt : (live : Bool) → List ℕ → (wanted start : ℕ) (heads : List ℕ) (link : Latest) → Lookup
+partAt live s wanted start heads link =
     onLatest link (absent heads) (λ position.
     cond (tooFar start position) (stopped (invalidSeekHead wanted (lastHead heads)))
-    (onHeader (sought s (start + position) wanted) stopped (λ part. found part heads)))
+    (onHeader (sought live s (start + position) wanted) stopped (λ part. found part heads)))
 
 -- When all linked heads were read, the wanted id is looked up. It is never that of a seek head, whose entries were
 -- dropped.
-unfoldable pub byHeads : List ℕ → (wanted start : ℕ) (first : Headed) → Lookup
-byHeads s wanted start first =
-    onChain (linkedHeads s start first) (λ heads.
-    partAt s wanted start (heads .addresses) (latest wanted (heads .entries)))
+unfoldable pub byHeads : (live : Bool) → List ℕ → (wanted start : ℕ) (first : Headed) → Lookup
+byHeads live s wanted start first =
+    onChain (linkedHeads live s start first) (λ heads.
+    partAt live s wanted start (heads .addresses) (latest wanted (heads .entries)))

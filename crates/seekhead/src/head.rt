@@ -2,7 +2,8 @@
 ghost use mathlib.Core.Path.{_≡_};
 ghost use mathlib.Core.List.{[], _∷_};
 ghost use Rattle.seekhead_rules.specs.Table.{later as laterOf, positionsFrom};
-ghost use Rattle.seekhead_rules.specs.Contract.{Readable, Taken, childTold, inserted, headTold};
+ghost use Rattle.walks_rules.specs.Contract.{Readable};
+ghost use Rattle.seekhead_rules.specs.Contract.{Taken, childTold, inserted, headTold};
 use crate::seek::seek_body;
 use crate::skim::skim_body;
 use elements::element_header;

@@ -11,7 +11,7 @@ use Rattle.bodies_rules.specs.Bodies.{body, bodyOf}
 use Rattle.bodies_rules.specs.declared.body.Body.{Body}
 use Rattle.elements_rules.specs.Forest.{Forest, none, node}
 use Rattle.elements_rules.specs.Reading.{Outcome, done, refused, elementHeaderRead, depths, elementOf, element}
-use Rattle.header.specs.Reads.{behind, headerAt}
+use Rattle.header.specs.Reads.{behind}
 use Rattle.seekhead_rules.specs.Seeks.{segmentId, seekHeadId, seekId, withoutRows, noSeek, withMembers}
 use Rattle.seekhead_rules.specs.Seeks.{headOf, seekBody, entries}
 use Rattle.seekhead_rules.specs.Table.{latestFrom, positionsFrom}
@@ -29,12 +29,8 @@ use Rattle.seekhead_rules.specs.declared.head.Seektable.{Seektable}
 use Rattle.seekhead_rules.specs.declared.head.HeadRead.{HeadRead}
 use Rattle.seekhead_rules.specs.declared.head.HeadRead.the-variants.{Read as HeadIs, Refused as HeadRefused}
 
--- What a reader of an element asks: a recording within its limit, and an element whose header was read in it.
-pub record Readable (s : List ℕ) (e : Headed) : Type 0 where
-  pub small : length s ≤ mostBytes
-  pub there : headerAt s (e .place .at) ≡ Read e
-
--- What a reader of an element of a payload asks: its header was read by the element rules.
+-- What a reader of an element of a payload asks: a recording within its limit, and an element whose header was read by
+-- the element rules.
 pub record Taken (live : Bool) (s : List ℕ) (e : Headed) : Type 0 where
   pub small : length s ≤ mostBytes
   pub there : elementHeaderRead live s (e .place .at) ≡ Read e

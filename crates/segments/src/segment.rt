@@ -9,8 +9,8 @@ use header::HeaderRead;
 use kinds::ids;
 use refusals::Cause;
 use refusals::Refusal;
-use seekchain::child_at;
-use seekchain_rules::ChildRead;
+use walks::child_at;
+use walks_rules::ChildRead;
 
 // The segment. Elements before it are skipped by size.
 pub fn segment_of(recording: &[u8]) -> HeaderRead

@@ -15,19 +15,19 @@ use Rattle.header.specs.declared.cursor.HeaderRead.{HeaderRead}
 use Rattle.header.specs.declared.cursor.HeaderRead.the-variants.{Read, Refused as HeaderRefused}
 use Rattle.header.proofs.Inside.{header-there}
 use Rattle.seekhead_rules.specs.Seeks.{segmentId, seekHeadId}
-use Rattle.seekchain_rules.specs.Answers.{onHeader}
+use Rattle.walks_rules.specs.Answers.{onHeader}
 use Rattle.seekchain_rules.specs.Lookup.{Lookup, found, absent, stopped, byHeads}
 use Rattle.seekchain_rules.specs.Contract.{placeTold}
 use Rattle.seekchain_rules.specs.declared.lookup.PartPlace.{PartPlace}
-use Rattle.seekchain_rules.specs.Step.{childAt, onChild}
+use Rattle.walks_rules.specs.Step.{childAt, onChild}
 use Rattle.segments_rules.specs.Walk.{Visit, ends, over, onVisit, Walk, walk, walkFrom}
 use Rattle.segments_rules.specs.Segment.{seeking, segmentFrom, segmentOf, withinSegment, visit}
 use Rattle.segments_rules.specs.Segment.{searching, segmentChildrenFrom}
 use Rattle.segments_rules.specs.Theorems.{WalkUnfolds, SegmentUnfolds, ChildrenUnfold}
 use Rattle.segments_rules.specs.Contract.{visitTold}
 use Rattle.segments_rules.specs.declared.walk.Visit.the-variants.{Ends, Over}
-use Rattle.seekchain_rules.specs.declared.step.ChildRead.{ChildRead}
-use Rattle.seekchain_rules.specs.declared.step.ChildRead.the-variants.{Child, End, Refused}
+use Rattle.walks_rules.specs.declared.step.ChildRead.{ChildRead}
+use Rattle.walks_rules.specs.declared.step.ChildRead.the-variants.{Child, End, Refused}
 
 -- ---- one step
 

@@ -11,7 +11,7 @@ use Rattle.header.specs.declared.cursor.Headed.{Headed}
 use Rattle.header.specs.declared.cursor.HeaderRead.{HeaderRead}
 use Rattle.header.specs.declared.cursor.HeaderRead.the-variants.{Read, Refused}
 use Rattle.seekhead_rules.specs.Seeks.{segmentId, seekHeadId}
-use Rattle.seekchain_rules.specs.Answers.{onHeader}
+use Rattle.walks_rules.specs.Answers.{onHeader}
 use Rattle.seekchain_rules.specs.Lookup.{Lookup, found, absent, stopped, byHeads}
 use Rattle.segments_rules.specs.Walk.{Visit, ends, over, onVisit, Walk}
 use Rattle.segments_rules.specs.Walk.{walkFrom}

@@ -12,7 +12,7 @@ use Rattle.header.specs.declared.cursor.Headed.{Headed}
 use Rattle.header.specs.declared.cursor.HeaderRead.the-variants.{Read, Refused}
 use Rattle.seekhead_rules.specs.Seeks.{segmentId, seekHeadId}
 use Rattle.seekchain_rules.specs.Lookup.{found, absent, stopped, byHeads}
-use Rattle.seekchain_rules.specs.Step.{childAt, onChild}
+use Rattle.walks_rules.specs.Step.{childAt, onChild}
 use Rattle.segments_rules.specs.Walk.{onVisit, Walk, walkFrom}
 use Rattle.segments_rules.specs.Segment.{segmentFrom, segmentChildrenFrom}
 

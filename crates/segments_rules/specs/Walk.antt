@@ -5,7 +5,7 @@ use mathlib.Core.List.{List}
 use Rattle.refusals.specs.declared.refusal.Refusal.{Refusal}
 use Rattle.header.specs.Reads.{behind}
 use Rattle.header.specs.declared.cursor.Headed.{Headed}
-use Rattle.seekchain_rules.specs.Step.{childAt, onChild}
+use Rattle.walks_rules.specs.Step.{childAt, onChild}
 
 -- What a visit of an element does: it ends the walk with an answer, or passes the element over, with what is known
 -- then.

@@ -4,3 +4,4 @@ pub mod Steps
 pub mod Endings
 pub mod Walks
 pub mod Told
+pub mod Known

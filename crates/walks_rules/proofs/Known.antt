@@ -1,0 +1,41 @@
+-- Where a size is known live mode steps and passes as old mode does. Assumes nothing.
+use Prim.Native.Nat.{ℕ}
+use mathlib.Core.Path.{_≡_, refl, sym, ap, _∙_}
+use mathlib.Core.List.{List}
+use mathlib.Core.Bool.{Bool, true, false, cond, _&&_, not}
+use lib.ListN.{drop}
+use Rattle.header.specs.Header.{heading, headerOf}
+use Rattle.header.specs.Reads.{headerAt}
+use Rattle.header.specs.declared.cursor.Headed.{Headed}
+use Rattle.header.specs.declared.cursor.Header.{Header}
+use Rattle.header.specs.declared.cursor.HeaderRead.{HeaderRead}
+use Rattle.header.specs.declared.cursor.HeaderRead.the-variants.{Read, Refused as HeaderRefused}
+use Rattle.header.proofs.Inside.{header-there}
+use Rattle.sizes.specs.Unknown.{unknown, endless}
+use Rattle.walks_rules.specs.Answers.{onHeader}
+use Rattle.walks_rules.specs.Step.{isPast, endedBy, barredStep, stepped, childAt}
+use Rattle.walks_rules.specs.Endings.{passOver}
+use Rattle.walks_rules.specs.declared.step.Stretch.{Stretch}
+use Rattle.walks_rules.specs.declared.step.ChildRead.{ChildRead}
+use Rattle.walks_rules.specs.declared.step.ChildRead.the-variants.{Child, End, Refused}
+
+-- The header at a place, where there is one, has a known size.
+abbrev pub KnownAt : List ℕ → ℕ → Type 0
+KnownAt s at = (h : Header) → headerOf (drop at s) ≡ heading h → unknown h ≡ false
+
+pub child-known : (s : List ℕ) (stretch : Stretch) (at : ℕ) → KnownAt s at
+    → childAt true s stretch at ≡ childAt false s stretch at
+unfolding childAt barredStep
+child-known s stretch at k = ap (cond (isPast s stretch at) End) (by (headerAt s at) refl)
+  where
+    by : (x : HeaderRead) → headerAt s at ≡ x
+        → onHeader x Refused (λ e. cond (endedBy stretch (e .header .id)) End (stepped true e))
+        ≡ onHeader x Refused (λ e. cond (endedBy stretch (e .header .id)) End (stepped false e))
+    by (HeaderRefused r) q = refl
+    by (Read e) q =
+        ap (cond (endedBy stretch (e .header .id)) End) (rw (k (e .header) (header-there s at e q .head)) refl)
+
+pub pass-known : (s : List ℕ) (end : ℕ) (e : Headed) → unknown (e .header) ≡ false
+    → passOver true s end e ≡ passOver false s end e
+unfolding passOver
+pass-known s end e k = rw k refl
