@@ -15,6 +15,7 @@ use kinds::ids;
 use refusals::Cause;
 use refusals::Refusal;
 use walks_rules::ChildRead;
+use walks_rules::Stretch;
 use seekchain_rules::HeadsRead;
 use seekchain_rules::NextHead;
 use seekhead::head_body;
@@ -51,13 +52,13 @@ fn contains(seen: &[u64], n: usize, address: u64) -> bool
     false
 }
 
-// The element that a sought address holds; 9 where its id is another.
-pub fn sought(recording: &[u8], address: u64, id: u32) -> HeaderRead
-    ensures { λ r. ⌜ r ≡ soughtAt (now (recording .entry)) address id ⌝ }
+// The element that a sought address holds: header, 17, 9 where its id is another.
+pub fn sought(recording: &[u8], live: bool, address: u64, id: u32) -> HeaderRead
+    ensures { λ r. ⌜ r ≡ soughtAt live (now (recording .entry)) address id ⌝ }
 {
     let place = Cursor { at: address };
-    let end = recording.len() as u64;
-    match child_at(recording, place, end) {
+    let stretch = Stretch::Sized(recording.len() as u64);
+    match child_at(recording, live, place, stretch) {
         ChildRead::Refused(refusal) => HeaderRead::Refused(refusal),
         ChildRead::End => HeaderRead::Refused(Refusal {
             address,
@@ -76,9 +77,10 @@ pub fn sought(recording: &[u8], address: u64, id: u32) -> HeaderRead
 }
 
 // The head that an entry for one leads to, where the first `read` addresses are those of the heads that were read, and
-// `last` is the last of them. The order: 8, 10, 11, header, 9.
+// `last` is the last of them. The order: 8, 10, 11, header, 17, 9.
 fn next_head(
     recording: &[u8],
+    live: bool,
     start: u64,
     seen: &[u64],
     read: usize,
@@ -87,7 +89,7 @@ fn next_head(
 ) -> NextHead
     requires { ⌜ read ≤ length (now seen) ⌝ }
     requires { ⌜ last ≡ lastHead (take read (now seen)) ⌝ }
-    ensures { λ r. ⌜ r ≡ nextHead (now (recording .entry)) start (take read (now (seen .entry))) link ⌝ }
+    ensures { λ r. ⌜ r ≡ nextHead live (now (recording .entry)) start (take read (now (seen .entry))) link ⌝ }
 {
     match link {
         Latest::Nowhere => NextHead::Last,
@@ -111,7 +113,7 @@ fn next_head(
                     cause: Cause::TooManyHeads,
                 });
             }
-            match sought(recording, address, ids::SEEKHEAD) {
+            match sought(recording, live, address, ids::SEEKHEAD) {
                 HeaderRead::Refused(refusal) => NextHead::Refused(refusal),
                 HeaderRead::Read(head) => NextHead::Next(head),
             }
@@ -121,9 +123,15 @@ fn next_head(
 
 // The positions of the wanted ids by the heads from the first one on. An entry for a further head is dropped once it
 // was followed.
-pub fn linked_heads(recording: &[u8], wanted: Wanted, start: u64, first: Headed) -> HeadsRead
+pub fn linked_heads(
+    recording: &[u8],
+    live: bool,
+    wanted: Wanted,
+    start: u64,
+    first: Headed,
+) -> HeadsRead
     requires { ⌜ Readable (now recording) first ⌝ }
-    ensures { λ r. ⌜ r ≡ headsTold wanted (linkedHeads (now (recording .entry)) start first) ⌝ }
+    ensures { λ r. ⌜ r ≡ headsTold wanted (linkedHeads live (now (recording .entry)) start first) ⌝ }
 {
     let mut seen = [0u64; MOST_HEADS];
     let mut n: usize = 0;
@@ -136,7 +144,7 @@ pub fn linked_heads(recording: &[u8], wanted: Wanted, start: u64, first: Headed)
         fifth: Latest::Nowhere,
     };
     loop {
-        match head_body(recording, wanted, parts, head) {
+        match head_body(recording, live, wanted, parts, head) {
             HeadRead::Refused(refusal) => {
                 return HeadsRead::Refused(refusal);
             }
@@ -146,7 +154,7 @@ pub fn linked_heads(recording: &[u8], wanted: Wanted, start: u64, first: Headed)
                 let read = n + 1;
                 parts = found.parts;
                 let link = found.head;
-                match next_head(recording, start, &seen, read, last, link) {
+                match next_head(recording, live, start, &seen, read, last, link) {
                     NextHead::Refused(refusal) => {
                         return HeadsRead::Refused(refusal);
                     }

@@ -16,16 +16,17 @@ use seekhead_rules::Latest;
 use seekhead_rules::Wanted;
 
 // The part by the latest position of its id, where so many heads were read, the last of them at `last`: absent, or 8,
-// header, 9.
+// header, 17, 9.
 fn part_at(
     recording: &[u8],
+    live: bool,
     wanted: u32,
     start: u64,
     heads: u64,
     last: u64,
     link: Latest,
 ) -> PartPlace
-    ensures { λ r. ⌜ PartMet (now (recording .entry)) wanted start heads last link r ⌝ }
+    ensures { λ r. ⌜ PartMet live (now (recording .entry)) wanted start heads last link r ⌝ }
 {
     match link {
         Latest::Nowhere => PartPlace::Absent { heads },
@@ -37,7 +38,7 @@ fn part_at(
                 });
             }
             let address = start + position;
-            match sought(recording, address, wanted) {
+            match sought(recording, live, address, wanted) {
                 HeaderRead::Refused(refusal) => PartPlace::Refused(refusal),
                 HeaderRead::Read(part) => PartPlace::Found { part, heads },
             }
@@ -46,9 +47,9 @@ fn part_at(
 }
 
 // The wanted part by the heads from the first one on, with positions counted from the segment's start.
-pub fn by_heads(recording: &[u8], wanted: u32, start: u64, first: Headed) -> PartPlace
+pub fn by_heads(recording: &[u8], live: bool, wanted: u32, start: u64, first: Headed) -> PartPlace
     requires { ⌜ Readable (now recording) first ⌝ }
-    ensures { λ r. ⌜ r ≡ placeTold (byHeads (now (recording .entry)) wanted start first) ⌝ }
+    ensures { λ r. ⌜ r ≡ placeTold (byHeads live (now (recording .entry)) wanted start first) ⌝ }
 {
     let only = Wanted {
         first: wanted,
@@ -57,11 +58,11 @@ pub fn by_heads(recording: &[u8], wanted: u32, start: u64, first: Headed) -> Par
         fourth: 0,
         fifth: 0,
     };
-    match linked_heads(recording, only, start, first) {
+    match linked_heads(recording, live, only, start, first) {
         HeadsRead::Refused(refusal) => PartPlace::Refused(refusal),
         HeadsRead::Read { parts, heads, last } => {
             let link = parts.first;
-            part_at(recording, wanted, start, heads, last, link)
+            part_at(recording, live, wanted, start, heads, last, link)
         }
     }
 }

@@ -52,7 +52,7 @@ lastHead [] = 0
 lastHead (a ∷ []) = a
 lastHead (a ∷ b ∷ rest) = lastHead (b ∷ rest)
 
--- The head that a head's entry for one leads to, where the heads at some addresses were read: 8, 10, 11, header, 9.
+-- The head that a head's entry for one leads to, where the heads at some addresses were read: 8, 10, 11, header, 17, 9.
 -- Without such an entry there is none. 8 is at the last head that was read, 10 and 11 at the one that is not.
 unfoldable pub nextHead : (live : Bool) → List ℕ → (start : ℕ) (seen : List ℕ) (link : Latest) → NextHead
 nextHead live s start seen link =

@@ -22,7 +22,7 @@ onChain (chained heads) next = next heads
 onChain (broken e) next = stopped e
 
 -- The part by the latest position of its id, where the heads at some addresses were read: absent, or 8 at the last of
--- them, header, 9.
+-- them, header, 17, 9.
 unfoldable pub partAt : (live : Bool) → List ℕ → (wanted start : ℕ) (heads : List ℕ) (link : Latest) → Lookup
 partAt live s wanted start heads link =
     onLatest link (absent heads) (λ position.

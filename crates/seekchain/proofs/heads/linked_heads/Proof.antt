@@ -10,14 +10,14 @@ use Rattle.seekchain_rules.proofs.Chains.{Chaining, chaining-holds, chaining-lo
 use Rattle.seekchain_rules.proofs.Chains.{chaining-on, chaining-last}
 
 abbrev Inv-loop : tie.InvT-loop
-Inv-loop recording wanted start seen₀ n₀ head₀ parts₀ seen n head parts =
-    Chaining recording wanted start head₀ seen n head parts
+Inv-loop recording live wanted start seen₀ n₀ head₀ parts₀ seen n head parts =
+    Chaining live recording wanted start head₀ seen n head parts
 
 abbrev μ-loop : tie.MeasureT-loop
-μ-loop recording wanted start seen₀ n₀ head₀ parts₀ seen n head parts = 64 - n
+μ-loop recording live wanted start seen₀ n₀ head₀ parts₀ seen n head parts = 64 - n
 
 loop-holds : tie.Need-loop-holds Inv-loop μ-loop
-loop-holds c = chaining-holds _ _ _ _ _ refl (c .before .pre .there)
+loop-holds c = chaining-holds _ _ _ _ _ _ refl (c .before .pre .there)
 
 head-body-requires : tie.Need-head-body-requires Inv-loop μ-loop
 head-body-requires c κs =
@@ -27,18 +27,18 @@ head-body-requires c κs =
 returns : tie.Need-returns Inv-loop μ-loop
 returns c =
     let b = c .before .before .before in
-    chaining-lost _ _ _ _ _ _ _ _ (b .before .loop .inv) _ (sym (c .before .refusal .given .1) ∙ b .head-body .ensures)
+    chaining-lost _ _ _ _ _ _ _ _ _ (b .before .loop .inv) _ (sym (c .before .refusal .given .1) ∙ b .head-body .ensures)
 
 next-head-requires : tie.Need-next-head-requires Inv-loop μ-loop
 next-head-requires c κs =
     let g = c .before .before .before .before .before .before .loop .inv in
-    (simp length-set (omega (arith, g .few, g .long)), chaining-last _ _ _ _ _ _ _ _ g)
+    (simp length-set (omega (arith, g .few, g .long)), chaining-last _ _ _ _ _ _ _ _ _ g)
 
 returns-2 : tie.Need-returns-2 Inv-loop μ-loop
 returns-2 c =
     let m = c .before .before .before in
     let b = m .before .before .before .before .before .before in
-    chaining-stops _ _ _ _ _ _ _ _ (b .before .loop .inv) _
+    chaining-stops _ _ _ _ _ _ _ _ _ (b .before .loop .inv) _
     (sym (m .before .before .before .before .found .given .1) ∙ b .head-body .ensures) _
     (sym (c .before .refusal2 .given .1) ∙ m .next-head .ensures)
 
@@ -46,7 +46,7 @@ returns-3 : tie.Need-returns-3 Inv-loop μ-loop
 returns-3 c =
     let m = c .before .before in
     let b = m .before .before .before .before .before .before in
-    chaining-ends _ _ _ _ _ _ _ _ (b .before .loop .inv) _
+    chaining-ends _ _ _ _ _ _ _ _ _ (b .before .loop .inv) _
     (sym (m .before .before .before .before .found .given .1) ∙ b .head-body .ensures)
     (sym (c .enum-told .given .1) ∙ m .next-head .ensures)
 
@@ -58,7 +58,7 @@ loop-again : tie.Need-loop-again Inv-loop μ-loop
 loop-again c =
     let m = c .before .before .before in
     let b = m .before .before .before .before .before .before in
-    chaining-on _ _ _ _ _ _ _ _ (b .before .loop .inv) _
+    chaining-on _ _ _ _ _ _ _ _ _ (b .before .loop .inv) _
     (sym (m .before .before .before .before .found .given .1) ∙ b .head-body .ensures) _
     (sym (c .before .next .given .1) ∙ m .next-head .ensures)
 
