@@ -7,15 +7,12 @@ ghost use Rattle.walks_rules.specs.Contract.{Readable};
 ghost use Rattle.kinds.specs.Kinds.{member};
 ghost use Rattle.seekchain_rules.specs.Heads.{lastAddress, lastHead, sought as soughtAt, nextHead, linkedHeads};
 ghost use Rattle.seekchain_rules.specs.Contract.{headsTold};
-use walks::child_at;
 use header::Cursor;
 use header::Headed;
 use header::HeaderRead;
 use kinds::ids;
 use refusals::Cause;
 use refusals::Refusal;
-use walks_rules::ChildRead;
-use walks_rules::Stretch;
 use seekchain_rules::HeadsRead;
 use seekchain_rules::NextHead;
 use seekhead::head_body;
@@ -23,6 +20,9 @@ use seekhead_rules::HeadRead;
 use seekhead_rules::Latest;
 use seekhead_rules::Positions;
 use seekhead_rules::Wanted;
+use walks::child_at;
+use walks_rules::ChildRead;
+use walks_rules::Stretch;
 
 // The most seek heads that one search reads, the first included.
 const MOST_HEADS: usize = 64;

@@ -82,9 +82,11 @@ step-fault live s stretch at x reads bars e q = by (childAt live s stretch at) q
         let t = header-there s at d h in
         let i : unknownSize (d .place .at) ≡ e = cc in
         let j : unknownSize at ≡ e = ap unknownSize (sym (t .begins)) ∙ i in
-        let f : Fault s at x C.UnknownSize = sizeless (d .header) (t .head) (bars (d .header) ∙ b) in
-        (k, subst (λ (r : Refusal). Fault s at x (r .cause)) j f,
-        ap (λ (r : Refusal). because (r .cause) at) (sym j) ∙ j)
+        let f : Fault s at x C.UnknownSize = sizeless (d .header) (t .head) (bars (d .header) ∙ b) in (
+          k,
+          subst (λ (r : Refusal). Fault s at x (r .cause)) j f,
+          ap (λ (r : Refusal). because (r .cause) at) (sym j) ∙ j,
+        )
 
 -- ---- a sought address
 

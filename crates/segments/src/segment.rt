@@ -10,18 +10,22 @@ use kinds::ids;
 use refusals::Cause;
 use refusals::Refusal;
 use walks::child_at;
+use walks::pass_over;
 use walks_rules::ChildRead;
+use walks_rules::Passed;
+use walks_rules::Stretch;
 
-// The segment. Elements before it are skipped by size.
-pub fn segment_of(recording: &[u8]) -> HeaderRead
+// The segment. Elements before it are passed over: by size, or in live mode a Cluster of unknown size by its ending.
+pub fn segment_of(recording: &[u8], live: bool) -> HeaderRead
     requires { ⌜ length (now recording) ≤ mostBytes ⌝ }
-    ensures { λ r. ⌜ r ≡ segmentOf (now (recording .entry)) ⌝ }
+    ensures { λ r. ⌜ r ≡ segmentOf live (now (recording .entry)) ⌝ }
 {
     let end = recording.len() as u64;
+    let stretch = Stretch::Sized(end);
     let mut at: u64 = 0;
     loop {
         let place = Cursor { at };
-        match child_at(recording, place, end) {
+        match child_at(recording, live, place, stretch) {
             ChildRead::Refused(refusal) => {
                 return HeaderRead::Refused(refusal);
             }
@@ -35,7 +39,14 @@ pub fn segment_of(recording: &[u8]) -> HeaderRead
                 if element.header.id == ids::SEGMENT {
                     return HeaderRead::Read(element);
                 }
-                at = element.payload.at + element.header.size;
+                match pass_over(recording, live, end, element) {
+                    Passed::Refused(refusal) => {
+                        return HeaderRead::Refused(refusal);
+                    }
+                    Passed::At(next) => {
+                        at = next;
+                    }
+                }
             }
         }
     }

@@ -1,2 +1,3 @@
 -- The laws that the proofs of `segments` share, and the theorems.
 pub mod Walks
+pub mod Turns

@@ -1,7 +1,7 @@
 -- What the functions of `segments` promise each other.
 use Rattle.seekchain_rules.specs.Lookup.{Lookup}
 use Rattle.seekchain_rules.specs.Contract.{placeTold}
-use Rattle.segments_rules.specs.Walk.{Visit, ends, over}
+use Rattle.walks_rules.specs.Walk.{Visit, ends, over}
 use Rattle.segments_rules.specs.declared.walk.Visit.{Visit as VisitTold}
 use Rattle.segments_rules.specs.declared.walk.Visit.the-variants.{Ends, Over}
 

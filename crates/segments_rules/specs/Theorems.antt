@@ -3,42 +3,37 @@
 use Prim.Native.Nat.{ℕ}
 use mathlib.Core.Path.{_≡_}
 use mathlib.Core.List.{List, []}
-use mathlib.Core.Bool.{cond}
+use mathlib.Core.Bool.{Bool, cond}
 use lib.ListN.{length}
-use lib.Dec.{ltb, eqb}
+use lib.Dec.{eqb}
 use Rattle.refusals.specs.Refusals.{pastEnd, overrun}
-use Rattle.header.specs.Reads.{behind}
 use Rattle.header.specs.declared.cursor.Headed.{Headed}
 use Rattle.header.specs.declared.cursor.HeaderRead.the-variants.{Read, Refused}
+use Rattle.walks_rules.specs.Step.{childAt, onChild}
+use Rattle.walks_rules.specs.Walk.{onPassed}
+use Rattle.walks_rules.specs.Endings.{passOver, endOf}
+use Rattle.walks_rules.specs.declared.step.Stretch.the-variants.{Sized}
 use Rattle.seekhead_rules.specs.Seeks.{segmentId, seekHeadId}
 use Rattle.seekchain_rules.specs.Lookup.{found, absent, stopped, byHeads}
-use Rattle.walks_rules.specs.Step.{childAt, onChild}
-use Rattle.segments_rules.specs.Walk.{onVisit, Walk, walkFrom}
-use Rattle.segments_rules.specs.Segment.{segmentFrom, segmentChildrenFrom}
-
--- There are never more elements than bytes, so that a walk is one step after another, with no bound.
-abbrev pub WalkUnfolds : Type 1
-WalkUnfolds =
-    (A B : Type 0) (s : List ℕ) (end : ℕ) (w : Walk A B) (at : ℕ) (a : A)
-    → walkFrom s end w at a
-    ≡ onChild (childAt s end at) (w .ended at a) (w .stop) (λ e.
-    onVisit (w .visit a e) (λ b. b) (walkFrom s end w (behind e)))
+use Rattle.segments_rules.specs.Segment.{segmentFrom, stretchOf, overruns, segmentChildrenFrom}
 
 -- The way to the segment goes from element to element.
 abbrev pub SegmentUnfolds : Type 0
 SegmentUnfolds =
-    (s : List ℕ) (at : ℕ)
-    → segmentFrom s at
-    ≡ onChild (childAt s (length s) at) (Refused (pastEnd at)) Refused (λ e.
-    cond (eqb (e .header .id) segmentId) (Read e) (segmentFrom s (behind e)))
+    (live : Bool) (s : List ℕ) (at : ℕ)
+    → segmentFrom live s at
+    ≡ onChild (childAt live s (Sized (length s)) at) (Refused (pastEnd at)) Refused (λ e.
+    cond (eqb (e .header .id) segmentId) (Read e)
+    (onPassed (passOver live s (length s) e) Refused (segmentFrom live s)))
 
 -- The walk over the segment's children goes from child to child.
 abbrev pub ChildrenUnfold : Type 0
 ChildrenUnfold =
-    (s : List ℕ) (wanted : ℕ) (segment : Headed) (at : ℕ)
-    → segmentChildrenFrom s wanted segment at
-    ≡ onChild (childAt s (behind segment) at) (absent []) stopped (λ e.
-    cond (eqb (e .header .id) seekHeadId) (byHeads s wanted (segment .payload .at) e)
+    (live : Bool) (s : List ℕ) (wanted : ℕ) (segment : Headed) (at : ℕ)
+    → segmentChildrenFrom live s wanted segment at
+    ≡ onChild (childAt live s (stretchOf live s segment) at) (absent []) stopped (λ e.
+    cond (eqb (e .header .id) seekHeadId) (byHeads live s wanted (segment .payload .at) e)
     (cond (eqb (e .header .id) wanted) (found e [])
-    (cond (ltb (behind segment) (behind e)) (stopped (overrun (e .place .at)))
-    (segmentChildrenFrom s wanted segment (behind e)))))
+    (cond (overruns live segment e) (stopped (overrun (e .place .at)))
+    (onPassed (passOver live s (endOf (stretchOf live s segment)) e) stopped
+    (segmentChildrenFrom live s wanted segment)))))

@@ -11,7 +11,7 @@ walk-requires c κs =
     let b = c .before .before .before in
     record {
       small = b .before .before .pre;
-      there = segment-there _ _ (sym (b .segment-of .ensures) ∙ c .before .segment .given .1);
+      there = segment-there _ _ _ (sym (b .segment-of .ensures) ∙ c .before .segment .given .1);
     }
 
 returns : tie.Need-returns
