@@ -80,17 +80,19 @@ fn find(table: &[u64], rows: usize, address: u64) -> WhoseReply
     })
 }
 
-// Reads the payload of `size` bytes from `start` on into the table, and names the row that holds the address. 14: a
-// length is broken, or the start is past the end; then 15: the address is outside the payload that the caller named.
+// Reads the payload of `size` bytes from `start` on into the table, in live mode or in old mode, and names the row that
+// holds the address. 14: a length is broken, or the start is past the end; then 15: the address is outside the payload
+// that the caller named.
 pub fn whose_byte(
     recording: &[u8],
+    live: bool,
     start: u64,
     size: u64,
     parent: u32,
     address: u64,
     table: &mut [u64],
 ) -> WhoseReply
-    ensures { λ r. ⌜ WhosePromise (now (recording .entry)) start size parent address
+    ensures { λ r. ⌜ WhosePromise live (now (recording .entry)) start size parent address
         (now (table .entry)) r (now (table .exit)) ⌝ }
 {
     clear(table);
@@ -106,7 +108,7 @@ pub fn whose_byte(
             cause: Cause::Outside,
         });
     }
-    match fill(recording, start, size, parent, table) {
+    match fill(recording, live, start, size, parent, table) {
         ReadReply::Refused(refusal) => WhoseReply::Refused(refusal),
         ReadReply::Rows(rows) => find(table, rows as usize, address),
     }

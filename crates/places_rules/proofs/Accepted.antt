@@ -2,7 +2,7 @@
 use Prim.Native.Nat.{ℕ, _+_, _/_, _≤_, _<_}
 use mathlib.Core.Path.{_≡_, sym, _∙_, subst}
 use mathlib.Core.List.{List}
-use mathlib.Core.Bool.{true}
+use mathlib.Core.Bool.{Bool, true}
 use native.Mathlib.Omega.{arith}
 use lib.ListN.{length}
 use borrow.Author.Tests.{le-leb, lt-ltb, not-false}
@@ -38,18 +38,18 @@ from-zero s start numbers q =
     let w = within s start numbers q in
     sym (by-start s 0 numbers (w .bytes) (w .multiple) (w .few)) ∙ le-leb 0 (length s) (omega arith)
 
-was-allowed : (s : List ℕ) (start size parent numbers : ℕ) {f : Forest}
-    → readOf s start size parent numbers ≡ done f
+was-allowed : (live : Bool) (s : List ℕ) (start size parent numbers : ℕ) {f : Forest}
+    → readOf live s start size parent numbers ≡ done f
     → allowed s start numbers ≡ true
 unfolding readOf
-was-allowed s start size parent numbers q = not-false _ (of-refuse _ _ _ q .0)
+was-allowed live s start size parent numbers q = not-false _ (of-refuse _ _ _ q .0)
 
 pub rows-have-ranges : RowsHaveRanges
-rows-have-ranges s start size parent t n t′ p k l =
-    let a = accepted-read s start size parent t n t′ p in
-    let all = rows-sound s start size parent t n t′ p in
+rows-have-ranges live s start size parent t n t′ p k l =
+    let a = accepted-read live s start size parent t n t′ p in
+    let all = rows-sound live s start size parent t n t′ p in
     let sound = each-at (Sound s) (rowsOf t′ n) k (rw (length-rows-of t′ n) l) all in
     let mine = subst (Sound s) (row-of t′ n k l) sound in
-    let free = from-zero s start (length t) (was-allowed s start size parent (length t) (a .outcome)) in
+    let free = from-zero s start (length t) (was-allowed live s start size parent (length t) (a .outcome)) in
     let few = a .fits in
     ranged s t′ k (rw (a .as-long) free) (rw (a .as-long) (omega arith)) (mine .inside)

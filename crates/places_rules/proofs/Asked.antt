@@ -2,7 +2,7 @@
 use Prim.Native.Nat.{ℕ, _/_, _≤_}
 use mathlib.Core.Path.{_≡_, refl, sym, ap, _∙_}
 use mathlib.Core.List.{List}
-use mathlib.Core.Bool.{true, false, not}
+use mathlib.Core.Bool.{Bool, true, false, not}
 use native.Mathlib.Omega.{arith}
 use lib.ListN.{length}
 use Rattle.refusals.specs.Refusals.{badArgument, outside}
@@ -28,56 +28,59 @@ refusal-told start x (refused e′) e q = let w : e ≡ e′ = cc in ap refusal 
 
 -- The rows that were read are rows of the table.
 pub asked-rows :
-    (s : List ℕ) (start size parent : ℕ) (t t′ : List ℕ) (n : ℕ) → ReadPromise s start size parent t (Rows n) t′
+    (live : Bool) (s : List ℕ) (start size parent : ℕ) (t t′ : List ℕ) (n : ℕ)
+    → ReadPromise live s start size parent t (Rows n) t′
     → n ≤ length t′ / width
-asked-rows s start size parent t t′ n p =
-    let i = accepted-read s start size parent t n t′ p in
+asked-rows live s start size parent t t′ n p =
+    let i = accepted-read live s start size parent t n t′ p in
     rw (i .as-long) (i .fits)
 
-module _ (s : List ℕ) (start size parent x : ℕ) (t t′ : List ℕ) where
+module _ (live : Bool) (s : List ℕ) (start size parent x : ℕ) (t t′ : List ℕ) where
   -- The reply and the table that tell the question's outcome.
   outcome-told :
-      (r : WhoseReply) (o : Outcome) → askedOf s start size parent x (length t) ≡ o → whoseTold r ≡ whoseOf start x o
-      → t′ ≡ tableOf start (length t) o → WhosePromise s start size parent x t r t′
+      (r : WhoseReply) (o : Outcome) → askedOf live s start size parent x (length t) ≡ o
+      → whoseTold r ≡ whoseOf start x o
+      → t′ ≡ tableOf start (length t) o → WhosePromise live s start size parent x t r t′
   outcome-told r o e q z = record { reply = rw e q; table = rw e z }
 
   refusal-is :
-      (e : Refusal) → askedOf s start size parent x (length t) ≡ refused e → t′ ≡ zeros (length t)
-      → WhosePromise s start size parent x t (Refused e) t′
+      (e : Refusal) → askedOf live s start size parent x (length t) ≡ refused e → t′ ≡ zeros (length t)
+      → WhosePromise live s start size parent x t (Refused e) t′
   unfolding tableOf
   refusal-is e q z = outcome-told (Refused e) (refused e) q refl z
 
   pub asked-broken :
       allowed s start (length t) ≡ false → t′ ≡ zeros (length t)
-      → WhosePromise s start size parent x t (Refused badArgument) t′
+      → WhosePromise live s start size parent x t (Refused badArgument) t′
   unfolding askedOf
   asked-broken a z = refusal-is badArgument (refuses _ _ _ (ap not a)) z
 
   module _ (a : allowed s start (length t) ≡ true) where
     pub asked-outside :
-        within start size x ≡ false → t′ ≡ zeros (length t) → WhosePromise s start size parent x t (Refused outside) t′
+        within start size x ≡ false → t′ ≡ zeros (length t)
+        → WhosePromise live s start size parent x t (Refused outside) t′
     unfolding askedOf
     asked-outside w z = refusal-is outside (passes _ _ _ (ap not a) ∙ refuses _ _ _ (ap not w)) z
 
     module _ (w : within start size x ≡ true) where
       -- Past 14 and 15 the question's outcome is the reading's.
-      asked-read : askedOf s start size parent x (length t) ≡ readOf s start size parent (length t)
+      asked-read : askedOf live s start size parent x (length t) ≡ readOf live s start size parent (length t)
       unfolding askedOf readOf
       asked-read = passes _ _ _ (ap not a) ∙ passes _ _ _ (ap not w) ∙ sym (passes _ _ _ (ap not a))
 
       pub asked-refused :
-          (e : Refusal) → ReadPromise s start size parent t (ReadRefused e) t′
-          → WhosePromise s start size parent x t (Refused e) t′
+          (e : Refusal) → ReadPromise live s start size parent t (ReadRefused e) t′
+          → WhosePromise live s start size parent x t (Refused e) t′
       asked-refused e p =
-          let o = readOf s start size parent (length t) in
+          let o = readOf live s start size parent (length t) in
           outcome-told (Refused e) o asked-read (refusal-told start x o e (p .reply)) (p .table)
 
       pub asked-found :
-          (n : ℕ) (r : WhoseReply) → ReadPromise s start size parent t (Rows n) t′
-          → whoseTold r ≡ whoseIn (rowsOf t′ n) 0 n x → WhosePromise s start size parent x t r t′
+          (n : ℕ) (r : WhoseReply) → ReadPromise live s start size parent t (Rows n) t′
+          → whoseTold r ≡ whoseIn (rowsOf t′ n) 0 n x → WhosePromise live s start size parent x t r t′
       asked-found n r p q =
-          let i = accepted-read s start size parent t n t′ p in
-          let o = readOf s start size parent (length t) in
+          let i = accepted-read live s start size parent t n t′ p in
+          let o = readOf live s start size parent (length t) in
           outcome-told r o asked-read
           (q
           ∙ ap (λ (rs : List Row). whoseIn rs 0 n x) (i .rows-are)

@@ -45,7 +45,7 @@ payload-refused s t row e q =
     (λ w. let z : _≡_ {A = ℕ} 0 1 = cc in absurd (let y : ⊥ = omega arith in y))
 
 -- No row holds the address: 15.
-none-holds : (rs : List Row) (row total x : ℕ) (e : Refusal) → refusal e ≡ whoseIn rs row total x → outside ≡ e
+pub none-holds : (rs : List Row) (row total x : ℕ) (e : Refusal) → refusal e ≡ whoseIn rs row total x → outside ≡ e
 unfolding whoseIn
 none-holds [] row total x e q = cc
 none-holds (r ∷ rs) row total x e q = by (holderIn r x) q (none-holds rs (row + 1) total x e)
@@ -56,21 +56,21 @@ none-holds (r ∷ rs) row total x e q = by (holderIn r x) q (none-holds rs (row 
     by Payload w rest = let z : _≡_ {A = ℕ} 0 1 = cc in absurd (let y : ⊥ = omega arith in y)
     by Neither w rest = rest w
 
-module _ (s : List ℕ) (start size parent x numbers : ℕ) where
+module _ (live : Bool) (s : List ℕ) (start size parent x numbers : ℕ) where
   abbrev HonestHere : Refusal → Type 0
-  HonestHere e = HonestReading s start size parent numbers e
+  HonestHere e = HonestReading live s start size parent numbers e
 
-  asked-honest : (e : Refusal) → askedOf s start size parent x numbers ≡ refused e → HonestHere e
+  asked-honest : (e : Refusal) → askedOf live s start size parent x numbers ≡ refused e → HonestHere e
   unfolding askedOf
   asked-honest e q =
       of-test (not (allowed s start numbers)) badArgument _ e q
       (λ b i. subst HonestHere i (callers (inl refl) refl))
       (λ b v.
-      of-test (not (within start size x)) outside (filled s start size parent numbers) e v
+      of-test (not (within start size x)) outside (filled live s start size parent numbers) e v
       (λ c i. subst HonestHere i (callers (inr refl) refl))
-      (λ c w. there (filled-found s start size parent numbers e w)))
+      (λ c w. there (filled-found live s start size parent numbers e w)))
 
-  whose-honest : (o : Outcome) (e : Refusal) → askedOf s start size parent x numbers ≡ o
+  whose-honest : (o : Outcome) (e : Refusal) → askedOf live s start size parent x numbers ≡ o
       → refusal e ≡ whoseOf start x o → HonestHere e
   whose-honest (done f) e k q =
       subst HonestHere (none-holds (rowsAt start f) 0 (count f) x e q) (callers (inr refl) refl)
@@ -79,6 +79,7 @@ module _ (s : List ℕ) (start size parent x numbers : ℕ) where
 pub places-honest : PlacesHonest
 places-honest = record {
   range = λ s t row e p. payload-refused s t row e (p .reply);
-  owner = λ s start size parent x t e t′ p.
-      whose-honest s start size parent x (length t) (askedOf s start size parent x (length t)) e refl (p .reply);
+  owner = λ live s start size parent x t e t′ p.
+      whose-honest live s start size parent x (length t) (askedOf live s start size parent x (length t)) e refl
+      (p .reply);
 }

@@ -6,3 +6,4 @@ pub mod Unique
 pub mod Owners
 pub mod Accepted
 pub mod Honest
+pub mod Live

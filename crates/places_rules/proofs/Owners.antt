@@ -127,21 +127,22 @@ found (r ∷ rs) k total x q =
 -- ---- the question
 
 -- What was asked and read: the address lies in the payload, and the payload was read.
-pub asked-done : (s : List ℕ) (start size parent x numbers : ℕ) (f : Forest)
-    → askedOf s start size parent x numbers ≡ done f
-    → (within start size x ≡ true) × (readOf s start size parent numbers ≡ done f)
+pub asked-done : (live : Bool) (s : List ℕ) (start size parent x numbers : ℕ) (f : Forest)
+    → askedOf live s start size parent x numbers ≡ done f
+    → (within start size x ≡ true) × (readOf live s start size parent numbers ≡ done f)
 unfolding askedOf readOf
-asked-done s start size parent x numbers f q =
+asked-done live s start size parent x numbers f q =
     let a = of-refuse _ _ _ q in
     let b = of-refuse _ _ _ (a .1) in
     (not-false _ (b .0), passes _ _ _ (a .0) ∙ b .1)
 
 -- The table holds the rows that were read.
-pub table-rows : (s : List ℕ) (start size parent x : ℕ) (t : List ℕ) (r : WhoseReply) (t′ : List ℕ) (f : Forest)
-    → WhosePromise s start size parent x t r t′ → askedOf s start size parent x (length t) ≡ done f
+pub table-rows :
+    (live : Bool) (s : List ℕ) (start size parent x : ℕ) (t : List ℕ) (r : WhoseReply) (t′ : List ℕ) (f : Forest)
+    → WhosePromise live s start size parent x t r t′ → askedOf live s start size parent x (length t) ≡ done f
     → rowsOf t′ (count f) ≡ rows 0 0 start 0 f
 unfolding tableOf
-table-rows s start size parent x t r t′ f p q =
+table-rows live s start size parent x t r t′ f p q =
     let rs = rows 0 0 start 0 f in
     let w = p .table ∙ ap (tableOf start (length t)) q in
     ap (λ (u : List ℕ). rowsOf u (count f)) w
@@ -149,15 +150,15 @@ table-rows s start size parent x t r t′ f p q =
     ∙ rows-back rs (zeros (length t - count f * width))
 
 pub row-owns : OneRowOwns
-row-owns s start size parent x t r t′ f p q =
-    let (i, o) = asked-done s start size parent x (length t) f q in
+row-owns live s start size parent x t r t′ f p q =
+    let (i, o) = asked-done live s start size parent x (length t) f q in
     let rs = rows 0 0 start 0 f in
-    let h : holders rs x ≡ 1 = covered s start size parent (length t) f o x ∙ ap one i in
+    let h : holders rs x ≡ 1 = covered live s start size parent (length t) f o x ∙ ap one i in
     let g = found rs 0 (count f) x h in
     let c : count f ≡ length rs = sym (length-rows 0 0 start 0 f) in
     let y : whoseTold r ≡ whoseIn rs 0 (count f) x = p .reply ∙ ap (whoseOf start x) q in
     let k : 0 + g .n ≡ g .n = zero-add (g .n) in
-    subst (λ (us : List Row). Owner us x r) (sym (table-rows s start size parent x t r t′ f p q))
+    subst (λ (us : List Row). Owner us x r) (sym (table-rows live s start size parent x t r t′ f p q))
     (record {
       row = g .n;
       there = g .there;

@@ -44,12 +44,12 @@ pub payload-unique : OnePayload
 payload-unique s t row part part′ p q = p .reply ∙ sym (q .reply)
 
 pub owner-unique : OneOwner
-owner-unique s start size parent x t u r r′ t′ u′ l p q =
-    let asked : ℕ → Outcome = λ n. askedOf s start size parent x n in
+owner-unique live s start size parent x t u r r′ t′ u′ l p q =
+    let asked : ℕ → Outcome = λ n. askedOf live s start size parent x n in
     let a = p .reply ∙ ap (λ (n : ℕ). whoseOf start x (asked n)) l ∙ sym (q .reply) in
     let b = p .table ∙ ap (λ (n : ℕ). tableOf start n (asked n)) l ∙ sym (q .table) in
     (sym (replied-back r) ∙ ap replied a ∙ replied-back r′, b)
 
 pub places-refuse-listed : PlacesRefuseListed
 places-refuse-listed =
-    record { range = λ s t row e p. listed e; owner = λ s start size parent x t e t′ p. listed e }
+    record { range = λ s t row e p. listed e; owner = λ live s start size parent x t e t′ p. listed e }

@@ -3,3 +3,4 @@ pub mod Payload
 pub mod Whose
 pub mod Promise
 pub mod Theorems
+pub mod Live

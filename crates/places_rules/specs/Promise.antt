@@ -2,6 +2,7 @@
 use Prim.Native.Nat.{ℕ}
 use mathlib.Core.Path.{_≡_}
 use mathlib.Core.List.{List}
+use mathlib.Core.Bool.{Bool}
 use lib.ListN.{length}
 use Rattle.refusals.specs.Reply.{Reply, accepted, refusal}
 use Rattle.bodies_rules.specs.declared.body.Range.{Range}
@@ -36,6 +37,6 @@ whoseTold (Payload row rows) = accepted (byPayload row rows)
 whoseTold (Refused e) = refusal e
 
 pub record WhosePromise
-    (s : List ℕ) (start size parent x : ℕ) (t : List ℕ) (r : WhoseReply) (t′ : List ℕ) : Type 0 where
-  pub reply : whoseTold r ≡ whoseOf start x (askedOf s start size parent x (length t))
-  pub table : t′ ≡ tableOf start (length t) (askedOf s start size parent x (length t))
+    (live : Bool) (s : List ℕ) (start size parent x : ℕ) (t : List ℕ) (r : WhoseReply) (t′ : List ℕ) : Type 0 where
+  pub reply : whoseTold r ≡ whoseOf start x (askedOf live s start size parent x (length t))
+  pub table : t′ ≡ tableOf start (length t) (askedOf live s start size parent x (length t))

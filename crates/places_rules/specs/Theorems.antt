@@ -3,7 +3,7 @@ use Prim.Native.Nat.{ℕ, _+_, _<_}
 use mathlib.Core.Path.{_≡_}
 use mathlib.Core.List.{List}
 use mathlib.Core.Logic.{_⊎_}
-use mathlib.Core.Bool.{true, _||_}
+use mathlib.Core.Bool.{Bool, true, _||_}
 use lib.ListN.{length}
 use Rattle.refusals.specs.Refusals.{badArgument}
 use Rattle.refusals.specs.Theorems.{Listed}
@@ -36,23 +36,25 @@ OnePayload =
 -- The numbers that stood in the lent table do not matter, only how many there are.
 abbrev pub OneOwner : Type 0
 OneOwner =
-    (s : List ℕ) (start size parent x : ℕ) (t u : List ℕ) (r r′ : WhoseReply) (t′ u′ : List ℕ) → length t ≡ length u
-    → WhosePromise s start size parent x t r t′ → WhosePromise s start size parent x u r′ u′ → (r ≡ r′) × (t′ ≡ u′)
+    (live : Bool) (s : List ℕ) (start size parent x : ℕ) (t u : List ℕ) (r r′ : WhoseReply) (t′ u′ : List ℕ)
+    → length t ≡ length u
+    → WhosePromise live s start size parent x t r t′ → WhosePromise live s start size parent x u r′ u′
+    → (r ≡ r′) × (t′ ≡ u′)
 
 -- A refusal that a promise permits is one of document 01's list.
 pub record PlacesRefuseListed : Type 0 where
   pub range : (s t : List ℕ) (row : ℕ) (e : Refusal) → RangePromise s t row (NoRange e) → Listed e
   pub owner :
-      (s : List ℕ) (start size parent x : ℕ) (t : List ℕ) (e : Refusal) (t′ : List ℕ)
-      → WhosePromise s start size parent x t (Refused e) t′ → Listed e
+      (live : Bool) (s : List ℕ) (start size parent x : ℕ) (t : List ℕ) (e : Refusal) (t′ : List ℕ)
+      → WhosePromise live s start size parent x t (Refused e) t′ → Listed e
 
 -- Where it broke (document 02, C-12): a range is refused with 14 alone, at 0; the payload of the address question is
 -- refused as the public read refuses it, at the first element with a fault.
 pub record PlacesHonest : Type 0 where
   pub range : (s t : List ℕ) (row : ℕ) (e : Refusal) → RangePromise s t row (NoRange e) → e ≡ badArgument
   pub owner :
-      (s : List ℕ) (start size parent x : ℕ) (t : List ℕ) (e : Refusal) (t′ : List ℕ)
-      → WhosePromise s start size parent x t (Refused e) t′ → HonestReading s start size parent (length t) e
+      (live : Bool) (s : List ℕ) (start size parent x : ℕ) (t : List ℕ) (e : Refusal) (t′ : List ℕ)
+      → WhosePromise live s start size parent x t (Refused e) t′ → HonestReading live s start size parent (length t) e
 
 -- The owner of an address among rows: one of them holds it, by its header or by its leaf payload as the reply says, and
 -- no other row holds it.
@@ -68,14 +70,14 @@ pub record Owner (rs : List Row) (x : ℕ) (r : WhoseReply) : Type 0 where
 -- reply names it: 'no such row' is never the reason of a refusal.
 abbrev pub OneRowOwns : Type 0
 OneRowOwns =
-    (s : List ℕ) (start size parent x : ℕ) (t : List ℕ) (r : WhoseReply) (t′ : List ℕ) (f : Forest)
-    → WhosePromise s start size parent x t r t′ → askedOf s start size parent x (length t) ≡ done f
+    (live : Bool) (s : List ℕ) (start size parent x : ℕ) (t : List ℕ) (r : WhoseReply) (t′ : List ℕ) (f : Forest)
+    → WhosePromise live s start size parent x t r t′ → askedOf live s start size parent x (length t) ≡ done f
     → Owner (rowsOf t′ (count f)) x r
 
 -- Each row of an accepted read has its payload in the recording: its range is not refused.
 abbrev pub RowsHaveRanges : Type 0
 RowsHaveRanges =
-    (s : List ℕ) (start size parent : ℕ) (t : List ℕ) (n : ℕ) (t′ : List ℕ)
-    → ReadPromise s start size parent t (Rows n) t′
+    (live : Bool) (s : List ℕ) (start size parent : ℕ) (t : List ℕ) (n : ℕ) (t′ : List ℕ)
+    → ReadPromise live s start size parent t (Rows n) t′
     → (k : ℕ) → k < n
     → payloadRange s t′ k ≡ range (rowAt t′ k .address + rowAt t′ k .header) (rowAt t′ k .payload)

@@ -1,7 +1,7 @@
 -- The address question (document 01, Element table): the row whose header or leaf payload holds an address.
 use Prim.Native.Nat.{ℕ, _+_}
 use mathlib.Core.List.{List, [], _∷_}
-use mathlib.Core.Bool.{cond, not}
+use mathlib.Core.Bool.{Bool, cond, not}
 use Rattle.refusals.specs.Refusals.{badArgument, outside}
 use Rattle.refusals.specs.Reply.{Reply, accepted, refusal}
 use Rattle.elements_rules.specs.Forest.{count}
@@ -33,12 +33,12 @@ unfoldable pub whoseIn : List Row → (row total x : ℕ) → Reply Whose
 whoseIn [] row total x = refusal outside
 whoseIn (r ∷ rs) row total x = named (holderIn r x) row total (whoseIn rs (row + 1) total x)
 
--- 14; then 15 for an address outside the payload that the caller named; then the reading.
-unfoldable pub askedOf : List ℕ → (start size parent x numbers : ℕ) → Outcome
-askedOf s start size parent x numbers =
+-- 14; then 15 for an address outside the payload that the caller named; then the reading, in live mode or in old mode.
+unfoldable pub askedOf : (live : Bool) → List ℕ → (start size parent x numbers : ℕ) → Outcome
+askedOf live s start size parent x numbers =
     refuseIf (not (allowed s start numbers)) badArgument
     (refuseIf (not (within start size x)) outside
-    (filled s start size parent numbers))
+    (filled live s start size parent numbers))
 
 abbrev pub whoseOf : (start x : ℕ) → Outcome → Reply Whose
 whoseOf start x (done f) = whoseIn (rowsAt start f) 0 (count f) x

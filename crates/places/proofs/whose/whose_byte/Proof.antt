@@ -12,7 +12,7 @@ returns c =
     let d = c .before in
     let k = d .before .before .before .before .clear in
     let a = failed _ _ (d .is-allowed .ensures ∙ allowed-as _ _ (k .kept .0)) (c .if1 .taken) in
-    asked-broken _ _ _ _ _ _ _ a (k .ensures)
+    asked-broken _ _ _ _ _ _ _ _ a (k .ensures)
 
 returns-2 : tie.Need-returns-2
 returns-2 c =
@@ -20,7 +20,7 @@ returns-2 c =
     let k = d .before .before .before .before .before .clear in
     let a = passed _ _ (d .before .is-allowed .ensures ∙ allowed-as _ _ (k .kept .0)) (d .if1 .left) in
     let w = failed _ _ (c .before .is-within .ensures) (c .if2 .taken) in
-    asked-outside _ _ _ _ _ _ _ a w (k .ensures)
+    asked-outside _ _ _ _ _ _ _ _ a w (k .ensures)
 
 fill-requires : tie.Need-fill-requires
 fill-requires c κs =
@@ -31,7 +31,7 @@ fill-requires c κs =
 find-requires : tie.Need-find-requires
 find-requires c κs =
     let d = c .before .before in
-    asked-rows _ _ _ _ _ _ _ (rw (d .rows .given .1) at (d .before .before .before .before .fill .ensures))
+    asked-rows _ _ _ _ _ _ _ _ (rw (d .rows .given .1) at (d .before .before .before .before .fill .ensures))
 
 returns-3 : tie.Need-returns-3
 returns-3 c =
@@ -42,7 +42,7 @@ returns-3 c =
     let a = passed _ _ (e .before .is-allowed .ensures ∙ allowed-as _ _ (k .kept .0)) (e .if1 .left) in
     let w = passed _ _ (d .before .is-within .ensures) (d .if2 .left) in
     let p = rw (b .refusal .given .1) at (b .before .before .before .before .fill .ensures) in
-    asked-refused _ _ _ _ _ _ _ a w _ (as-lent _ _ _ _ _ _ _ _ (k .kept .0) p)
+    asked-refused _ _ _ _ _ _ _ _ a w _ (as-lent _ _ _ _ _ _ _ _ _ (k .kept .0) p)
 
 returns-4 : tie.Need-returns-4
 returns-4 c =
@@ -53,7 +53,7 @@ returns-4 c =
     let a = passed _ _ (e .before .is-allowed .ensures ∙ allowed-as _ _ (k .kept .0)) (e .if1 .left) in
     let w = passed _ _ (d .before .is-within .ensures) (d .if2 .left) in
     let p = rw (b .rows .given .1) at (b .before .before .before .before .fill .ensures) in
-    asked-found _ _ _ _ _ _ _ a w _ _ (as-lent _ _ _ _ _ _ _ _ (k .kept .0) p) (c .find .ensures)
+    asked-found _ _ _ _ _ _ _ _ a w _ _ (as-lent _ _ _ _ _ _ _ _ _ (k .kept .0) p) (c .find .ensures)
 
 pub whose-byte-spec : {M : Type 1} → statement M
 whose-byte-spec =
