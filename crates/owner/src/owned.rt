@@ -41,10 +41,11 @@ fn is_asked(recording: &[u8], start: u64, links: usize) -> bool
     links as u64 <= DEPTHS
 }
 
-// The walk to the element that holds the address, which is in the payload. The chain is kept in a cleared slice; after
-// a refusal it is as far as the walk came.
+// The walk to the element that holds the address, which is in the payload. At each header: the header, 17 in live mode,
+// 12, 3. The chain is kept in a cleared slice; after a refusal it is as far as the walk came.
 fn walk(
     recording: &[u8],
+    live: bool,
     start: u64,
     size: u64,
     parent: u32,
@@ -54,7 +55,7 @@ fn walk(
     requires { ⌜ length (now recording) ≤ mostBytes ⌝ }
     requires { ⌜ within start size address ≡ true ⌝ }
     requires { ⌜ now chain ≡ zeros (length (now chain)) ⌝ }
-    ensures { λ r. ⌜ WalkMet (now (recording .entry)) start size parent address
+    ensures { λ r. ⌜ WalkMet live (now (recording .entry)) start size parent address
         (now (chain .entry)) r (now (chain .exit)) ⌝ }
 {
     let mut place = Cursor { at: start };
@@ -63,7 +64,7 @@ fn walk(
     let mut depth: u64 = 0;
     while left > 0 {
         let here = place.at;
-        match element_header(recording, place) {
+        match element_header(recording, live, place) {
             HeaderRead::Refused(refusal) => {
                 return OwnerReply::Refused(refusal);
             }
@@ -115,19 +116,21 @@ fn walk(
     })
 }
 
-// The element that holds an address of the payload of `size` bytes from `start` on, under a parent id. The chain takes
-// the header addresses of the masters around it, the outermost first, and its own, as far as there is room, and zeros
-// beyond them; the reply's depth tells how many masters there are. 14: a length is broken (a chain has at most 16
-// links), or the start is past the end; then 15: the address is outside the payload that the caller named.
+// The element that holds an address of the payload of `size` bytes from `start` on, under a parent id; in live mode,
+// which knows unknown sizes, or in old mode. The chain takes the header addresses of the masters around it, the
+// outermost first, and its own, as far as there is room, and zeros beyond them; the reply's depth tells how many
+// masters there are. 14: a length is broken (a chain has at most 16 links), or the start is past the end; then 15: the
+// address is outside the payload that the caller named.
 pub fn owner_chain(
     recording: &[u8],
+    live: bool,
     start: u64,
     size: u64,
     parent: u32,
     address: u64,
     chain: &mut [u64],
 ) -> OwnerReply
-    ensures { λ r. ⌜ ChainPromise (now (recording .entry)) start size parent address
+    ensures { λ r. ⌜ ChainPromise live (now (recording .entry)) start size parent address
         (now (chain .entry)) r (now (chain .exit)) ⌝ }
 {
     clear(chain);
@@ -143,7 +146,7 @@ pub fn owner_chain(
             cause: Cause::Outside,
         });
     }
-    let reply = walk(recording, start, size, parent, address, chain);
+    let reply = walk(recording, live, start, size, parent, address, chain);
     if let OwnerReply::Refused(_) = reply {
         clear(chain);
     }
@@ -151,9 +154,16 @@ pub fn owner_chain(
 }
 
 // The same without the chain.
-pub fn owner(recording: &[u8], start: u64, size: u64, parent: u32, address: u64) -> OwnerReply
-    ensures { λ r. ⌜ OwnerPromise (now (recording .entry)) start size parent address r ⌝ }
+pub fn owner(
+    recording: &[u8],
+    live: bool,
+    start: u64,
+    size: u64,
+    parent: u32,
+    address: u64,
+) -> OwnerReply
+    ensures { λ r. ⌜ OwnerPromise live (now (recording .entry)) start size parent address r ⌝ }
 {
     let mut chain = [0u64; 16];
-    owner_chain(recording, start, size, parent, address, &mut chain)
+    owner_chain(recording, live, start, size, parent, address, &mut chain)
 }

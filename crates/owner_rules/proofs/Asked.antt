@@ -49,38 +49,38 @@ asked-same s start l = ap (λ (n : ℕ). allowed s start 0 && leb n mostLinks) l
 
 -- ---- the questions
 
-module _ (s : List ℕ) (start size parent x : ℕ) where
-  pub owner-broken : allowed s start 0 ≡ false → ownerOf s start size parent x ≡ refusal badArgument
+module _ (live : Bool) (s : List ℕ) (start size parent x : ℕ) where
+  pub owner-broken : allowed s start 0 ≡ false → ownerOf live s start size parent x ≡ refusal badArgument
   unfolding ownerOf
   owner-broken a = rw a
 
   module _ (a : allowed s start 0 ≡ true) where
-    pub owner-outside : within start size x ≡ false → ownerOf s start size parent x ≡ refusal outside
+    pub owner-outside : within start size x ≡ false → ownerOf live s start size parent x ≡ refusal outside
     unfolding ownerOf
     owner-outside w = rw (a, w)
 
     pub owner-walks : within start size x ≡ true
-        → ownerOf s start size parent x ≡ ownerAt s x size 0 parent start size
+        → ownerOf live s start size parent x ≡ ownerAt live s x size 0 parent start size
     unfolding ownerOf
     owner-walks w = rw (a, w)
 
   -- A chain is asked like its owner, in a slice that is not too long.
-  pub chain-long : (links : ℕ) → mostLinks < links → chainOf s start size parent x links ≡ refusal badArgument
+  pub chain-long : (links : ℕ) → mostLinks < links → chainOf live s start size parent x links ≡ refusal badArgument
   unfolding chainOf
   chain-long links l = rw (lt-ltb mostLinks links l)
 
   pub chain-owner : (links : ℕ) → links ≤ mostLinks
-      → chainOf s start size parent x links ≡ ownerOf s start size parent x
+      → chainOf live s start size parent x links ≡ ownerOf live s start size parent x
   unfolding chainOf
   chain-owner links l = rw (le-ltb mostLinks links l)
 
   -- Both tests of the arguments, as the code asks them.
   pub chain-broken : (links : ℕ) → (allowed s start 0 && leb links mostLinks) ≡ false
-      → chainOf s start size parent x links ≡ refusal badArgument
+      → chainOf live s start size parent x links ≡ refusal badArgument
   chain-broken links q = go (allowed s start 0) refl (leb links mostLinks) refl q
     where
       go : (a : Bool) → allowed s start 0 ≡ a → (b : Bool) → leb links mostLinks ≡ b → (a && b) ≡ false
-          → chainOf s start size parent x links ≡ refusal badArgument
+          → chainOf live s start size parent x links ≡ refusal badArgument
       go a d false e w = chain-long links (leb-false links mostLinks e)
       go false d true e w = chain-owner links (leb-true links mostLinks e) ∙ owner-broken d
       go true d true e w = let z : _≡_ {A = ℕ} 0 1 = cc in absurd (omega arith)
@@ -110,57 +110,57 @@ told-refused (accepted o) e q = by (o .side) q
     by header w = let z : _≡_ {A = ℕ} 0 1 = cc in absurd (let y : ⊥ = omega arith in y)
     by payload w = let z : _≡_ {A = ℕ} 0 1 = cc in absurd (let y : ⊥ = omega arith in y)
 
-module _ (s : List ℕ) (start size parent x : ℕ) (t t′ : List ℕ) where
-  asked-is : (r : OwnerReply) (o : Reply Owned) → chainOf s start size parent x (length t) ≡ o → r ≡ ownerReply o
-      → t′ ≡ linksOf (length t) o → ChainPromise s start size parent x t r t′
+module _ (live : Bool) (s : List ℕ) (start size parent x : ℕ) (t t′ : List ℕ) where
+  asked-is : (r : OwnerReply) (o : Reply Owned) → chainOf live s start size parent x (length t) ≡ o → r ≡ ownerReply o
+      → t′ ≡ linksOf (length t) o → ChainPromise live s start size parent x t r t′
   asked-is r o e q z = record { reply = rw e q; links = rw e z }
 
-  refusal-is : (e : Refusal) → chainOf s start size parent x (length t) ≡ refusal e → t′ ≡ zeros (length t)
-      → ChainPromise s start size parent x t (Refused e) t′
+  refusal-is : (e : Refusal) → chainOf live s start size parent x (length t) ≡ refusal e → t′ ≡ zeros (length t)
+      → ChainPromise live s start size parent x t (Refused e) t′
   unfolding linksOf
   refusal-is e q z = asked-is (Refused e) (refusal e) q refl z
 
   pub asked-broken : (allowed s start 0 && leb (length t) mostLinks) ≡ false → t′ ≡ zeros (length t)
-      → ChainPromise s start size parent x t (Refused badArgument) t′
-  asked-broken q z = refusal-is badArgument (chain-broken s start size parent x (length t) q) z
+      → ChainPromise live s start size parent x t (Refused badArgument) t′
+  asked-broken q z = refusal-is badArgument (chain-broken live s start size parent x (length t) q) z
 
   module _ (q : (allowed s start 0 && leb (length t) mostLinks) ≡ true) where
     pub asked-outside : within start size x ≡ false → t′ ≡ zeros (length t)
-        → ChainPromise s start size parent x t (Refused outside) t′
+        → ChainPromise live s start size parent x t (Refused outside) t′
     asked-outside w z =
-        let (a, l) = both-allowed s start size parent x (length t) q in
+        let (a, l) = both-allowed live s start size parent x (length t) q in
         refusal-is outside
-        (chain-owner s start size parent x (length t) l ∙ owner-outside s start size parent x a w) z
+        (chain-owner live s start size parent x (length t) l ∙ owner-outside live s start size parent x a w) z
 
     module _ (w : within start size x ≡ true) where
-      asked-walk : chainOf s start size parent x (length t) ≡ ownerAt s x size 0 parent start size
+      asked-walk : chainOf live s start size parent x (length t) ≡ ownerAt live s x size 0 parent start size
       asked-walk =
-          let (a, l) = both-allowed s start size parent x (length t) q in
-          chain-owner s start size parent x (length t) l ∙ owner-walks s start size parent x a w
+          let (a, l) = both-allowed live s start size parent x (length t) q in
+          chain-owner live s start size parent x (length t) l ∙ owner-walks live s start size parent x a w
 
       -- The walk is refused, and the slice cleared again.
-      pub asked-refused : (u u′ : List ℕ) (r : OwnerReply) (e : Refusal) → WalkMet s start size parent x u r u′
-          → r ≡ Refused e → t′ ≡ zeros (length t) → ChainPromise s start size parent x t r t′
+      pub asked-refused : (u u′ : List ℕ) (r : OwnerReply) (e : Refusal) → WalkMet live s start size parent x u r u′
+          → r ≡ Refused e → t′ ≡ zeros (length t) → ChainPromise live s start size parent x t r t′
       asked-refused u u′ r e m i z =
-          let o = ownerAt s x size 0 parent start size in
+          let o = ownerAt live s x size 0 parent start size in
           let f = told-refused o e (sym i ∙ m .reply) in
-          subst (λ (y : OwnerReply). ChainPromise s start size parent x t y t′) (sym i)
+          subst (λ (y : OwnerReply). ChainPromise live s start size parent x t y t′) (sym i)
           (refusal-is e (asked-walk ∙ f) z)
 
       -- The walk ends at an owner, with the chain in a slice as long as the one that was lent.
-      pub asked-owned : (u : List ℕ) (r : OwnerReply) → length u ≡ length t → WalkMet s start size parent x u r t′
-          → ((e : Refusal) → r ≡ Refused e → ⊥) → ChainPromise s start size parent x t r t′
-      asked-owned u r l m n = by (ownerAt s x size 0 parent start size) refl
+      pub asked-owned : (u : List ℕ) (r : OwnerReply) → length u ≡ length t → WalkMet live s start size parent x u r t′
+          → ((e : Refusal) → r ≡ Refused e → ⊥) → ChainPromise live s start size parent x t r t′
+      asked-owned u r l m n = by (ownerAt live s x size 0 parent start size) refl
         where
-          by : (o : Reply Owned) → ownerAt s x size 0 parent start size ≡ o
-              → ChainPromise s start size parent x t r t′
+          by : (o : Reply Owned) → ownerAt live s x size 0 parent start size ≡ o
+              → ChainPromise live s start size parent x t r t′
           by (accepted o) e =
               asked-is r (accepted o) (asked-walk ∙ e) (m .reply ∙ ap ownerReply e)
               (m .links o e ∙ ap (λ (k : ℕ). linksOf k (accepted o)) l)
           by (refusal f) e = absurd (n f (m .reply ∙ ap ownerReply e))
 
 -- The same without a chain.
-pub owner-of-chain : (s : List ℕ) (start size parent x : ℕ) (t : List ℕ) (r : OwnerReply) (t′ : List ℕ)
-    → length t ≤ mostLinks → ChainPromise s start size parent x t r t′ → OwnerPromise s start size parent x r
-owner-of-chain s start size parent x t r t′ l p =
-    record { reply = p .reply ∙ ap ownerReply (chain-owner s start size parent x (length t) l) }
+pub owner-of-chain : (live : Bool) (s : List ℕ) (start size parent x : ℕ) (t : List ℕ) (r : OwnerReply) (t′ : List ℕ)
+    → length t ≤ mostLinks → ChainPromise live s start size parent x t r t′ → OwnerPromise live s start size parent x r
+owner-of-chain live s start size parent x t r t′ l p =
+    record { reply = p .reply ∙ ap ownerReply (chain-owner live s start size parent x (length t) l) }

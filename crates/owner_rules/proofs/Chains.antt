@@ -9,17 +9,17 @@ use Rattle.owner_rules.proofs.Asked.{chain-long, chain-owner, told-refu
 use Rattle.owner_rules.proofs.Found.{owned-found}
 
 pub chains-lead : ChainsLead
-chains-lead s start size parent x t r q t′ p g = record {
-  same = λ l. p .reply ∙ ap ownerReply (chain-owner s start size parent x (length t) l) ∙ sym (g .reply);
-  long = λ l. p .reply ∙ ap ownerReply (chain-long s start size parent x (length t) l);
+chains-lead live s start size parent x t r q t′ p g = record {
+  same = λ l. p .reply ∙ ap ownerReply (chain-owner live s start size parent x (length t) l) ∙ sym (g .reply);
+  long = λ l. p .reply ∙ ap ownerReply (chain-long live s start size parent x (length t) l);
   links = λ l o k.
       p .links
       ∙ ap (linksOf (length t))
-      (chain-owner s start size parent x (length t) l ∙ owned-found s start size parent x o k)
+      (chain-owner live s start size parent x (length t) l ∙ owned-found live s start size parent x o k)
       ∙ links-owned (length t) o;
   none = λ e i.
       p .links
       ∙ ap (linksOf (length t))
-      (told-refused (chainOf s start size parent x (length t)) e (sym i ∙ p .reply))
+      (told-refused (chainOf live s start size parent x (length t)) e (sym i ∙ p .reply))
       ∙ links-refused (length t) e;
 }

@@ -2,6 +2,7 @@
 use Prim.Native.Nat.{ℕ, zero, suc, _+_, _-_, _≤_, _<_}
 use mathlib.Core.Path.{_≡_, sym, ap, _∙_, subst}
 use mathlib.Core.List.{List, [], _∷_, _++_, append-nil, append-assoc}
+use mathlib.Core.Bool.{Bool}
 use native.Mathlib.Omega.{arith}
 use lib.ListN.{length, length-append}
 use Rattle.refusals.specs.Reply.{accepted}
@@ -14,6 +15,7 @@ use Rattle.elements_rules.specs.Stands.{StandsAt, Stands}
 use Rattle.elements_rules.specs.declared.row.Row.{Row}
 use Rattle.elements_rules.proofs.Family.{nth-before}
 use Rattle.elements_rules.proofs.Forests.{length-rows}
+use Rattle.elements_rules.proofs.Parts.{taken-there}
 use Rattle.places_rules.specs.Whose.{holderIn}
 use Rattle.places_rules.specs.declared.whose.Holder.{Holder}
 use Rattle.places_rules.specs.declared.whose.Holder.the-variants.{Header as RowHeader, Payload as RowPayload}
@@ -38,7 +40,7 @@ abbrev pub holderOf : Side → Holder
 holderOf header = RowHeader
 holderOf payload = RowPayload
 
-module _ (s : List ℕ) (x : ℕ) (all : List Row) where
+module _ (live : Bool) (s : List ℕ) (x : ℕ) (all : List Row) where
   -- The row of an owner that was found below some masters.
   pub record RowOf (depth : ℕ) (outer : List ℕ) (o : Owned) : Type 0 where
     pub row : ℕ
@@ -51,7 +53,7 @@ module _ (s : List ℕ) (x : ℕ) (all : List Row) where
   -- The owner in elements that stand at a place, with its row.
   pub record OwnerIn (most depth parent at left : ℕ) (outer : List ℕ) : Type 0 where
     pub owned : Owned
-    pub is : ownerAt s x most depth parent at left ≡ accepted owned
+    pub is : ownerAt live s x most depth parent at left ≡ accepted owned
     pub row-of : RowOf depth outer owned
 
   -- Rows that stand in the table from row n on.
@@ -61,7 +63,7 @@ module _ (s : List ℕ) (x : ℕ) (all : List Row) where
   -- One element among others, in its row.
   module _
       (parent prow depth at n : ℕ) (outer : List ℕ) (e : Element) (kids rest : Forest)
-      (i : StandsAt s parent at e kids) (first : nth all n ≡ rowOf e prow depth at (n + 1 + count kids))
+      (i : StandsAt live s parent at e kids) (first : nth all n ≡ rowOf e prow depth at (n + 1 + count kids))
       (some : n < length all) (up : (r : Row) → r .parent ≡ prow → ParentsOf all r outer)
     where
       abbrev its-row : Row
@@ -115,7 +117,7 @@ module _ (s : List ℕ) (x : ℕ) (all : List Row) where
         by-header : at ≤ x → x < at + e .header .length → OwnerIn (suc most) depth parent at left outer
         by-header low a = record {
           owned = record { side = header; address = at; masters = [] };
-          is = in-header s x most depth parent at left (e .header) (i .head) d fits a;
+          is = in-header live s x most depth parent at left (e .header) (i .head) d fits a;
           row-of = own-row header (holder-header its-row x low (omega arith));
         }
 
@@ -123,10 +125,10 @@ module _ (s : List ℕ) (x : ℕ) (all : List Row) where
           by-payload : x < at + whole e → (IsMaster (e .header) parent → ⊥)
               → OwnerIn (suc most) depth parent at left outer
           by-payload b k =
-              let one = header-inside s at (e .header) (i .head) .0 in
+              let one = header-inside s at (e .header) (taken-there live s at (e .header) (i .head)) .0 in
               record {
                 owned = record { side = payload; address = at; masters = [] };
-                is = in-payload s x most depth parent at left (e .header) (i .head) d fits a b k;
+                is = in-payload live s x most depth parent at left (e .header) (i .head) d fits a b k;
                 row-of =
                     own-row payload
                     (holder-payload its-row x (omega arith) (omega arith)
@@ -143,8 +145,8 @@ module _ (s : List ℕ) (x : ℕ) (all : List Row) where
               record {
                 owned = record { side = o .side; address = o .address; masters = at ∷ o .masters };
                 is =
-                    in-master s x most depth parent at left h (i .head) d fits a b k
-                    ∙ ap (λ (y : ℕ). inMaster at (ownerAt s x most (depth + 1) (h .id) (at + h .length) y))
+                    in-master live s x most depth parent at left h (i .head) d fits a b k
+                    ∙ ap (λ (y : ℕ). inMaster at (ownerAt live s x most (depth + 1) (h .id) (at + h .length) y))
                     (sym (kids-take k))
                     ∙ ap (inMaster at) (w .is);
                 row-of = row-inside o (w .row-of);
@@ -158,15 +160,15 @@ module _ (s : List ℕ) (x : ℕ) (all : List Row) where
               record {
                 owned = w .owned;
                 is =
-                    behind s x most depth parent at left (e .header) (i .head) d fits a b
-                    ∙ ap (ownerAt s x most depth parent (at + whole e)) z
+                    behind live s x most depth parent at left (e .header) (i .head) d fits a b
+                    ∙ ap (ownerAt live s x most depth parent (at + whole e)) z
                     ∙ w .is;
                 row-of = w .row-of;
               }
 
   -- The owner in a tree that stands.
   pub forest-owner :
-      (f : Forest) (parent prow depth at n most : ℕ) (outer : List ℕ) → Stands s parent at f
+      (f : Forest) (parent prow depth at n most : ℕ) (outer : List ℕ) → Stands live s parent at f
       → depth + deep f ≤ depths → span f ≤ most → at ≤ x → x < at + span f
       → Placed n (rows prow depth at n f) → n + count f ≤ length all
       → ((r : Row) → r .parent ≡ prow → ParentsOf all r outer)
@@ -174,11 +176,12 @@ module _ (s : List ℕ) (x : ℕ) (all : List Row) where
   unfolding Stands span deep count rows nth
   forest-owner none parent prow depth at n most outer i d m low high p c up = absurd (omega arith)
   forest-owner (node e kids rest) parent prow depth at n zero outer i d m low high p c up =
-      absurd (let one = header-inside s at (e .header) (i .0 .head) .0 in omega arith)
+      let one = header-inside s at (e .header) (taken-there live s at (e .header) (i .0 .head)) .0 in
+      absurd (omega arith)
   forest-owner (node e kids rest) parent prow depth at n (suc most) outer i d m low high p c up =
       let h = e .header in
       let q = i .0 .head in
-      let one = header-inside s at h q .0 in
+      let one = header-inside s at h (taken-there live s at h q) .0 in
       let inner = rows (n + 1) (depth + 1) (at + h .length) (n + 1) kids in
       let others = rows prow depth (at + whole e) (n + 1 + count kids) rest in
       let inner-length = length-rows (n + 1) (depth + 1) (at + h .length) (n + 1) kids in

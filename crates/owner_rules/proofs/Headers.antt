@@ -30,22 +30,23 @@ master-or-not {A} h parent is other = go (eqb (numberOf (kindUnder (h .id) paren
     go true e = is (eqb-true _ 1 e)
     go false e = other (eqb-false _ 1 e)
 
-module _ (s : List ℕ) (x depth parent at left : ℕ) where
+module _ (live : Bool) (s : List ℕ) (x depth parent at left : ℕ) where
   pub at-header : {A : Type 0}
-      → ((c : Cause) → elementHeader s at ≡ refusedHeader c → A)
-      → ((h : Header) → elementHeader s at ≡ heading h → depths ≤ depth → A)
-      → ((h : Header) → elementHeader s at ≡ heading h → depth < depths → left < wholeOf h → A)
-      → ((h : Header) → elementHeader s at ≡ heading h → depth < depths → wholeOf h ≤ left → x < at + h .length → A)
-      → ((h : Header) → elementHeader s at ≡ heading h → depth < depths → wholeOf h ≤ left → at + h .length ≤ x
+      → ((c : Cause) → elementHeader live s at ≡ refusedHeader c → A)
+      → ((h : Header) → elementHeader live s at ≡ heading h → depths ≤ depth → A)
+      → ((h : Header) → elementHeader live s at ≡ heading h → depth < depths → left < wholeOf h → A)
+      → ((h : Header) → elementHeader live s at ≡ heading h → depth < depths → wholeOf h ≤ left
+      → x < at + h .length → A)
+      → ((h : Header) → elementHeader live s at ≡ heading h → depth < depths → wholeOf h ≤ left → at + h .length ≤ x
       → x < at + wholeOf h → (IsMaster h parent → ⊥) → A)
-      → ((h : Header) → elementHeader s at ≡ heading h → depth < depths → wholeOf h ≤ left → at + h .length ≤ x
+      → ((h : Header) → elementHeader live s at ≡ heading h → depth < depths → wholeOf h ≤ left → at + h .length ≤ x
       → x < at + wholeOf h → IsMaster h parent → A)
-      → ((h : Header) → elementHeader s at ≡ heading h → depth < depths → wholeOf h ≤ left → at + h .length ≤ x
+      → ((h : Header) → elementHeader live s at ≡ heading h → depth < depths → wholeOf h ≤ left → at + h .length ≤ x
       → at + wholeOf h ≤ x → A)
       → A
-  at-header {A} broken deep large head leaf master past = go (elementHeader s at) refl
+  at-header {A} broken deep large head leaf master past = go (elementHeader live s at) refl
     where
-      go : (y : Heading) → elementHeader s at ≡ y → A
+      go : (y : Heading) → elementHeader live s at ≡ y → A
       go (refusedHeader c) e = broken c e
       go (heading h) e =
           either depth depths

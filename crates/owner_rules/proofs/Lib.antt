@@ -15,3 +15,4 @@ pub mod Exactly
 pub mod Forest
 pub mod Same
 pub mod Chains
+pub mod Live

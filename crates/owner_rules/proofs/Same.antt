@@ -99,8 +99,8 @@ rowIs payload row total = RowPayload row total
 -- ---- a payload that was read
 
 module _
-    (s : List ℕ) (start size parent x : ℕ) (t : List ℕ) (w : WhoseReply) (t′ : List ℕ) (f : Forest)
-    (p : WhosePromise s start size parent x t w t′) (q : askedOf s start size parent x (length t) ≡ done f)
+    (live : Bool) (s : List ℕ) (start size parent x : ℕ) (t : List ℕ) (w : WhoseReply) (t′ : List ℕ) (f : Forest)
+    (p : WhosePromise live s start size parent x t w t′) (q : askedOf live s start size parent x (length t) ≡ done f)
   where
     abbrev rs : List Row
     rs = rows 0 0 start 0 f
@@ -108,7 +108,7 @@ module _
     -- What the two questions say of the same row.
     record Agrees : Type 0 where
       owned : Owned
-      is : ownerAt s x size 0 parent start size ≡ accepted owned
+      is : ownerAt live s x size 0 parent start size ≡ accepted owned
       row : ℕ
       there : row < length rs
       address : nth rs row .address ≡ owned .address
@@ -117,21 +117,21 @@ module _
       named : w ≡ rowIs (owned .side) row (length rs)
 
     -- The walk ends at a row of the tree that was read.
-    walk-owner : OwnerIn s x rs size 0 parent start size []
+    walk-owner : OwnerIn live s x rs size 0 parent start size []
     walk-owner =
-        let (w-in, o) = asked-done s start size parent x (length t) f q in
+        let (w-in, o) = asked-done live s start size parent x (length t) f q in
         let (low, high) = inside start size x w-in in
-        let (taken, stands) = read-stands s start size parent (length t) f o in
-        let shallow = read-low s start size parent (length t) f o in
+        let (taken, stands) = read-stands live s start size parent (length t) f o in
+        let shallow = read-low live s start size parent (length t) f o in
         let l = length-rows 0 0 start 0 f in
-        subst (λ (y : ℕ). OwnerIn s x rs size 0 parent start y []) taken
-        (forest-owner s x rs f parent 0 0 start 0 size [] stands (omega arith) (omega arith) low (omega arith)
+        subst (λ (y : ℕ). OwnerIn live s x rs size 0 parent start y []) taken
+        (forest-owner live s x rs f parent 0 0 start 0 size [] stands (omega arith) (omega arith) low (omega arith)
         (λ j k. ap (nth rs) (zero-add j)) (omega arith) (λ r e. outermost r e))
 
     row-owner : RowOwner rs x w
     row-owner =
-        subst (λ (us : List Row). RowOwner us x w) (table-rows s start size parent x t w t′ f p q)
-        (row-owns s start size parent x t w t′ f p q)
+        subst (λ (us : List Row). RowOwner us x w) (table-rows live s start size parent x t w t′ f p q)
+        (row-owns live s start size parent x t w t′ f p q)
 
     -- It is the one row that owns the address.
     agrees : Agrees
@@ -166,18 +166,18 @@ module _
     table-row k l =
         let c = length-rows 0 0 start 0 f in
         sym (row-of t′ (count f) k (omega arith))
-        ∙ ap (λ (us : List Row). nth us k) (table-rows s start size parent x t w t′ f p q)
+        ∙ ap (λ (us : List Row). nth us k) (table-rows live s start size parent x t w t′ f p q)
 
     was-allowed : allowed s start 0 ≡ true
     unfolding askedOf
     was-allowed = no-table s start (length t) (not-false _ (of-refuse _ _ _ q .0))
 
-    owner-is : ownerOf s start size parent x ≡ accepted (agrees .owned)
+    owner-is : ownerOf live s start size parent x ≡ accepted (agrees .owned)
     owner-is =
-        owner-walks s start size parent x was-allowed (asked-done s start size parent x (length t) f q .0)
+        owner-walks live s start size parent x was-allowed (asked-done live s start size parent x (length t) f q .0)
         ∙ agrees .is
 
-    same-reply : ownerReply (ownerOf s start size parent x) ≡ byAddress t′ w
+    same-reply : ownerReply (ownerOf live s start size parent x) ≡ byAddress t′ w
     same-reply =
         let a = agrees in
         let o = a .owned in
@@ -198,7 +198,8 @@ module _
 
     -- The chain into so many numbers, by the row that the full question names.
     same-chain : (row total : ℕ) → (w ≡ RowHeader row total) ⊎ (w ≡ RowPayload row total)
-        → (c : List ℕ) (r : OwnerReply) (c′ : List ℕ) → ChainPromise s start size parent x c r c′ → length c ≤ mostLinks
+        → (c : List ℕ) (r : OwnerReply) (c′ : List ℕ)
+        → ChainPromise live s start size parent x c r c′ → length c ≤ mostLinks
         → ChainOfRow t′ total row (length c) c′
     same-chain row total e c r c′ g l =
         let a = agrees in
@@ -206,7 +207,7 @@ module _
         let (row-same, total-same) = which (o .side) (a .named) e in
         let n : total ≡ count f = total-same ∙ length-rows 0 0 start 0 f in
         let row-is : rowAt t′ row ≡ nth rs (a .row) = ap (rowAt t′) row-same ∙ table-row (a .row) (a .there) in
-        let all-is : rowsOf t′ total ≡ rs = ap (rowsOf t′) n ∙ table-rows s start size parent x t w t′ f p q in
+        let all-is : rowsOf t′ total ≡ rs = ap (rowsOf t′) n ∙ table-rows live s start size parent x t w t′ f p q in
         record {
           masters = o .masters;
           parents =
@@ -214,7 +215,7 @@ module _
               (subst (λ (y : Row). ParentsOf rs y (o .masters)) (sym row-is) (a .parents));
           links-are =
               g .links
-              ∙ ap (linksOf (length c)) (chain-owner s start size parent x (length c) l ∙ owner-is)
+              ∙ ap (linksOf (length c)) (chain-owner live s start size parent x (length c) l ∙ owner-is)
               ∙ links-owned (length c) o
               ∙ ap (λ (y : ℕ). take (length c) ((o .masters ++ (y ∷ [])) ++ zeros (length c)))
               (sym (ap (λ (y : Row). y .address) row-is ∙ a .address));
@@ -230,15 +231,17 @@ module _
 -- ---- the theorems
 
 -- The full question past a read that was accepted: its outcome by whether the address is in the payload.
-module _ (s : List ℕ) (start size parent x numbers : ℕ) (f : Forest) (o : readOf s start size parent numbers ≡ done f)
+module _
+    (live : Bool) (s : List ℕ) (start size parent x numbers : ℕ) (f : Forest)
+    (o : readOf live s start size parent numbers ≡ done f)
   where
-    asked-inside : within start size x ≡ true → askedOf s start size parent x numbers ≡ done f
+    asked-inside : within start size x ≡ true → askedOf live s start size parent x numbers ≡ done f
     unfolding askedOf readOf
     asked-inside i =
         let (a, v) = of-refuse _ _ _ o in
         passes _ _ _ a ∙ passes _ _ _ (ap not i) ∙ v
 
-    asked-outside : within start size x ≡ false → askedOf s start size parent x numbers ≡ refused outside
+    asked-outside : within start size x ≡ false → askedOf live s start size parent x numbers ≡ refused outside
     unfolding askedOf readOf
     asked-outside i =
         let (a, v) = of-refuse _ _ _ o in
@@ -249,30 +252,30 @@ module _ (s : List ℕ) (start size parent x numbers : ℕ) (f : Forest) (o : re
     start-allowed = no-table s start numbers (not-false _ (of-refuse _ _ _ o .0))
 
 pub same-owner : SameOwner
-same-owner s start size parent x t n u w t′ r d p g =
-    let a = accepted-read s start size parent t n u d in
+same-owner live s start size parent x t n u w t′ r d p g =
+    let a = accepted-read live s start size parent t n u d in
     by (a .forest) (a .outcome) (within start size x) refl
   where
-    by : (f : Forest) → readOf s start size parent (length t) ≡ done f → (b : Bool) → within start size x ≡ b
+    by : (f : Forest) → readOf live s start size parent (length t) ≡ done f → (b : Bool) → within start size x ≡ b
         → r ≡ byAddress t′ w
     by f o true i =
         g .reply
-        ∙ same-reply s start size parent x t w t′ f p (asked-inside s start size parent x (length t) f o i)
+        ∙ same-reply live s start size parent x t w t′ f p (asked-inside live s start size parent x (length t) f o i)
     by f o false i =
-        let a = start-allowed s start size parent x (length t) f o in
-        let e = asked-outside s start size parent x (length t) f o i in
+        let a = start-allowed live s start size parent x (length t) f o in
+        let e = asked-outside live s start size parent x (length t) f o i in
         let none : w ≡ NoRow outside
         = sym (replied-back w) ∙ ap replied (p .reply ∙ ap (whoseOf start x) e) in
-        g .reply ∙ ap ownerReply (owner-outside s start size parent x a i) ∙ ap (byAddress t′) (sym none)
+        g .reply ∙ ap ownerReply (owner-outside live s start size parent x a i) ∙ ap (byAddress t′) (sym none)
 
 pub chain-of-parents : ChainOfParents
-chain-of-parents s start size parent x t row total w t′ c r c′ p e g l =
-    by (askedOf s start size parent x (length t)) refl e
+chain-of-parents live s start size parent x t row total w t′ c r c′ p e g l =
+    by (askedOf live s start size parent x (length t)) refl e
   where
-    by : (o : Outcome) → askedOf s start size parent x (length t) ≡ o
+    by : (o : Outcome) → askedOf live s start size parent x (length t) ≡ o
         → (w ≡ RowHeader row total) ⊎ (w ≡ RowPayload row total)
         → ChainOfRow t′ total row (length c) c′
-    by (done f) q i = same-chain s start size parent x t w t′ f p q row total i c r c′ g l
+    by (done f) q i = same-chain live s start size parent x t w t′ f p q row total i c r c′ g l
     by (refused d) q (inl i) =
         let z : accepted (byHeader row total) ≡ refusal d
         = ap whoseTold (sym i) ∙ p .reply ∙ ap (whoseOf start x) q in

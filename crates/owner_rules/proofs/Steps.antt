@@ -2,6 +2,7 @@
 use Prim.Native.Nat.{ℕ, suc, _+_, _-_, _≤_, _<_}
 use mathlib.Core.Path.{_≡_}
 use mathlib.Core.List.{List}
+use mathlib.Core.Bool.{Bool}
 use borrow.Author.Tests.{lt-ltb, le-ltb, le-leb, lt-leb, eq-eqb, ne-eqb}
 use Rattle.refusals.specs.Refusals.{because, overrun, tooDeep}
 use Rattle.refusals.specs.Reply.{Reply, refusal}
@@ -14,15 +15,15 @@ use Rattle.elements_rules.specs.Reading.{elementHeader, depths}
 use Rattle.owner_rules.specs.Owner.{Owned, header, payload, inMaster, wholeOf, own, ownerAt}
 use Rattle.owner_rules.specs.Way.{IsMaster}
 
-module _ (s : List ℕ) (x most depth parent at left : ℕ) where
+module _ (live : Bool) (s : List ℕ) (x most depth parent at left : ℕ) where
   abbrev pub Here : Reply Owned → Type 0
-  Here r = ownerAt s x (suc most) depth parent at left ≡ r
+  Here r = ownerAt live s x (suc most) depth parent at left ≡ r
 
-  pub no-header : (c : Cause) → elementHeader s at ≡ refusedHeader c → Here (refusal (because c at))
+  pub no-header : (c : Cause) → elementHeader live s at ≡ refusedHeader c → Here (refusal (because c at))
   unfolding ownerAt
   no-header c q = rw q
 
-  module _ (h : Header) (q : elementHeader s at ≡ heading h) where
+  module _ (h : Header) (q : elementHeader live s at ≡ heading h) where
     pub too-deep : depths ≤ depth → Here (refusal (tooDeep at))
     unfolding ownerAt
     too-deep d = rw (q, le-leb depths depth d)
@@ -51,7 +52,7 @@ module _ (s : List ℕ) (x most depth parent at left : ℕ) where
               )
 
           pub in-master : x < at + wholeOf h → IsMaster h parent
-              → Here (inMaster at (ownerAt s x most (depth + 1) (h .id) (at + h .length) (h .size)))
+              → Here (inMaster at (ownerAt live s x most (depth + 1) (h .id) (at + h .length) (h .size)))
           unfolding ownerAt
           in-master b k =
               rw (
@@ -63,7 +64,8 @@ module _ (s : List ℕ) (x most depth parent at left : ℕ) where
                 eq-eqb (numberOf (kindUnder (h .id) parent)) 1 k,
               )
 
-          pub behind : at + wholeOf h ≤ x → Here (ownerAt s x most depth parent (at + wholeOf h) (left - wholeOf h))
+          pub behind : at + wholeOf h ≤ x
+              → Here (ownerAt live s x most depth parent (at + wholeOf h) (left - wholeOf h))
           unfolding ownerAt
           behind b =
               rw (

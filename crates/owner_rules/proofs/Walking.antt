@@ -15,6 +15,7 @@ use Rattle.header.specs.declared.cursor.Header.{Header}
 use Rattle.elements_rules.specs.Reading.{elementHeader, depths}
 use Rattle.elements_rules.specs.Holds.{within}
 use Rattle.elements_rules.specs.Promise.{zeros}
+use Rattle.elements_rules.proofs.Parts.{taken-there}
 use Rattle.owner_rules.specs.Owner.{Side, Owned, inMaster, wholeOf, own, ownerAt}
 use Rattle.owner_rules.specs.Promise.{ownerIs, ownerReply, linksOf}
 use Rattle.owner_rules.specs.Way.{IsMaster}
@@ -41,10 +42,10 @@ around-more ms at (refusal e) = refl
 -- At a place, in so many masters: the answer is what is found from there on, in these; the address lies there, and the
 -- slice, as long as the one that was lent, holds the chain so far.
 pub record Walking
-    (s : List ℕ) (start size parent x : ℕ) (t chain : List ℕ) (at left above depth : ℕ) : Type 0 where
+    (live : Bool) (s : List ℕ) (start size parent x : ℕ) (t chain : List ℕ) (at left above depth : ℕ) : Type 0 where
   pub masters : List ℕ
   pub most : ℕ
-  pub goal : ownerAt s x size 0 parent start size ≡ around masters (ownerAt s x most depth above at left)
+  pub goal : ownerAt live s x size 0 parent start size ≡ around masters (ownerAt live s x most depth above at left)
   pub enough : left ≤ most
   pub low : at ≤ x
   pub high : x < at + left
@@ -63,15 +64,15 @@ inside start size x w = go (leb start x) refl (ltb x (start + size)) refl w
     go true p false q e = let z : _≡_ {A = ℕ} 0 1 = cc in absurd (omega arith)
     go false p b q e = let z : _≡_ {A = ℕ} 0 1 = cc in absurd (omega arith)
 
-module _ (s : List ℕ) (start size parent x : ℕ) (t : List ℕ) where
+module _ (live : Bool) (s : List ℕ) (start size parent x : ℕ) (t : List ℕ) where
   pub walk-begins : within start size x ≡ true → t ≡ zeros (length t)
-      → Walking s start size parent x t t start size parent 0
+      → Walking live s start size parent x t t start size parent 0
   walk-begins w z =
       let i = inside start size x w in
       record {
         masters = [];
         most = size;
-        goal = around-none (ownerAt s x size 0 parent start size);
+        goal = around-none (ownerAt live s x size 0 parent start size);
         enough = omega arith;
         low = i .0;
         high = i .1;
@@ -81,27 +82,27 @@ module _ (s : List ℕ) (start size parent x : ℕ) (t : List ℕ) where
         kept = z ∙ sym (take-zeros (length t) (length t) (omega arith));
       }
 
-  module _ (c : List ℕ) (at left above depth : ℕ) (w : Walking s start size parent x t c at left above depth) where
+  module _ (c : List ℕ) (at left above depth : ℕ) (w : Walking live s start size parent x t c at left above depth) where
     -- What is found at the place, whatever bound is left.
     abbrev pub Finds : Reply Owned → Type 0
-    Finds r = (most : ℕ) → ownerAt s x (suc most) depth above at left ≡ r
+    Finds r = (most : ℕ) → ownerAt live s x (suc most) depth above at left ≡ r
 
     -- The bound is not used up: an element is looked at, and so many are left.
-    bound : {R : ℕ → Reply Owned} → ((m : ℕ) → ownerAt s x (suc m) depth above at left ≡ R m)
-        → (m : ℕ) × (left ≤ suc m) × (ownerAt s x size 0 parent start size ≡ around (w .masters) (R m))
+    bound : {R : ℕ → Reply Owned} → ((m : ℕ) → ownerAt live s x (suc m) depth above at left ≡ R m)
+        → (m : ℕ) × (left ≤ suc m) × (ownerAt live s x size 0 parent start size ≡ around (w .masters) (R m))
     bound {R} f = go (w .most) refl
       where
         go : (n : ℕ) → w .most ≡ n
-            → (m : ℕ) × (left ≤ suc m) × (ownerAt s x size 0 parent start size ≡ around (w .masters) (R m))
+            → (m : ℕ) × (left ≤ suc m) × (ownerAt live s x size 0 parent start size ≡ around (w .masters) (R m))
         go zero e = let l = w .enough in let h = w .high in let k = w .low in absurd (omega arith)
         go (suc m) e = (
           m,
           (let l = w .enough in omega arith),
-          w .goal ∙ ap (λ (n : ℕ). around (w .masters) (ownerAt s x n depth above at left)) e
+          w .goal ∙ ap (λ (n : ℕ). around (w .masters) (ownerAt live s x n depth above at left)) e
               ∙ ap (around (w .masters)) (f m),
         )
 
-    finds : (r : Reply Owned) → Finds r → ownerAt s x size 0 parent start size ≡ around (w .masters) r
+    finds : (r : Reply Owned) → Finds r → ownerAt live s x size 0 parent start size ≡ around (w .masters) r
     finds r f = bound {R = λ m. r} f .2
 
     -- The slice with the element's own link.
@@ -119,7 +120,7 @@ module _ (s : List ℕ) (start size parent x : ℕ) (t : List ℕ) where
     kept-link p c′ q = kept-chain c′ q
 
     pub walk-refused : (e : Refusal) (c′ : List ℕ) → Finds (refusal e)
-        → WalkMet s start size parent x t (Refused e) c′
+        → WalkMet live s start size parent x t (Refused e) c′
     walk-refused e c′ f =
         let g = finds (refusal e) f in
         record {
@@ -128,10 +129,10 @@ module _ (s : List ℕ) (start size parent x : ℕ) (t : List ℕ) where
         }
 
     pub walk-ends : (p : Side) (c′ : List ℕ) → c′ ≡ linked c depth at → Finds (own p at)
-        → WalkMet s start size parent x t (ownerIs p at depth) c′
+        → WalkMet live s start size parent x t (ownerIs p at depth) c′
     walk-ends p c′ q f =
         let ms = w .masters in
-        let g : ownerAt s x size 0 parent start size ≡ accepted (record { side = p; address = at; masters = ms })
+        let g : ownerAt live s x size 0 parent start size ≡ accepted (record { side = p; address = at; masters = ms })
         = finds (own p at) f
         ∙ ap (λ (ns : List ℕ). accepted (record { side = p; address = at; masters = ns })) (append-nil ms) in
         record {
@@ -140,19 +141,19 @@ module _ (s : List ℕ) (start size parent x : ℕ) (t : List ℕ) where
         }
 
     -- A master whose payload holds the address is gone into, and kept.
-    pub walk-into : (h : Header) (c′ : List ℕ) → elementHeader s at ≡ heading h → depth < depths → wholeOf h ≤ left
+    pub walk-into : (h : Header) (c′ : List ℕ) → elementHeader live s at ≡ heading h → depth < depths → wholeOf h ≤ left
         → at + h .length ≤ x → x < at + wholeOf h → IsMaster h above → c′ ≡ linked c depth at
-        → Walking s start size parent x t c′ (at + h .length) (h .size) (h .id) (depth + 1)
+        → Walking live s start size parent x t c′ (at + h .length) (h .size) (h .id) (depth + 1)
     walk-into h c′ q d l a b k e =
         let ms = w .masters in
         let len = length-append ms (at ∷ []) in
         let deep = w .deep in
-        let (m, enough, goal) = bound (λ m. in-master s x m depth above at left h q d l a b k) in
-        let one = header-inside s at h q .0 in
+        let (m, enough, goal) = bound (λ m. in-master live s x m depth above at left h q d l a b k) in
+        let one = header-inside s at h (taken-there live s at h q) .0 in
         record {
           masters = ms ++ (at ∷ []);
           most = m;
-          goal = goal ∙ around-more ms at (ownerAt s x m (depth + 1) (h .id) (at + h .length) (h .size));
+          goal = goal ∙ around-more ms at (ownerAt live s x m (depth + 1) (h .id) (at + h .length) (h .size));
           enough = omega arith;
           low = a;
           high = omega arith;
@@ -163,12 +164,12 @@ module _ (s : List ℕ) (start size parent x : ℕ) (t : List ℕ) where
         }
 
     -- An element that ends at the address or before it is skipped.
-    pub walk-past : (h : Header) → elementHeader s at ≡ heading h → depth < depths → wholeOf h ≤ left
+    pub walk-past : (h : Header) → elementHeader live s at ≡ heading h → depth < depths → wholeOf h ≤ left
         → at + wholeOf h ≤ x
-        → Walking s start size parent x t c (at + wholeOf h) (left - wholeOf h) above depth
+        → Walking live s start size parent x t c (at + wholeOf h) (left - wholeOf h) above depth
     walk-past h q d l b =
-        let (m, enough, goal) = bound (λ m. behind s x m depth above at left h q d l (omega arith) b) in
-        let one = header-inside s at h q .0 in
+        let (m, enough, goal) = bound (λ m. behind live s x m depth above at left h q d l (omega arith) b) in
+        let one = header-inside s at h (taken-there live s at h q) .0 in
         let high = w .high in
         record {
           masters = w .masters;

@@ -2,7 +2,7 @@
 use Prim.Native.Nat.{ℕ}
 use mathlib.Core.Path.{_≡_}
 use mathlib.Core.List.{List}
-use mathlib.Core.Bool.{cond}
+use mathlib.Core.Bool.{Bool, cond}
 use lib.ListN.{length, set}
 use lib.Dec.{ltb}
 use Rattle.refusals.specs.Reply.{accepted}
@@ -16,7 +16,7 @@ linked t k address = cond (ltb k (length t)) (set t k address) t
 
 -- What the walk gives: the reply r, and of an owner the chain in t′.
 pub record WalkMet
-    (s : List ℕ) (start size parent x : ℕ) (t : List ℕ) (r : OwnerReply) (t′ : List ℕ) : Type 0 where
-  pub reply : r ≡ ownerReply (ownerAt s x size 0 parent start size)
+    (live : Bool) (s : List ℕ) (start size parent x : ℕ) (t : List ℕ) (r : OwnerReply) (t′ : List ℕ) : Type 0 where
+  pub reply : r ≡ ownerReply (ownerAt live s x size 0 parent start size)
   pub links :
-      (o : Owned) → ownerAt s x size 0 parent start size ≡ accepted o → t′ ≡ linksOf (length t) (accepted o)
+      (o : Owned) → ownerAt live s x size 0 parent start size ≡ accepted o → t′ ≡ linksOf (length t) (accepted o)

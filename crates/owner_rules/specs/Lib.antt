@@ -5,3 +5,4 @@ pub mod Contract
 pub mod Way
 pub mod Theorems
 pub mod Cases
+pub mod Live

@@ -1,5 +1,5 @@
--- Whose byte is this? (document 02, C-16): headers are read from the front of a master, siblings are skipped by their
--- size, and the way leads down only into the one that holds the address. No body is looked at.
+-- Whose byte is this? (document 02, C-16; C-18): headers are read from the front of a master, siblings are skipped by
+-- their size, and the way leads down only into the one that holds the address. No body is looked at.
 use Prim.Native.Nat.{ℕ, zero, suc, _+_, _-_}
 use mathlib.Core.List.{List, [], _∷_, _++_}
 use mathlib.Core.Bool.{Bool, cond, not}
@@ -60,16 +60,17 @@ isMaster h parent = eqb (numberOf (kindUnder (h .id) parent)) 1
 abbrev pub own : Side → ℕ → Reply Owned
 own side at = accepted (record { side = side; address = at; masters = [] })
 
--- Of a recording and an address.
-module _ (s : List ℕ) (x : ℕ) where
+-- In a mode, of a recording and an address.
+module _ (live : Bool) (s : List ℕ) (x : ℕ) where
   -- The element at a place, which has that depth and stands under that parent id, with so many bytes left in its
-  -- master. The order: header; 12; 3 if it is larger than what is left; then whether the address is in its header, in
-  -- its payload, or behind it. Each header takes a byte at least: `most` bounds how many are read. That it suffices
-  -- where the address is in the payload is part of a theorem (`OwnerExactly`).
+  -- master. The order: header; 17 in live mode if its size is unknown; 12; 3 if it is larger than what is left; then
+  -- whether the address is in its header, in its payload, or behind it. Each header takes a byte at least: `most`
+  -- bounds how many are read. That it suffices where the address is in the payload is part of a theorem
+  -- (`OwnerExactly`).
   unfoldable pub ownerAt : (most depth parent at left : ℕ) → Reply Owned
   ownerAt zero depth parent at left = refusal outside
   ownerAt (suc most) depth parent at left =
-      onHeading at (elementHeader s at) (λ h.
+      onHeading at (elementHeader live s at) (λ h.
       refuseIf (leb depths depth) (tooDeep at)
       (refuseIf (ltb left (wholeOf h)) (overrun at)
       (cond (ltb x (at + h .length)) (own header at)
@@ -80,17 +81,17 @@ module _ (s : List ℕ) (x : ℕ) where
       (ownerAt most depth parent (at + wholeOf h) (left - wholeOf h))))))
 
 -- 14; then 15 for an address outside the payload that the caller named; then the walk, from depth 0 on.
-unfoldable pub ownerOf : List ℕ → (start size parent x : ℕ) → Reply Owned
-ownerOf s start size parent x =
+unfoldable pub ownerOf : (live : Bool) → List ℕ → (start size parent x : ℕ) → Reply Owned
+ownerOf live s start size parent x =
     refuseIf (not (allowed s start 0)) badArgument
     (refuseIf (not (within start size x)) outside
-    (ownerAt s x size 0 parent start size))
+    (ownerAt live s x size 0 parent start size))
 
 -- The most links of a chain: one for each depth.
 abbrev pub mostLinks : ℕ
 mostLinks = depths
 
 -- The question for the chain, into so many numbers: 14 also for more than a chain can have.
-unfoldable pub chainOf : List ℕ → (start size parent x links : ℕ) → Reply Owned
-chainOf s start size parent x links =
-    refuseIf (ltb mostLinks links) badArgument (ownerOf s start size parent x)
+unfoldable pub chainOf : (live : Bool) → List ℕ → (start size parent x links : ℕ) → Reply Owned
+chainOf live s start size parent x links =
+    refuseIf (ltb mostLinks links) badArgument (ownerOf live s start size parent x)

@@ -2,6 +2,7 @@
 use Prim.Native.Nat.{ℕ}
 use mathlib.Core.Path.{_≡_}
 use mathlib.Core.List.{List, _++_}
+use mathlib.Core.Bool.{Bool}
 use lib.ListN.{length, take}
 use Rattle.refusals.specs.Reply.{Reply, accepted, refusal}
 use Rattle.elements_rules.specs.Promise.{zeros}
@@ -18,8 +19,8 @@ abbrev pub ownerReply : Reply Owned → OwnerReply
 ownerReply (accepted o) = ownerIs (o .side) (o .address) (length (o .masters))
 ownerReply (refusal e) = Refused e
 
-pub record OwnerPromise (s : List ℕ) (start size parent x : ℕ) (r : OwnerReply) : Type 0 where
-  pub reply : r ≡ ownerReply (ownerOf s start size parent x)
+pub record OwnerPromise (live : Bool) (s : List ℕ) (start size parent x : ℕ) (r : OwnerReply) : Type 0 where
+  pub reply : r ≡ ownerReply (ownerOf live s start size parent x)
 
 -- So many numbers of the chain, from the outermost on, and zeros beyond its end; after a refusal zeros alone.
 unfoldable pub linksOf : (links : ℕ) → Reply Owned → List ℕ
@@ -27,6 +28,6 @@ linksOf links (accepted o) = take links (chainTo o ++ zeros links)
 linksOf links (refusal e) = zeros links
 
 pub record ChainPromise
-    (s : List ℕ) (start size parent x : ℕ) (t : List ℕ) (r : OwnerReply) (t′ : List ℕ) : Type 0 where
-  pub reply : r ≡ ownerReply (chainOf s start size parent x (length t))
-  pub links : t′ ≡ linksOf (length t) (chainOf s start size parent x (length t))
+    (live : Bool) (s : List ℕ) (start size parent x : ℕ) (t : List ℕ) (r : OwnerReply) (t′ : List ℕ) : Type 0 where
+  pub reply : r ≡ ownerReply (chainOf live s start size parent x (length t))
+  pub links : t′ ≡ linksOf (length t) (chainOf live s start size parent x (length t))

@@ -4,7 +4,7 @@ use Prim.Native.Nat.{ℕ, suc, _≤_, _<_}
 use mathlib.Core.Path.{_≡_}
 use mathlib.Core.List.{List, [], _∷_, _++_}
 use mathlib.Core.Logic.{_⊎_}
-use mathlib.Core.Bool.{true, false}
+use mathlib.Core.Bool.{Bool, true, false, cond}
 use lib.ListN.{length, take}
 use Rattle.refusals.specs.Causes.{causeNumber}
 use Rattle.refusals.specs.Refusals.{badArgument, outside}
@@ -33,29 +33,32 @@ use Rattle.owner_rules.specs.declared.owner.OwnerReply.the-variants.{Hea
 -- promises). The numbers that stood in the lent slice do not matter, only how many there are.
 abbrev pub OneOwned : Type 0
 OneOwned =
-    (s : List ℕ) (start size parent x : ℕ) (r r′ : OwnerReply)
-    → OwnerPromise s start size parent x r → OwnerPromise s start size parent x r′ → r ≡ r′
+    (live : Bool) (s : List ℕ) (start size parent x : ℕ) (r r′ : OwnerReply)
+    → OwnerPromise live s start size parent x r → OwnerPromise live s start size parent x r′ → r ≡ r′
 
 abbrev pub OneChain : Type 0
 OneChain =
-    (s : List ℕ) (start size parent x : ℕ) (t u : List ℕ) (r r′ : OwnerReply) (t′ u′ : List ℕ) → length t ≡ length u
-    → ChainPromise s start size parent x t r t′ → ChainPromise s start size parent x u r′ u′ → (r ≡ r′) × (t′ ≡ u′)
+    (live : Bool) (s : List ℕ) (start size parent x : ℕ) (t u : List ℕ) (r r′ : OwnerReply) (t′ u′ : List ℕ)
+    → length t ≡ length u
+    → ChainPromise live s start size parent x t r t′ → ChainPromise live s start size parent x u r′ u′
+    → (r ≡ r′) × (t′ ≡ u′)
 
 -- ---- every reply is sound by itself
 
 -- 14 for arguments that are not allowed; then 15 for an address outside the payload; else an element that holds the
 -- address, or the fault of one that the way leads to (document 02, C-12).
-pub data OwnerAnswer (s : List ℕ) (start size parent x : ℕ) (r : OwnerReply) : Type 0 where
-  broken : allowed s start 0 ≡ false → r ≡ Refused badArgument → OwnerAnswer s start size parent x r
+pub data OwnerAnswer (live : Bool) (s : List ℕ) (start size parent x : ℕ) (r : OwnerReply) : Type 0 where
+  broken : allowed s start 0 ≡ false → r ≡ Refused badArgument → OwnerAnswer live s start size parent x r
   away :
       allowed s start 0 ≡ true → within start size x ≡ false → r ≡ Refused outside
-      → OwnerAnswer s start size parent x r
+      → OwnerAnswer live s start size parent x r
   owned :
-      (o : Owned) → OwnedBy s start size parent x o → r ≡ ownerReply (accepted o)
-      → OwnerAnswer s start size parent x r
+      (o : Owned) → OwnedBy live s start size parent x o → r ≡ ownerReply (accepted o)
+      → OwnerAnswer live s start size parent x r
   faulty :
       (e : Refusal) → allowed s start 0 ≡ true → within start size x ≡ true
-      → FaultThere s (OwnerComes s start size parent x) e → r ≡ Refused e → OwnerAnswer s start size parent x r
+      → FaultThere s (OwnerComes live s start size parent x) e → r ≡ Refused e
+      → OwnerAnswer live s start size parent x r
 
 -- Whatever the full read says of the payload, the reply is the one of these that holds, and whichever holds is the
 -- reply. The first shuts out a reader that takes bytes of a body for a header, goes into what is no master there, names
@@ -64,26 +67,31 @@ pub data OwnerAnswer (s : List ℕ) (start size parent x : ℕ) (r : OwnerReply)
 -- that tells 15 where it came to a fault.
 abbrev pub OwnerExactly : Type 0
 OwnerExactly =
-    (s : List ℕ) (start size parent x : ℕ) (r : OwnerReply)
-    → (OwnerPromise s start size parent x r → OwnerAnswer s start size parent x r)
-    × (OwnerAnswer s start size parent x r → OwnerPromise s start size parent x r)
+    (live : Bool) (s : List ℕ) (start size parent x : ℕ) (r : OwnerReply)
+    → (OwnerPromise live s start size parent x r → OwnerAnswer live s start size parent x r)
+    × (OwnerAnswer live s start size parent x r → OwnerPromise live s start size parent x r)
 
--- A refusal is one of document 01's list, and of those that the request names: no body is refused, and no table can be
--- full.
+-- The refusals of the question; 17 in live mode alone.
+abbrev pub ownerRefusals : (live : Bool) → List ℕ
+ownerRefusals live = 1 ∷ 2 ∷ 3 ∷ 12 ∷ 14 ∷ 15 ∷ cond live (17 ∷ []) []
+
+-- A refusal is one of document 01's list, and of those that the requests name: no body is refused, and no table can be
+-- full. It shuts out an old mode that knows unknown sizes.
 abbrev pub OwnerRefusals : Type 0
 OwnerRefusals =
-    (s : List ℕ) (start size parent x : ℕ) (e : Refusal) → OwnerPromise s start size parent x (Refused e)
-    → Listed e × (member (causeNumber (e .cause)) (1 ∷ 2 ∷ 3 ∷ 12 ∷ 14 ∷ 15 ∷ []) ≡ true)
+    (live : Bool) (s : List ℕ) (start size parent x : ℕ) (e : Refusal)
+    → OwnerPromise live s start size parent x (Refused e)
+    → Listed e × (member (causeNumber (e .cause)) (ownerRefusals live) ≡ true)
 
 -- Two recordings that have the same headers on the way get the same reply, whatever their other bytes are. It shuts out
 -- a reader that looks at a body, or at a header behind the address.
 abbrev pub HeadersAlone : Type 0
 HeadersAlone =
-    (s s′ : List ℕ) (start size parent x : ℕ) (r r′ : OwnerReply)
+    (live : Bool) (s s′ : List ℕ) (start size parent x : ℕ) (r r′ : OwnerReply)
     → allowed s start 0 ≡ true → allowed s′ start 0 ≡ true
-    → ((masters : List ℕ) (a : ℕ) (e : Errand) → OwnerWay s x 0 parent start size masters a e
-    → elementHeader s′ a ≡ elementHeader s a)
-    → OwnerPromise s start size parent x r → OwnerPromise s′ start size parent x r′ → r ≡ r′
+    → ((masters : List ℕ) (a : ℕ) (e : Errand) → OwnerWay live s x 0 parent start size masters a e
+    → elementHeader live s′ a ≡ elementHeader live s a)
+    → OwnerPromise live s start size parent x r → OwnerPromise live s′ start size parent x r′ → r ≡ r′
 
 -- ---- beside the full question
 
@@ -93,14 +101,14 @@ byAddress t (RowHeader row rows) = Header (rowAt t row .address) (rowAt t row .d
 byAddress t (RowPayload row rows) = Payload (rowAt t row .address) (rowAt t row .depth)
 byAddress t (NoRow e) = Refused e
 
--- On each payload that the full read accepts, the reply is that of `whose_byte`. It shuts out a reader that ends a
--- payload one byte too far, or skips a sibling by its payload alone.
+-- On each payload that the full read accepts, the reply is that of `whose_byte` in the same mode. It shuts out a reader
+-- that ends a payload one byte too far, or skips a sibling by its payload alone.
 abbrev pub SameOwner : Type 0
 SameOwner =
-    (s : List ℕ) (start size parent x : ℕ) (t : List ℕ) (n : ℕ) (u : List ℕ) (w : WhoseReply) (t′ : List ℕ)
-    (r : OwnerReply)
-    → ReadPromise s start size parent t (Rows n) u → WhosePromise s start size parent x t w t′
-    → OwnerPromise s start size parent x r → r ≡ byAddress t′ w
+    (live : Bool) (s : List ℕ) (start size parent x : ℕ) (t : List ℕ) (n : ℕ) (u : List ℕ) (w : WhoseReply)
+    (t′ : List ℕ) (r : OwnerReply)
+    → ReadPromise live s start size parent t (Rows n) u → WhosePromise live s start size parent x t w t′
+    → OwnerPromise live s start size parent x r → r ≡ byAddress t′ w
 
 -- The header addresses of a row's parent, its parent's parent and so on, the outermost first.
 pub data ParentsOf (rs : List Row) : Row → List ℕ → Type 0 where
@@ -119,27 +127,27 @@ pub record ChainOfRow (t : List ℕ) (n row links : ℕ) (c′ : List ℕ) : Typ
 -- out a reader that leaves a link out, or writes a sibling that it went past.
 abbrev pub ChainOfParents : Type 0
 ChainOfParents =
-    (s : List ℕ) (start size parent x : ℕ) (t : List ℕ) (row rows : ℕ) (w : WhoseReply) (t′ : List ℕ)
+    (live : Bool) (s : List ℕ) (start size parent x : ℕ) (t : List ℕ) (row rows : ℕ) (w : WhoseReply) (t′ : List ℕ)
     (c : List ℕ) (r : OwnerReply) (c′ : List ℕ)
-    → WhosePromise s start size parent x t w t′ → (w ≡ RowHeader row rows) ⊎ (w ≡ RowPayload row rows)
-    → ChainPromise s start size parent x c r c′ → length c ≤ mostLinks
+    → WhosePromise live s start size parent x t w t′ → (w ≡ RowHeader row rows) ⊎ (w ≡ RowPayload row rows)
+    → ChainPromise live s start size parent x c r c′ → length c ≤ mostLinks
     → ChainOfRow t′ rows row (length c) c′
 
 -- ---- the chain
 
 -- The chain call beside `owner`: the same reply, and of an owner the chain that leads to it.
 pub record ChainLeads
-    (s : List ℕ) (start size parent x : ℕ) (t : List ℕ) (r q : OwnerReply) (t′ : List ℕ) : Type 0 where
+    (live : Bool) (s : List ℕ) (start size parent x : ℕ) (t : List ℕ) (r q : OwnerReply) (t′ : List ℕ) : Type 0 where
   pub same : length t ≤ mostLinks → r ≡ q
   pub long : mostLinks < length t → r ≡ Refused badArgument
   pub links :
-      length t ≤ mostLinks → (o : Owned) → OwnedBy s start size parent x o
+      length t ≤ mostLinks → (o : Owned) → OwnedBy live s start size parent x o
       → t′ ≡ take (length t) (chainTo o ++ zeros (length t))
   pub none : (e : Refusal) → r ≡ Refused e → t′ ≡ zeros (length t)
 
 -- It shuts out a chain call that refuses a short slice, or leaves a chain behind a refusal.
 abbrev pub ChainsLead : Type 0
 ChainsLead =
-    (s : List ℕ) (start size parent x : ℕ) (t : List ℕ) (r q : OwnerReply) (t′ : List ℕ)
-    → ChainPromise s start size parent x t r t′ → OwnerPromise s start size parent x q
-    → ChainLeads s start size parent x t r q t′
+    (live : Bool) (s : List ℕ) (start size parent x : ℕ) (t : List ℕ) (r q : OwnerReply) (t′ : List ℕ)
+    → ChainPromise live s start size parent x t r t′ → OwnerPromise live s start size parent x q
+    → ChainLeads live s start size parent x t r q t′

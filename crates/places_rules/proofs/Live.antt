@@ -22,7 +22,6 @@ use Rattle.elements_rules.proofs.Live.{test-or, filled-or, known-reading, rows-
 use Rattle.places_rules.specs.Whose.{askedOf, whoseOf}
 use Rattle.places_rules.specs.Promise.{whoseTold}
 use Rattle.places_rules.specs.Live.{LiveWhose, EqualWhose, WhoseRowsKnown}
-use Rattle.places_rules.specs.declared.whose.WhoseReply.{WhoseReply}
 use Rattle.places_rules.specs.declared.whose.WhoseReply.the-variants.{Refused}
 use Rattle.places_rules.proofs.Unique.{replied, replied-back}
 use Rattle.places_rules.proofs.Owners.{asked-done}

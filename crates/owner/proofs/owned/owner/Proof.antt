@@ -8,4 +8,4 @@ use Rattle.owner.proofs.owned.owner.Tie as tie
 pub owner-spec : {M : Type 1} → statement M
 owner-spec =
     tie.close (tie.spec (λ c. search needs) (λ c κs. search needs)
-    (λ c. owner-of-chain _ _ _ _ _ _ _ _ (omega arith) (c .before .owner-chain .ensures)))
+    (λ c. owner-of-chain _ _ _ _ _ _ _ _ _ (omega arith) (c .before .owner-chain .ensures)))

@@ -15,7 +15,7 @@ returns c =
     let d = c .before in
     let k = d .before .before .before .clear in
     let a = failed _ _ (d .is-asked .ensures ∙ asked-same _ _ (k .kept .0)) (c .if1 .taken) in
-    asked-broken _ _ _ _ _ _ _ a (k .ensures)
+    asked-broken _ _ _ _ _ _ _ _ a (k .ensures)
 
 returns-2 : tie.Need-returns-2
 returns-2 c =
@@ -23,7 +23,7 @@ returns-2 c =
     let k = d .before .before .before .before .clear in
     let a = passed _ _ (d .before .is-asked .ensures ∙ asked-same _ _ (k .kept .0)) (d .if1 .left) in
     let w = failed _ _ (c .before .is-within .ensures) (c .if2 .taken) in
-    asked-outside _ _ _ _ _ _ _ a w (k .ensures)
+    asked-outside _ _ _ _ _ _ _ _ a w (k .ensures)
 
 walk-requires : tie.Need-walk-requires
 walk-requires c κs =
@@ -42,8 +42,8 @@ returns-3 c =
     let k = d .before .before .before .before .clear in
     let a = passed _ _ (d .before .is-asked .ensures ∙ asked-same _ _ (k .kept .0)) (d .if1 .left) in
     let w = passed _ _ (b .before .is-within .ensures) (b .if2 .left) in
-    asked-refused _ _ _ _ _ _ _ a w _ _ _ _ (m .walk .ensures) (t .enum-told .given .1)
-    (c .before .before .clear2 .ensures ∙ zeros-as (m .walk .kept .1 .1 .1 .1 .1 .0 ∙ k .kept .0))
+    asked-refused _ _ _ _ _ _ _ _ a w _ _ _ _ (m .walk .ensures) (t .enum-told .given .1)
+    (c .before .before .clear2 .ensures ∙ zeros-as (m .walk .kept .1 .1 .1 .1 .1 .1 .0 ∙ k .kept .0))
 
 returns-4 : tie.Need-returns-4
 returns-4 c =
@@ -53,7 +53,7 @@ returns-4 c =
     let k = d .before .before .before .before .clear in
     let a = passed _ _ (d .before .is-asked .ensures ∙ asked-same _ _ (k .kept .0)) (d .if1 .left) in
     let w = passed _ _ (b .before .is-within .ensures) (b .if2 .left) in
-    asked-owned _ _ _ _ _ _ _ a w _ _ (k .kept .0) (m .walk .ensures)
+    asked-owned _ _ _ _ _ _ _ _ a w _ _ (k .kept .0) (m .walk .ensures)
     (λ e i. miss (0 ∷ 1 ∷ []) 2 tt (rw i at (c .match .keys2)))
 
 pub owner-chain-spec : {M : Type 1} → statement M
