@@ -58,9 +58,9 @@ text-row s r sound d = by (eqb (r .kind) 4) refl (eqb (r .kind) 5) refl d
     by false e false f w = let z : _≡_ {A = ℕ} 0 1 = cc in absurd (omega arith)
 
 pub accepted-shown : AcceptedShown
-accepted-shown s start size parent t n t′ p k l d part q =
-    let place = rows-have-ranges s start size parent t n t′ p k l in
-    let all = rows-sound s start size parent t n t′ p in
+accepted-shown live s start size parent t n t′ p k l d part q =
+    let place = rows-have-ranges live s start size parent t n t′ p k l in
+    let all = rows-sound live s start size parent t n t′ p in
     let sound = subst (Sound s) (row-of t′ n k l)
     (each-at (Sound s) (rowsOf t′ n) k (rw (length-rows-of t′ n) l) all) in
     let whole : PayloadPromise s t′ k (payloadOf s (rowAt t′ k)) = record { reply = sym (ap (bytesOf s) place) } in

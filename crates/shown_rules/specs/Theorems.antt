@@ -3,7 +3,7 @@ use Prim.Native.Nat.{ℕ, _≤_, _<_}
 use mathlib.Core.Path.{_≡_}
 use mathlib.Core.List.{List, [], _∷_, _++_, List·Memᴰ}
 use mathlib.Core.Logic.{_⊎_}
-use mathlib.Core.Bool.{true, false}
+use mathlib.Core.Bool.{Bool, true, false}
 use lib.ListN.{length, take, drop}
 use Rattle.refusals.specs.Refusals.{badArgument}
 use Rattle.refusals.specs.Theorems.{Listed}
@@ -103,10 +103,10 @@ pub record Shows (payload part : List ℕ) : Type 0 where
   pub zero : BeforeZero payload part
   pub encoded : utf8 part ≡ true
 
--- So it is of every text row of an accepted read.
+-- So it is of every text row of an accepted read, in live mode and in old mode.
 abbrev pub AcceptedShown : Type 0
 AcceptedShown =
-    (s : List ℕ) (start size parent : ℕ) (t : List ℕ) (n : ℕ) (t′ : List ℕ)
-    → ReadPromise s start size parent t (Rows n) t′
+    (live : Bool) (s : List ℕ) (start size parent : ℕ) (t : List ℕ) (n : ℕ) (t′ : List ℕ)
+    → ReadPromise live s start size parent t (Rows n) t′
     → (k : ℕ) → k < n → isText (rowAt t′ k .kind) ≡ true
     → (part : List ℕ) → ShownPromise s t′ k part → Shows (payloadOf s (rowAt t′ k)) part
