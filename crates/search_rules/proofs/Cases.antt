@@ -1,4 +1,4 @@
--- The worked searches of document 01 hold. Assumes nothing.
+-- The worked searches of document 01 and of C-18 hold. Assumes nothing.
 use mathlib.Core.Path.{refl}
 use lib.ListN.{drop}
 use Rattle.header.specs.Vint.{octetBits, bits, oneMore, widthOf, bigEndianFrom, bigEndian, ofWidth, vintOf}
@@ -16,9 +16,11 @@ use Rattle.seekhead_rules.specs.Seeks.{lastFour, withMembers, entryOf, entries}
 use Rattle.seekhead_rules.specs.Table.{later, latestFrom}
 use Rattle.seekchain_rules.specs.Heads.{sought, lastHead, nextHead, chain}
 use Rattle.seekchain_rules.specs.Lookup.{partAt, byHeads}
-use Rattle.walks_rules.specs.Step.{childAt}
-use Rattle.segments_rules.specs.Walk.{walk}
-use Rattle.segments_rules.specs.Segment.{segmentOf, visit, segmentChildren, lookupOf}
+use Rattle.sizes.specs.Unknown.{unknown}
+use Rattle.walks_rules.specs.Step.{endsBefore, isPast, endedBy, barredStep, childAt}
+use Rattle.walks_rules.specs.Walk.{walk}
+use Rattle.walks_rules.specs.Endings.{endedAt, within, endFrom, passOver}
+use Rattle.segments_rules.specs.Segment.{segmentOf, stretchOf, overruns, visit, segmentChildren, lookupOf}
 use Rattle.search_rules.specs.Part.{parentOf, searchOf}
 use Rattle.search_rules.specs.Cases.{cases, Hold}
 
@@ -27,8 +29,11 @@ unfolding octetBits bits oneMore widthOf bigEndianFrom bigEndian ofWidth vintOf 
     elements kindIn keeps demoted kindUnder utf8Char behind anyOf goesOn utf8 bodyOf
     span count join refuseIf full siblings element masterBody isTable allowed filled
     lastFour withMembers entryOf entries later latestFrom member sought lastHead nextHead chain partAt byHeads
-    childAt walk segmentOf visit segmentChildren lookupOf parentOf searchOf
+    endsBefore isPast endedBy barredStep childAt walk endedAt within endFrom passOver unknown segmentOf stretchOf overruns
+    visit segmentChildren lookupOf parentOf searchOf
 cases-hold =
-    let rest : Hold (drop 12 cases) = (refl, (refl, (refl, (refl, (refl, (refl, (refl, (refl, tt)))))))) in
+    let live-last : Hold (drop 31 cases) = (refl, (refl, (refl, (refl, (refl, (refl, (refl, (refl, (refl, (refl, (refl, (refl, tt)))))))))))) in
+    let live-first : Hold (drop 20 cases) = (refl, (refl, (refl, (refl, (refl, (refl, (refl, (refl, (refl, (refl, (refl, live-last))))))))))) in
+    let rest : Hold (drop 12 cases) = (refl, (refl, (refl, (refl, (refl, (refl, (refl, (refl, live-first)))))))) in
     let listed : Hold (drop 8 cases) = (refl, (refl, (refl, (refl, rest)))) in
     (refl, (refl, (refl, (refl, (refl, (refl, (refl, (refl, listed))))))))

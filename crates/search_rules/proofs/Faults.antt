@@ -1,48 +1,56 @@
 -- A search is refused for a fault that it comes to, at its address (`SearchHonest`). Assumes nothing.
-use Prim.Native.Nat.{ℕ, zero, suc, _-_, _≤_, _<_}
+use Prim.Native.Nat.{ℕ, zero, suc, _+_, _-_, _≤_, _<_}
 use mathlib.Core.Path.{_≡_, refl, sym, ap, _∙_, subst}
 use mathlib.Core.List.{List, [], _∷_}
 use mathlib.Core.Logic.{inl}
-use mathlib.Core.Bool.{Bool, true, false, cond, not}
+use mathlib.Core.Bool.{Bool, true, false, cond, _&&_, not}
 use native.Mathlib.Omega.{arith}
 use lib.ListN.{length}
-use lib.Dec.{ltb, eqb}
-use borrow.Author.Tests.{eqb-true, eqb-false, ltb-true, ltb-false}
-use Rattle.refusals.specs.Refusals.{because, overrun, badArgument}
+use lib.Dec.{ltb, leb, eqb}
+use borrow.Author.Tests.{eqb-true, eqb-false, ltb-true, leb-true, leb-false}
+use Rattle.refusals.specs.Refusals.{because, pastEnd, overrun, badArgument}
 use Rattle.refusals.specs.Reply.{refusal}
 use Rattle.refusals.specs.declared.refusal.Cause.{Cause}
 use Rattle.refusals.specs.declared.refusal.Cause.the-variants as C
 use Rattle.refusals.specs.declared.refusal.Refusal.{Refusal}
-use Rattle.header.specs.Header.{refused as refusedHeader}
 use Rattle.header.specs.Reads.{behind, headerAt}
 use Rattle.header.specs.declared.cursor.Headed.{Headed}
+use Rattle.header.specs.declared.cursor.Header.{Header}
 use Rattle.header.specs.declared.cursor.HeaderRead.{HeaderRead}
 use Rattle.header.specs.declared.cursor.HeaderRead.the-variants.{Read, Refused as HeaderRefused}
 use Rattle.header.proofs.Inside.{header-there}
+use Rattle.sizes.specs.Unknown.{unknown, endless}
 use Rattle.kinds.specs.Kinds.{member}
-use Rattle.elements_rules.specs.Reading.{Outcome, done, elementHeader}
+use Rattle.elements_rules.specs.Reading.{Outcome, done}
 use Rattle.elements_rules.specs.Reading.{refused as refusedReading}
 use Rattle.elements_rules.specs.Promise.{allowed, filled}
-use Rattle.elements_rules.specs.Faults.{Errand, toHeader, toPass, headerAlone, headerPassed, largerPassed, Fault}
+use Rattle.elements_rules.specs.Faults.{Errand, toStep, toPass, readsHeader, barred, largerPassed, Fault}
 use Rattle.elements_rules.specs.Faults.{FaultThere, Honest, there, callers}
 use Rattle.elements_rules.proofs.Faults.{header-fault, filled-found}
-use Rattle.seekhead_rules.specs.Seeks.{segmentId, seekHeadId}
 use Rattle.walks_rules.specs.Answers.{onHeader}
-use Rattle.seekchain_rules.specs.Answers.{onOutcome}
-use Rattle.walks_rules.specs.Step.{childAt, onChild}
-use Rattle.seekchain_rules.specs.Lookup.{Lookup, stopped}
-use Rattle.seekchain_rules.specs.Lookup.{found as foundAt, absent as absentAt, byHeads}
+use Rattle.walks_rules.specs.Step.{isPast, endedBy, barredStep, childAt, onChild}
+use Rattle.walks_rules.specs.Walk.{Visit, ends, over, onVisit, onPassed, Walk, walk}
+use Rattle.walks_rules.specs.Endings.{endedAt, within, ending, endFrom, passOver, endOf, roomOf, walkFrom}
+use Rattle.walks_rules.specs.declared.step.Stretch.{Stretch}
+use Rattle.walks_rules.specs.declared.step.Stretch.the-variants.{Sized, Endless}
 use Rattle.walks_rules.specs.declared.step.ChildRead.{ChildRead}
 use Rattle.walks_rules.specs.declared.step.ChildRead.the-variants.{Child, End, Refused as ChildRefused}
-use Rattle.seekchain_rules.proofs.Sought.{child-is}
-use Rattle.seekchain_rules.proofs.Faults.{past-end, step-ended, step-refused, heads-honest}
-use Rattle.segments_rules.specs.Walk.{Visit, ends, over, onVisit, Walk, walk, walkFrom}
-use Rattle.segments_rules.specs.Segment.{seeking, segmentOf, withinSegment, visit, searching, segmentChildren, lookupOf}
-use Rattle.segments_rules.proofs.Walks.{Stepped, stepped}
+use Rattle.walks_rules.specs.declared.pass.Passed.{Passed}
+use Rattle.walks_rules.specs.declared.pass.Passed.the-variants.{At, Refused as Lost}
+use Rattle.walks_rules.proofs.Steps.{Stepped, stepped-on, Goes, goes, past, ended, element, no-room, less-room}
+use Rattle.walks_rules.proofs.Endings.{within-onward, pass-onward}
+use Rattle.seekhead_rules.specs.Seeks.{segmentId, seekHeadId}
+use Rattle.seekchain_rules.specs.Answers.{onOutcome}
+use Rattle.seekchain_rules.specs.Lookup.{Lookup, stopped}
+use Rattle.seekchain_rules.specs.Lookup.{found as foundAt, absent as absentAt, byHeads}
+use Rattle.seekchain_rules.proofs.Faults.{past-end, step-fault, heads-honest}
+use Rattle.segments_rules.specs.Segment.{seeking, segmentOf, stretchOf, overruns, withinSegment, visit, searching}
+use Rattle.segments_rules.specs.Segment.{segmentChildren, lookupOf}
 use Rattle.search_rules.specs.Part.{Search, found, absent, refused, onParent, onLookup, parentOf, searchOf}
 use Rattle.search_rules.specs.Part.{replyOf}
-use Rattle.search_rules.specs.Faults.{Walks, begun, passing, ToSegment, Passed, InSegment, SearchComes, inFile}
-use Rattle.search_rules.specs.Faults.{inSegment, fromHeads, inPart, SearchHonest}
+use Rattle.search_rules.specs.Faults.{Walks, begun, passing, Along, ToSegment, PassedOver, InSegment, InUnknown}
+use Rattle.search_rules.specs.Faults.{SearchComes, inFile, inSegment, inEndless, inFileUnknown, inSegmentUnknown}
+use Rattle.search_rules.specs.Faults.{fromHeads, inPart, SearchHonest}
 use Rattle.search_rules.specs.declared.part.Parent.{Parent}
 use Rattle.search_rules.specs.declared.part.Parent.the-variants.{Id, NoPart}
 
@@ -53,43 +61,136 @@ abbrev Went : {A B : Type 0} → (B → Type 0) → Type 0 → Visit A B → Typ
 Went P Q (ends b) = P b
 Went P Q (over a) = Q
 
-module _ {A B : Type 0} (s : List ℕ) (end : ℕ) (w : Walk A B) (Over : Headed → Type 0) (from : ℕ) (P : B → Type 0)
-    (at-the-end : (at : ℕ) (a : A) → Walks s end Over from at → end ≤ at → P (w .ended at a))
-    (unread : (at : ℕ) (e : Refusal) → Walks s end Over from at → childAt s end at ≡ ChildRefused e → P (w .stop e))
-    (each : (a : A) (at : ℕ) (e : Headed) → Walks s end Over from at → childAt s end at ≡ Child e
-    → Went P (Over e) (w .visit a e)) where
+module _ {A B : Type 0} (step : ℕ → ChildRead) (pass : Headed → Passed) (w : Walk A B) (Over : Headed → Type 0)
+    (from : ℕ) (P : B → Type 0) (room : ℕ → ℕ) (closed : (at : ℕ) → room at ≡ 0 → step at ≡ End)
+    (ahead : (at : ℕ) (e : Headed) (next : ℕ) → step at ≡ Child e → pass e ≡ At next → room next < room at)
+    (at-the-end : (at : ℕ) (a : A) → Walks step pass Over from at → step at ≡ End → P (w .ended at a))
+    (unread : (at : ℕ) (e : Refusal) → Walks step pass Over from at → step at ≡ ChildRefused e → P (w .stop e))
+    (each : (a : A) (at : ℕ) (e : Headed) → Walks step pass Over from at → step at ≡ Child e
+    → Went P (Over e) (w .visit a e))
+    (lost : (at : ℕ) (e : Headed) (r : Refusal) → Walks step pass Over from at → step at ≡ Child e → Over e
+    → pass e ≡ Lost r → P (w .stop r)) where
   -- It holds of the whole walk if it holds wherever the way leads.
-  on-the-way : (n at : ℕ) (a : A) → end - at ≤ n → Walks s end Over from at → P (walk s end w n at a)
+  on-the-way : (n at : ℕ) (a : A) → room at ≤ n → Walks step pass Over from at → P (walk step pass w n at a)
   unfolding walk
-  on-the-way zero at a l g = at-the-end at a g (omega arith)
-  on-the-way (suc n) at a l g = by (childAt s end at) refl (on-the-way n)
+  on-the-way zero at a l g = at-the-end at a g (closed at (omega arith))
+  on-the-way (suc n) at a l g = by (step at) refl (on-the-way n)
     where
       Onward : Type 0
-      Onward = (next : ℕ) (b : A) → end - next ≤ n → Walks s end Over from next → P (walk s end w n next b)
+      Onward = (next : ℕ) (b : A) → room next ≤ n → Walks step pass Over from next → P (walk step pass w n next b)
 
-      by-visit : (e : Headed) → childAt s end at ≡ Child e → Onward → (v : Visit A B) → Went P (Over e) v
-          → P (onVisit v (λ b. b) (walk s end w n (behind e)))
+      by-pass : (e : Headed) → step at ≡ Child e → Over e → Onward → (b : A) (p : Passed) → pass e ≡ p
+          → P (onPassed p (w .stop) (λ next. walk step pass w n next b))
+      by-pass e k o on b (At next) q =
+          let less = ahead at e next k q in
+          on next b (omega arith) (passing at next e g k o q)
+      by-pass e k o on b (Lost r) q = lost at e r g k o q
+
+      by-visit : (e : Headed) → step at ≡ Child e → Onward → (v : Visit A B) → Went P (Over e) v
+          → P (onVisit v (λ b. b) (λ more. onPassed (pass e) (w .stop) (λ next. walk step pass w n next more)))
       by-visit e k on (ends b) p = p
-      by-visit e k on (over b) p =
-          let t = stepped s end at e k in
-          on (behind e) b (omega (arith, t .onward, t .before))
-          (passing at e g (t .before) (child-is s end at e k) p)
+      by-visit e k on (over b) o = by-pass e k o on b (pass e) refl
 
-      by : (x : ChildRead) → childAt s end at ≡ x → Onward
-          → P (onChild x (w .ended at a) (w .stop) (λ e. onVisit (w .visit a e) (λ b. b) (walk s end w n (behind e))))
+      by : (x : ChildRead) → step at ≡ x → Onward
+          → P (onChild x (w .ended at a) (w .stop) (λ e.
+          onVisit (w .visit a e) (λ b. b) (λ more. onPassed (pass e) (w .stop) (λ next. walk step pass w n next more))))
       by (Child e) k on = by-visit e k on (w .visit a e) (each a at e g k)
-      by End k on = at-the-end at a g (step-ended s end at k)
+      by End k on = at-the-end at a g k
       by (ChildRefused r) k on = unread at r g k
 
-  the-walk : (a : A) → P (walkFrom s end w from a)
-  the-walk a = on-the-way (end - from) from a (omega arith) begun
+module _ {A B : Type 0} (live : Bool) (s : List ℕ) (stretch : Stretch) (w : Walk A B) (Over : Headed → Type 0)
+    (from : ℕ) (P : B → Type 0)
+    (at-the-end : (at : ℕ) (a : A) → Along live s stretch Over from at → childAt live s stretch at ≡ End
+    → P (w .ended at a))
+    (unread : (at : ℕ) (e : Refusal) → Along live s stretch Over from at → childAt live s stretch at ≡ ChildRefused e
+    → P (w .stop e))
+    (each : (a : A) (at : ℕ) (e : Headed) → Along live s stretch Over from at → childAt live s stretch at ≡ Child e
+    → Went P (Over e) (w .visit a e))
+    (lost : (at : ℕ) (e : Headed) (r : Refusal) → Along live s stretch Over from at → childAt live s stretch at ≡ Child e
+    → Over e → passOver live s (endOf stretch) e ≡ Lost r → P (w .stop r)) where
+  the-walk : (a : A) → P (walkFrom live s stretch w from a)
+  the-walk a =
+      on-the-way (childAt live s stretch) (passOver live s (endOf stretch)) w Over from P (roomOf s stretch)
+      (no-room live s stretch)
+      (λ at e next q p.
+      let t = stepped-on live s stretch at e q in
+      less-room s stretch at next (t .room) (pass-onward live s stretch at e next t p))
+      at-the-end unread each lost (roomOf s stretch from) from a (omega arith) begun
 
-module _ (s : List ℕ) (part numbers : ℕ) where
+-- ---- in an element of unknown size
+
+-- What was refused in it is a fault that its walk comes to.
+abbrev Inside : List ℕ → (end : ℕ) → Headed → Passed → Type 0
+Inside s end e (At next) = Unit
+Inside s end e (Lost r) =
+    (a : ℕ) × InUnknown s end e a × Fault s a (toStep true) (r .cause) × (because (r .cause) a ≡ r)
+
+unknown-fault : (s : List ℕ) (end : ℕ) (e : Headed) → Inside s end e (endFrom s (e .header .id) end (e .payload .at))
+unfolding endFrom
+unknown-fault s end e =
+    on-the-way (childAt true s stretch) (λ c. At (within c)) (ending s end) (λ c. Unit) (e .payload .at)
+    (Inside s end e) (λ place. length s - place) (no-room true s stretch)
+    (λ at c next q p.
+    let t = stepped-on true s stretch at c q in
+    let n : within c ≡ next = cc in
+    let l = within-onward c at (t .onward) in
+    less-room s stretch at next (t .room) (omega arith))
+    (λ at a g k. tt)
+    (λ at r g k.
+    let (l, f, i) = step-fault true s stretch at (toStep true) refl (λ h. refl) r k in
+    (at, g, f, i))
+    (λ a at c g k. tt)
+    (λ at c r g k o p. let z : _≡_ {A = ℕ} 0 1 = cc in absurd (let y : ⊥ = omega arith in y))
+    (length s - e .payload .at) (e .payload .at) tt (omega arith) begun
+  where
+    stretch : Stretch
+    stretch = Endless (e .header .id) end
+
+-- A way past an element that is refused goes through one of unknown size.
+passed-fault : (live : Bool) (s : List ℕ) (end : ℕ) (e : Headed) (r : Refusal) → passOver live s end e ≡ Lost r
+    → ((live && unknown (e .header)) ≡ true)
+    × ((a : ℕ) × InUnknown s end e a × Fault s a (toStep true) (r .cause) × (because (r .cause) a ≡ r))
+unfolding passOver
+passed-fault live s end e r q = by (live && unknown (e .header)) refl q
+  where
+    by : (b : Bool) → (live && unknown (e .header)) ≡ b
+        → cond b (endFrom s (e .header .id) end (e .payload .at)) (At (behind e)) ≡ Lost r
+        → ((live && unknown (e .header)) ≡ true)
+        × ((a : ℕ) × InUnknown s end e a × Fault s a (toStep true) (r .cause) × (because (r .cause) a ≡ r))
+    by true k w = (k, subst (Inside s end e) w (unknown-fault s end e))
+    by false k w = let z : _≡_ {A = ℕ} 0 1 = cc in absurd (let y : ⊥ = omega arith in y)
+
+-- An overrun: of both the size is known, and the child ends behind the segment.
+overrun-known : (live : Bool) (segment e : Headed) → overruns live segment e ≡ true
+    → ((live && unknown (segment .header)) ≡ false) × ((live && unknown (e .header)) ≡ false)
+    × (behind segment < behind e)
+unfolding overruns
+overrun-known live segment e q = by (live && unknown (segment .header)) refl (live && unknown (e .header)) refl q
+  where
+    by : (b : Bool) → (live && unknown (segment .header)) ≡ b → (c : Bool) → (live && unknown (e .header)) ≡ c
+        → cond b false (cond c false (ltb (behind segment) (behind e))) ≡ true
+        → ((live && unknown (segment .header)) ≡ false) × ((live && unknown (e .header)) ≡ false)
+        × (behind segment < behind e)
+    by true k c l w = let z : _≡_ {A = ℕ} 0 1 = cc in absurd (let y : ⊥ = omega arith in y)
+    by false k true l w = let z : _≡_ {A = ℕ} 0 1 = cc in absurd (let y : ⊥ = omega arith in y)
+    by false k false l w = (k, l, ltb-true (behind segment) (behind e) w)
+
+-- The place of a child is not past its stretch.
+child-before : (live : Bool) (s : List ℕ) (stretch : Stretch) (at : ℕ) (e : Headed)
+    → childAt live s stretch at ≡ Child e → isPast s stretch at ≡ false
+child-before live s stretch at e q = by (childAt live s stretch at) q (goes live s stretch at)
+  where
+    by : (y : ChildRead) → y ≡ Child e → Goes live s stretch at y → isPast s stretch at ≡ false
+    by (Child d) w (element _ k h o b) = k
+    by End w g = let z : _≡_ {A = ℕ} 0 1 = cc in absurd (let y : ⊥ = omega arith in y)
+    by (ChildRefused r) w g = let z : _≡_ {A = ℕ} 0 1 = cc in absurd (let y : ⊥ = omega arith in y)
+
+module _ (live : Bool) (s : List ℕ) (part numbers : ℕ) where
   abbrev Here : Refusal → Type 0
-  Here e = FaultThere s (SearchComes s part numbers) e
+  Here e = FaultThere s (SearchComes live s part numbers) e
 
   -- What a walk comes to is at fault.
-  at-fault : (a : ℕ) (x : Errand) (c : Cause) → SearchComes s part numbers a x → Fault s a x c → Here (because c a)
+  at-fault : (a : ℕ) (x : Errand) (c : Cause) → SearchComes live s part numbers a x → Fault s a x c → Here (because c a)
   at-fault a x c r f = record { errand = x; reached = r; fault = f }
 
   -- ---- before the segment
@@ -98,22 +199,35 @@ module _ (s : List ℕ) (part numbers : ℕ) where
   OfFile (Read e) = Unit
   OfFile (HeaderRefused e) = Here e
 
-  file-fault : OfFile (segmentOf s)
-  unfolding segmentOf
+  file-fault : OfFile (segmentOf live s)
+  unfolding segmentOf isPast endedBy
   file-fault =
-      the-walk s (length s) seeking (λ e. e .header .id ≡ segmentId → ⊥) 0 OfFile
-      (λ at a g l. unread at C.PastEnd g (past-end s at l))
-      (λ at e g k. let (l, h, i) = step-refused s (length s) at e k in subst Here i (unread at (e .cause) g h))
-      (λ a at e g k. by e (eqb (e .header .id) segmentId) refl) tt
+      the-walk live s (Sized (length s)) seeking (λ e. e .header .id ≡ segmentId → ⊥) 0 OfFile
+      (λ at a g k.
+      at-fault at (toStep live) C.PastEnd (inFile at g)
+      (header-fault s at (toStep live) refl C.PastEnd (past-end s at (at-end at k))))
+      (λ at e g k.
+      let (l, f, i) = step-fault live s (Sized (length s)) at (toStep live) refl (λ h. refl) e k in
+      subst Here i (at-fault at (toStep live) (e .cause) (inFile at g) f))
+      (λ a at e g k. by e (eqb (e .header .id) segmentId) refl)
+      (λ at e r g k o p.
+      let (u, there-is) = passed-fault live s (length s) e r p in
+      let (a, i, f, j) = there-is in
+      subst Here j (at-fault a (toStep true) (r .cause) (inFileUnknown at e a g k o u i) f)) tt
     where
-      unread : (at : ℕ) (c : Cause) → ToSegment s at → elementHeader s at ≡ refusedHeader c → Here (because c at)
-      unread at c g h =
-          at-fault at toHeader c (inFile at g) (header-fault s at toHeader (λ d v. headerAlone v) c h)
-
       by : (e : Headed) (b : Bool) → eqb (e .header .id) segmentId ≡ b
           → Went {A = Unit} OfFile (e .header .id ≡ segmentId → ⊥) (cond b (ends (Read e)) (over tt))
       by e true q = tt
       by e false q = eqb-false (e .header .id) segmentId q
+
+      at-end : (at : ℕ) → childAt live s (Sized (length s)) at ≡ End → length s ≤ at
+      at-end at k = leb-true (length s) at (by-way (childAt live s (Sized (length s)) at) k (goes live s _ at))
+        where
+          by-way : (y : ChildRead) → y ≡ End → Goes live s (Sized (length s)) at y → leb (length s) at ≡ true
+          by-way End w (past p) = p
+          by-way End w (ended d p h o) = let z : _≡_ {A = ℕ} 0 1 = cc in absurd (let y : ⊥ = omega arith in y)
+          by-way (Child d) w g = let z : _≡_ {A = ℕ} 0 1 = cc in absurd (let y : ⊥ = omega arith in y)
+          by-way (ChildRefused d) w g = let z : _≡_ {A = ℕ} 0 1 = cc in absurd (let y : ⊥ = omega arith in y)
 
   -- ---- in the segment
 
@@ -122,103 +236,128 @@ module _ (s : List ℕ) (part numbers : ℕ) where
   OfPlace (absentAt heads) = Unit
   OfPlace (stopped e) = Here e
 
-  module _ (segment : Headed) (is : segmentOf s ≡ Read segment) where
-    -- The errand at a child.
-    abbrev child : ℕ → Errand
-    child a = toPass (seekHeadId ∷ part ∷ []) (behind segment - a)
+  module _ (segment : Headed) (is : segmentOf live s ≡ Read segment) where
+    abbrev stretch : Stretch
+    stretch = stretchOf live s segment
 
-    visited : (at : ℕ) (e : Headed) → InSegment s part segment at → childAt s (behind segment) at ≡ Child e
-        → Went {A = Unit} OfPlace (Passed part segment e)
-        (withinSegment segment (searching s part segment) .visit tt e)
-    unfolding visit member
-    visited at e g k =
-        by (eqb (e .header .id) seekHeadId) refl (eqb (e .header .id) part) refl (ltb (behind segment) (behind e)) refl
+    -- Where a segment of known size is walked over, its places are before its end.
+    before-end : (live && unknown (segment .header)) ≡ false → (at : ℕ) → isPast s stretch at ≡ false → at < behind segment
+    unfolding stretchOf isPast
+    before-end u at k = leb-less (rw u at k)
       where
-        t : Stepped s (behind segment) at e
-        t = stepped s (behind segment) at e k
+        leb-less : leb (behind segment) at ≡ false → at < behind segment
+        leb-less l = leb-false (behind segment) at l
 
-        read : headerAt s at ≡ Read e
-        read = child-is s (behind segment) at e k
+    -- A child that is refused is so on its own errand, by whether the segment's size is known.
+    child-fault : (at : ℕ) (e : Refusal) → InSegment live s part segment at → childAt live s stretch at ≡ ChildRefused e
+        → Here e
+    child-fault at e g k = by (live && unknown (segment .header)) refl
+      where
+        by : (b : Bool) → (live && unknown (segment .header)) ≡ b → Here e
+        by true u =
+            let (l, f, i) = step-fault live s stretch at (toStep live) refl (λ h. refl) e k in
+            subst Here i (at-fault at (toStep live) (e .cause) (inEndless segment at is u g) f)
+        by false u =
+            let x = toPass live (seekHeadId ∷ part ∷ []) (behind segment - at) in
+            let (l, f, i) = step-fault live s stretch at x refl (λ h. refl) e k in
+            subst Here i (at-fault at x (e .cause) (inSegment segment at is u g (before-end u at l)) f)
+
+    visited : (at : ℕ) (e : Headed) → InSegment live s part segment at → childAt live s stretch at ≡ Child e
+        → Went {A = Unit} OfPlace (PassedOver live part segment e)
+        (withinSegment live segment (searching live s part segment) .visit tt e)
+    unfolding visit member barredStep
+    visited at e g k =
+        by (eqb (e .header .id) seekHeadId) refl (eqb (e .header .id) part) refl (overruns live segment e) refl
+      where
+        t : Stepped live s stretch at e
+        t = stepped-on live s stretch at e k
 
         begins : e .place .at ≡ at
-        begins = header-there s at e read .begins
+        begins = t .begins
 
         other-id : eqb (e .header .id) seekHeadId ≡ false → eqb (e .header .id) part ≡ false
             → member (e .header .id) (seekHeadId ∷ part ∷ []) ≡ false
         other-id q m = rw (q, m) refl
 
-        led : (p : Lookup) → byHeads s part (segment .payload .at) e ≡ p → eqb (e .header .id) seekHeadId ≡ true
+        led : (p : Lookup) → byHeads live s part (segment .payload .at) e ≡ p → eqb (e .header .id) seekHeadId ≡ true
             → OfPlace p
         led (foundAt x heads) q b = tt
         led (absentAt heads) q b = tt
         led (stopped r) q b =
-            let found = heads-honest s part (segment .payload .at) e r q in
+            let found = heads-honest live s part (segment .payload .at) e r q in
             record {
               errand = found .errand;
               reached =
                   fromHeads segment e (r .address) (found .errand) is
-                  (subst (InSegment s part segment) (sym begins) g)
-                  (subst (λ (x : ℕ). x < behind segment) (sym begins) (t .before))
+                  (subst (InSegment live s part segment) (sym begins) g)
+                  (ap (childAt live s stretch) begins ∙ k)
                   (record { head = t .there; named = eqb-true (e .header .id) seekHeadId b })
                   (found .reached);
               fault = found .fault;
             }
 
+        -- An overrun: both sizes are known, and the child is larger than what was left.
+        larger : eqb (e .header .id) seekHeadId ≡ false → eqb (e .header .id) part ≡ false
+            → overruns live segment e ≡ true → Here (overrun at)
+        larger q m n =
+            let (u, v, l) = overrun-known live segment e n in
+            let x = toPass live (seekHeadId ∷ part ∷ []) (behind segment - at) in
+            at-fault at x C.Overrun (inSegment segment at is u g (before-end u at (child-before live s stretch at e k)))
+            (largerPassed live (seekHeadId ∷ part ∷ []) (behind segment - at) (
+              e .header,
+              header-there s at e (t .here) .head,
+              t .allowed,
+              (other-id q m, v, omega (arith, t .headed, t .onward)),
+            ))
+
         by : (b : Bool) → eqb (e .header .id) seekHeadId ≡ b → (c : Bool) → eqb (e .header .id) part ≡ c
-            → (d : Bool) → ltb (behind segment) (behind e) ≡ d
-            → Went {A = Unit} OfPlace (Passed part segment e)
+            → (d : Bool) → overruns live segment e ≡ d
+            → Went {A = Unit} OfPlace (PassedOver live part segment e)
             (onVisit
-            (cond b (ends (byHeads s part (segment .payload .at) e)) (cond c (ends (foundAt e [])) (over tt)))
+            (cond b (ends (byHeads live s part (segment .payload .at) e)) (cond c (ends (foundAt e [])) (over tt)))
             ends (λ more. cond d (ends (stopped (overrun (e .place .at)))) (over more)))
-        by true q c m d n = led (byHeads s part (segment .payload .at) e) refl q
+        by true q c m d n = led (byHeads live s part (segment .payload .at) e) refl q
         by false q true m d n = tt
-        by false q false m true n =
-            let h = header-there s at e read in
-            let l = ltb-true (behind segment) (behind e) n in
-            subst (λ (x : ℕ). Here (overrun x)) (sym begins)
-            (at-fault at (child at) C.Overrun (inSegment segment at is g (t .before))
-            (largerPassed (seekHeadId ∷ part ∷ []) (behind segment - at)
-            (e .header, h .head, (other-id q m, omega (arith, t .headed)))))
+        by false q false m true n = subst (λ (x : ℕ). Here (overrun x)) (sym begins) (larger q m n)
         by false q false m false n =
             record {
               head = eqb-false (e .header .id) seekHeadId q;
               wanted = eqb-false (e .header .id) part m;
-              within = ltb-false (behind segment) (behind e) n;
+              within = n;
             }
 
-    segment-fault : OfPlace (segmentChildren s part segment)
+    segment-fault : OfPlace (segmentChildren live s part segment)
     unfolding segmentChildren
     segment-fault =
-        the-walk s (behind segment) (withinSegment segment (searching s part segment)) (Passed part segment)
-        (segment .payload .at) OfPlace (λ at a g l. tt)
-        (λ at e g k.
-        let (l, h, i) = step-refused s (behind segment) at e k in
-        subst Here i
-        (at-fault at (child at) (e .cause) (inSegment segment at is g l)
-        (header-fault s at (child at)
-        (λ d v. headerPassed (seekHeadId ∷ part ∷ []) (behind segment - at) v) (e .cause) h)))
-        (λ a at e g k. visited at e g k) tt
+        the-walk live s stretch (withinSegment live segment (searching live s part segment))
+        (PassedOver live part segment) (segment .payload .at) OfPlace (λ at a g k. tt)
+        (λ at e g k. child-fault at e g k)
+        (λ a at e g k. visited at e g k)
+        (λ at e r g k o p.
+        let (u, there-is) = passed-fault live s (endOf stretch) e r p in
+        let (a, i, f, j) = there-is in
+        subst Here j (at-fault a (toStep true) (r .cause) (inSegmentUnknown segment at e a is g k o u i) f)) tt
 
-  place-fault : (e : Refusal) → lookupOf s part ≡ stopped e → Here e
+  place-fault : (e : Refusal) → lookupOf live s part ≡ stopped e → Here e
   unfolding lookupOf
-  place-fault e q = by (segmentOf s) refl q file-fault
+  place-fault e q = by (segmentOf live s) refl q file-fault
     where
       of : (p : Lookup) → p ≡ stopped e → OfPlace p → Here e
       of (foundAt x heads) w f = let z : _≡_ {A = ℕ} 0 1 = cc in absurd (let y : ⊥ = omega arith in y)
       of (absentAt heads) w f = let z : _≡_ {A = ℕ} 0 1 = cc in absurd (let y : ⊥ = omega arith in y)
       of (stopped r) w f = let i : r ≡ e = cc in subst Here i f
 
-      by : (x : HeaderRead) → segmentOf s ≡ x → onHeader x stopped (segmentChildren s part) ≡ stopped e → OfFile x
+      by : (x : HeaderRead) → segmentOf live s ≡ x → onHeader x stopped (segmentChildren live s part) ≡ stopped e → OfFile x
           → Here e
-      by (Read segment) k w f = of (segmentChildren s part segment) w (segment-fault segment k)
+      by (Read segment) k w f = of (segmentChildren live s part segment) w (segment-fault segment k)
       by (HeaderRefused r) k w f = let i : r ≡ e = cc in subst Here i f
 
   -- ---- the search
 
   abbrev HonestHere : Refusal → Type 0
-  HonestHere e = Honest s (SearchComes s part numbers) e
+  HonestHere e = Honest s (SearchComes live s part numbers) e
 
-  search-honest-of : (e : Refusal) → searchOf s part numbers ≡ refused e → HonestHere e
+  search-honest-of : (e : Refusal) → searchOf live s part numbers ≡ refused e → HonestHere e
   unfolding searchOf
   search-honest-of e q = by (not (allowed s 0 numbers)) q
     where
@@ -226,28 +365,28 @@ module _ (s : List ℕ) (part numbers : ℕ) where
       bad i = subst HonestHere i (callers (inl refl) refl)
 
       by-reading : (parent : ℕ) (x : Headed) (heads : List ℕ) → parentOf part ≡ Id parent
-          → lookupOf s part ≡ foundAt x heads
-          → (o : Outcome) → filled s (x .payload .at) (x .header .size) parent numbers ≡ o
+          → lookupOf live s part ≡ foundAt x heads
+          → (o : Outcome) → filled live s (x .payload .at) (x .header .size) parent numbers ≡ o
           → onOutcome o refused (found (x .payload .at) (x .header .size) heads) ≡ refused e → HonestHere e
       by-reading parent x heads p l (done f) k w =
           let z : _≡_ {A = ℕ} 0 1 = cc in absurd (let y : ⊥ = omega arith in y)
       by-reading parent x heads p l (refusedReading r) k w =
           let i : r ≡ e = cc in
-          let here = filled-found s (x .payload .at) (x .header .size) parent numbers e (k ∙ ap refusedReading i) in
+          let here = filled-found live s (x .payload .at) (x .header .size) parent numbers e (k ∙ ap refusedReading i) in
           there (record {
             errand = here .errand;
             reached = inPart parent x heads (e .address) (here .errand) p l (here .reached);
             fault = here .fault;
           })
 
-      by-place : (parent : ℕ) → parentOf part ≡ Id parent → (p : Lookup) → lookupOf s part ≡ p
+      by-place : (parent : ℕ) → parentOf part ≡ Id parent → (p : Lookup) → lookupOf live s part ≡ p
           → onLookup p (λ x heads.
-          onOutcome (filled s (x .payload .at) (x .header .size) parent numbers) refused
+          onOutcome (filled live s (x .payload .at) (x .header .size) parent numbers) refused
           (found (x .payload .at) (x .header .size) heads))
           ≡ refused e
           → HonestHere e
       by-place parent p (foundAt x heads) k w =
-          by-reading parent x heads p k (filled s (x .payload .at) (x .header .size) parent numbers) refl w
+          by-reading parent x heads p k (filled live s (x .payload .at) (x .header .size) parent numbers) refl w
       by-place parent p (absentAt heads) k w =
           let z : _≡_ {A = ℕ} 0 1 = cc in absurd (let y : ⊥ = omega arith in y)
       by-place parent p (stopped r) k w =
@@ -256,19 +395,19 @@ module _ (s : List ℕ) (part numbers : ℕ) where
 
       by-parent : (x : Parent) → parentOf part ≡ x
           → onParent x (refused badArgument) (λ parent.
-          onLookup (lookupOf s part) (λ y heads.
-          onOutcome (filled s (y .payload .at) (y .header .size) parent numbers) refused
+          onLookup (lookupOf live s part) (λ y heads.
+          onOutcome (filled live s (y .payload .at) (y .header .size) parent numbers) refused
           (found (y .payload .at) (y .header .size) heads)))
           ≡ refused e
           → HonestHere e
-      by-parent (Id parent) k w = by-place parent k (lookupOf s part) refl w
+      by-parent (Id parent) k w = by-place parent k (lookupOf live s part) refl w
       by-parent NoPart k w = bad (cc)
 
       by : (b : Bool)
           → cond b (refused badArgument)
           (onParent (parentOf part) (refused badArgument) (λ parent.
-          onLookup (lookupOf s part) (λ y heads.
-          onOutcome (filled s (y .payload .at) (y .header .size) parent numbers) refused
+          onLookup (lookupOf live s part) (λ y heads.
+          onOutcome (filled live s (y .payload .at) (y .header .size) parent numbers) refused
           (found (y .payload .at) (y .header .size) heads))))
           ≡ refused e
           → HonestHere e
@@ -276,10 +415,10 @@ module _ (s : List ℕ) (part numbers : ℕ) where
       by false w = by-parent (parentOf part) refl w
 
 pub search-honest : SearchHonest
-search-honest s part t e t′ p = by (searchOf s part (length t)) refl (p .reply)
+search-honest live s part t e t′ p = by (searchOf live s part (length t)) refl (p .reply)
   where
-    by : (x : Search) → searchOf s part (length t) ≡ x → refusal e ≡ replyOf x
-        → Honest s (SearchComes s part (length t)) e
+    by : (x : Search) → searchOf live s part (length t) ≡ x → refusal e ≡ replyOf x
+        → Honest s (SearchComes live s part (length t)) e
     by (found at size heads f) k q = let z : _≡_ {A = ℕ} 0 1 = cc in absurd (let y : ⊥ = omega arith in y)
     by (absent heads) k q = let z : _≡_ {A = ℕ} 0 1 = cc in absurd (let y : ⊥ = omega arith in y)
-    by (refused r) k q = let i : r ≡ e = cc in search-honest-of s part (length t) e (k ∙ ap refused i)
+    by (refused r) k q = let i : r ≡ e = cc in search-honest-of live s part (length t) e (k ∙ ap refused i)

@@ -2,7 +2,7 @@
 use Prim.Native.Nat.{ℕ, _≤_}
 use mathlib.Core.Path.{_≡_, refl, sym, ap, _∙_}
 use mathlib.Core.List.{List}
-use mathlib.Core.Bool.{true, false, not}
+use mathlib.Core.Bool.{Bool, true, false, not}
 use native.Mathlib.Omega.{arith}
 use lib.ListN.{length}
 use borrow.Author.Tests.{le-leb}
@@ -59,11 +59,11 @@ allowed-at s at numbers a l =
     let w = within s 0 numbers a in
     sym (by-start s at numbers (w .bytes) (w .multiple) (w .few)) ∙ le-leb at (length s) l
 
-pub found-allowed : (s : List ℕ) (part numbers : ℕ) (e : Headed) (n : ℕ) → allowed s 0 numbers ≡ true
-    → PlaceFound e n ≡ placeTold (lookupOf s part) → allowed s (e .payload .at) numbers ≡ true
-found-allowed s part numbers e n a w =
-    let (heads, q, l) = told-found e n (lookupOf s part) w in
-    allowed-at s (e .payload .at) numbers a (found-inside s part e heads q)
+pub found-allowed : (live : Bool) (s : List ℕ) (part numbers : ℕ) (e : Headed) (n : ℕ) → allowed s 0 numbers ≡ true
+    → PlaceFound e n ≡ placeTold (lookupOf live s part) → allowed s (e .payload .at) numbers ≡ true
+found-allowed live s part numbers e n a w =
+    let (heads, q, l) = told-found e n (lookupOf live s part) w in
+    allowed-at s (e .payload .at) numbers a (found-inside live s part e heads q)
 
 -- ---- the search by its cases
 
@@ -71,30 +71,30 @@ found-allowed s part numbers e n a w =
 abbrev pub as-search : ℕ → ℕ → List ℕ → Outcome → Search
 as-search at size heads o = onOutcome o refused (found at size heads)
 
-abbrev pub reading : List ℕ → ℕ → ℕ → Headed → List ℕ → Search
-reading s numbers parent e heads =
-    as-search (e .payload .at) (e .header .size) heads (filled s (e .payload .at) (e .header .size) parent numbers)
+abbrev pub reading : (live : Bool) → List ℕ → ℕ → ℕ → Headed → List ℕ → Search
+reading live s numbers parent e heads =
+    as-search (e .payload .at) (e .header .size) heads (filled live s (e .payload .at) (e .header .size) parent numbers)
 
-module _ (s : List ℕ) (part numbers : ℕ) where
-  search-broken : allowed s 0 numbers ≡ false → searchOf s part numbers ≡ refused badArgument
+module _ (live : Bool) (s : List ℕ) (part numbers : ℕ) where
+  search-broken : allowed s 0 numbers ≡ false → searchOf live s part numbers ≡ refused badArgument
   unfolding searchOf
   search-broken a = rw a refl
 
   module _ (a : allowed s 0 numbers ≡ true) where
-    search-none : parentOf part ≡ NoPart → searchOf s part numbers ≡ refused badArgument
+    search-none : parentOf part ≡ NoPart → searchOf live s part numbers ≡ refused badArgument
     unfolding searchOf
     search-none i = rw (a, i) refl
 
-    search-at : (parent : ℕ) → parentOf part ≡ Id parent → (p : Lookup) → lookupOf s part ≡ p
-        → searchOf s part numbers ≡ onLookup p (reading s numbers parent)
+    search-at : (parent : ℕ) → parentOf part ≡ Id parent → (p : Lookup) → lookupOf live s part ≡ p
+        → searchOf live s part numbers ≡ onLookup p (reading live s numbers parent)
     unfolding searchOf
     search-at parent i p q = rw (a, i, q) refl
 
 -- The public read of a part that was found reads it.
-pub read-at : (s : List ℕ) (at size parent numbers : ℕ) → allowed s at numbers ≡ true
-    → readOf s at size parent numbers ≡ filled s at size parent numbers
+pub read-at : (live : Bool) (s : List ℕ) (at size parent numbers : ℕ) → allowed s at numbers ≡ true
+    → readOf live s at size parent numbers ≡ filled live s at size parent numbers
 unfolding readOf
-read-at s at size parent numbers a = passes _ _ _ (ap not a)
+read-at live s at size parent numbers a = passes _ _ _ (ap not a)
 
 -- ---- the reply and the table
 
@@ -114,73 +114,73 @@ module _ (at size numbers : ℕ) (heads t′ : List ℕ) where
   read-rows rows n l (done f) q w = (cc, w)
   read-rows rows n l (unread e) q w = let z : _≡_ {A = ℕ} 0 1 = cc in absurd (omega arith)
 
-module _ (s : List ℕ) (part : ℕ) (t : List ℕ) where
+module _ (live : Bool) (s : List ℕ) (part : ℕ) (t : List ℕ) where
   -- A reply and a table that tell what the search comes to are as promised.
-  promised : (x : Search) → searchOf s part (length t) ≡ x → (r : PartReply) (t′ : List ℕ)
-      → partTold r ≡ replyOf x → t′ ≡ tableOf (length t) x → PartPromise s part t r t′
+  promised : (x : Search) → searchOf live s part (length t) ≡ x → (r : PartReply) (t′ : List ℕ)
+      → partTold r ≡ replyOf x → t′ ≡ tableOf (length t) x → PartPromise live s part t r t′
   promised x q r t′ e w = record { reply = e ∙ sym (ap replyOf q); table = w ∙ sym (ap (tableOf (length t)) q) }
 
   -- A refusal before anything was read into the table.
-  cleared : (e e′ : Refusal) (t′ : List ℕ) → searchOf s part (length t) ≡ refused e′ → e ≡ e′ → t′ ≡ zeros (length t)
-      → PartPromise s part t (Refused e) t′
+  cleared : (e e′ : Refusal) (t′ : List ℕ) → searchOf live s part (length t) ≡ refused e′ → e ≡ e′ → t′ ≡ zeros (length t)
+      → PartPromise live s part t (Refused e) t′
   unfolding tableOf
   cleared e e′ t′ q i z = promised (refused e′) q (Refused e) t′ (rw i refl) z
 
   pub find-broken : (e : Refusal) (t′ : List ℕ) → allowed s 0 (length t) ≡ false → e ≡ badArgument
-      → t′ ≡ zeros (length t) → PartPromise s part t (Refused e) t′
-  find-broken e t′ a i z = cleared e badArgument t′ (search-broken s part (length t) a) i z
+      → t′ ≡ zeros (length t) → PartPromise live s part t (Refused e) t′
+  find-broken e t′ a i z = cleared e badArgument t′ (search-broken live s part (length t) a) i z
 
   module _ (a : allowed s 0 (length t) ≡ true) where
     pub find-none : (e : Refusal) (t′ : List ℕ) → parentOf part ≡ NoPart → e ≡ badArgument
-        → t′ ≡ zeros (length t) → PartPromise s part t (Refused e) t′
-    find-none e t′ i j z = cleared e badArgument t′ (search-none s part (length t) a i) j z
+        → t′ ≡ zeros (length t) → PartPromise live s part t (Refused e) t′
+    find-none e t′ i j z = cleared e badArgument t′ (search-none live s part (length t) a i) j z
 
     module _ (parent : ℕ) (i : parentOf part ≡ Id parent) where
-      pub find-stopped : (e : Refusal) (t′ : List ℕ) → PlaceRefused e ≡ placeTold (lookupOf s part)
-          → t′ ≡ zeros (length t) → PartPromise s part t (Refused e) t′
+      pub find-stopped : (e : Refusal) (t′ : List ℕ) → PlaceRefused e ≡ placeTold (lookupOf live s part)
+          → t′ ≡ zeros (length t) → PartPromise live s part t (Refused e) t′
       find-stopped e t′ w z =
-          let q = search-at s part (length t) a parent i (stoppedAt e) (told-stopped e (lookupOf s part) w) in
+          let q = search-at live s part (length t) a parent i (stoppedAt e) (told-stopped e (lookupOf live s part) w) in
           cleared e e t′ q refl z
 
-      absent-promised : (n : ℕ) (heads t′ : List ℕ) → lookupOf s part ≡ absentAt heads → n ≡ length heads
-          → t′ ≡ zeros (length t) → PartPromise s part t (Absent n) t′
+      absent-promised : (n : ℕ) (heads t′ : List ℕ) → lookupOf live s part ≡ absentAt heads → n ≡ length heads
+          → t′ ≡ zeros (length t) → PartPromise live s part t (Absent n) t′
       unfolding tableOf
       absent-promised n heads t′ q l z =
-          promised (absent heads) (search-at s part (length t) a parent i (absentAt heads) q) (Absent n) t′
+          promised (absent heads) (search-at live s part (length t) a parent i (absentAt heads) q) (Absent n) t′
           (ap (λ (k : ℕ). partTold (Absent k)) l) z
 
-      pub find-absent : (n : ℕ) (t′ : List ℕ) → PlaceAbsent n ≡ placeTold (lookupOf s part)
-          → t′ ≡ zeros (length t) → PartPromise s part t (Absent n) t′
+      pub find-absent : (n : ℕ) (t′ : List ℕ) → PlaceAbsent n ≡ placeTold (lookupOf live s part)
+          → t′ ≡ zeros (length t) → PartPromise live s part t (Absent n) t′
       find-absent n t′ w z =
-          let (heads, q, l) = told-absent n (lookupOf s part) w in
+          let (heads, q, l) = told-absent n (lookupOf live s part) w in
           absent-promised n heads t′ q l z
 
-      module _ (e : Headed) (n : ℕ) (w : PlaceFound e n ≡ placeTold (lookupOf s part)) where
+      module _ (e : Headed) (n : ℕ) (w : PlaceFound e n ≡ placeTold (lookupOf live s part)) where
         abbrev at : ℕ
         at = e .payload .at
 
         abbrev size : ℕ
         size = e .header .size
 
-        read-is : readOf s at size parent (length t) ≡ filled s at size parent (length t)
-        read-is = read-at s at size parent (length t) (found-allowed s part (length t) e n a w)
+        read-is : readOf live s at size parent (length t) ≡ filled live s at size parent (length t)
+        read-is = read-at live s at size parent (length t) (found-allowed live s part (length t) e n a w)
 
-        pub find-refused : (r : Refusal) (t′ : List ℕ) → ReadPromise s at size parent t (ReadRefused r) t′
-            → PartPromise s part t (Refused r) t′
+        pub find-refused : (r : Refusal) (t′ : List ℕ) → ReadPromise live s at size parent t (ReadRefused r) t′
+            → PartPromise live s part t (Refused r) t′
         find-refused r t′ p =
-            let (heads, q, l) = told-found e n (lookupOf s part) w in
-            let o = filled s at size parent (length t) in
+            let (heads, q, l) = told-found e n (lookupOf live s part) w in
+            let o = filled live s at size parent (length t) in
             let (x, k) = read-refused at size (length t) heads t′ r o (p .reply ∙ ap readReply read-is)
             (p .table ∙ ap (readTable at (length t)) read-is) in
             promised (as-search at size heads o)
-            (search-at s part (length t) a parent i (foundAt e heads) q) (Refused r) t′ x k
+            (search-at live s part (length t) a parent i (foundAt e heads) q) (Refused r) t′ x k
 
-        pub find-rows : (rows : ℕ) (t′ : List ℕ) → ReadPromise s at size parent t (Rows rows) t′
-            → PartPromise s part t (Found at size rows n) t′
+        pub find-rows : (rows : ℕ) (t′ : List ℕ) → ReadPromise live s at size parent t (Rows rows) t′
+            → PartPromise live s part t (Found at size rows n) t′
         find-rows rows t′ p =
-            let (heads, q, l) = told-found e n (lookupOf s part) w in
-            let o = filled s at size parent (length t) in
+            let (heads, q, l) = told-found e n (lookupOf live s part) w in
+            let o = filled live s at size parent (length t) in
             let (r, k) = read-rows at size (length t) heads t′ rows n l o (p .reply ∙ ap readReply read-is)
             (p .table ∙ ap (readTable at (length t)) read-is) in
             promised (as-search at size heads o)
-            (search-at s part (length t) a parent i (foundAt e heads) q) (Found at size rows n) t′ r k
+            (search-at live s part (length t) a parent i (foundAt e heads) q) (Found at size rows n) t′ r k

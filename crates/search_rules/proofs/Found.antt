@@ -31,35 +31,35 @@ use Rattle.search_rules.proofs.Finding.{allowed-at, as-search, reading,
 
 -- ---- the heads
 
-module _ (s : List ℕ) (part numbers : ℕ) where
+module _ (live : Bool) (s : List ℕ) (part numbers : ℕ) where
   -- A part that was found keeps the heads of its place; a refusal has none.
-  heads-of-reading : (at size : ℕ) (heads : List ℕ) → GoodHeads s heads → (o : Outcome)
-      → GoodHeads s (headsOf (as-search at size heads o))
+  heads-of-reading : (at size : ℕ) (heads : List ℕ) → GoodHeads live s heads → (o : Outcome)
+      → GoodHeads live s (headsOf (as-search at size heads o))
   unfolding headsOf
   heads-of-reading at size heads h (done f) = h
-  heads-of-reading at size heads h (unread e) = none-read s
+  heads-of-reading at size heads h (unread e) = none-read live s
 
-  heads-of-place : (parent : ℕ) (p : Lookup) → Placed s part p
-      → GoodHeads s (headsOf (onLookup p (reading s numbers parent)))
+  heads-of-place : (parent : ℕ) (p : Lookup) → Placed live s part p
+      → GoodHeads live s (headsOf (onLookup p (reading live s numbers parent)))
   unfolding headsOf
   heads-of-place parent (foundAt e heads) t =
       heads-of-reading (e .payload .at) (e .header .size) heads (t .1)
-      (filled s (e .payload .at) (e .header .size) parent numbers)
+      (filled live s (e .payload .at) (e .header .size) parent numbers)
   heads-of-place parent (absentAt heads) t = t
-  heads-of-place parent (stoppedAt e) t = none-read s
+  heads-of-place parent (stoppedAt e) t = none-read live s
 
 pub heads-allowed : HeadsAllowed
 unfolding searchOf headsOf
-heads-allowed s part numbers = by (not (allowed s 0 numbers)) (parentOf part)
+heads-allowed live s part numbers = by (not (allowed s 0 numbers)) (parentOf part)
   where
     by : (b : Bool) (x : Parent)
-        → GoodHeads s
+        → GoodHeads live s
         (headsOf
         (cond b (refused badArgument)
-        (onParent x (refused badArgument) (λ parent. onLookup (lookupOf s part) (reading s numbers parent)))))
-    by true x = none-read s
-    by false (Id parent) = heads-of-place s part numbers parent (lookupOf s part) (place-trusty s part)
-    by false NoPart = none-read s
+        (onParent x (refused badArgument) (λ parent. onLookup (lookupOf live s part) (reading live s numbers parent)))))
+    by true x = none-read live s
+    by false (Id parent) = heads-of-place live s part numbers parent (lookupOf live s part) (place-trusty live s part)
+    by false NoPart = none-read live s
 
 -- ---- what a reply tells of the search
 
@@ -77,34 +77,34 @@ reply-absent n (refused e) q = let z : _≡_ {A = ℕ} 0 1 = cc in absurd (omega
 
 pub heads-counted : HeadsCounted
 unfolding headsOf
-heads-counted s part t t′ = (
+heads-counted live s part t t′ = (
   (λ at size rows n p.
-      let (heads, f, q, r, l) = reply-found at size rows n (searchOf s part (length t)) (p .reply) in
+      let (heads, f, q, r, l) = reply-found at size rows n (searchOf live s part (length t)) (p .reply) in
       l ∙ sym (ap (λ (x : Search). length (headsOf x)) q)),
   (λ n p.
-      let (heads, q, l) = reply-absent n (searchOf s part (length t)) (p .reply) in
+      let (heads, q, l) = reply-absent n (searchOf live s part (length t)) (p .reply) in
       l ∙ sym (ap (λ (x : Search). length (headsOf x)) q)),
 )
 
 -- ---- what was found
 
 -- What stands behind a part that a search found.
-record Sought (s : List ℕ) (part numbers at size : ℕ) (heads : List ℕ) (f : Forest) : Type 0 where
+record Sought (live : Bool) (s : List ℕ) (part numbers at size : ℕ) (heads : List ℕ) (f : Forest) : Type 0 where
   parent : ℕ
   within : allowed s 0 numbers ≡ true
   named : parentOf part ≡ Id parent
   element : Headed
-  place : lookupOf s part ≡ foundAt element heads
+  place : lookupOf live s part ≡ foundAt element heads
   payload : element .payload .at ≡ at
   sized : element .header .size ≡ size
-  read : filled s at size parent numbers ≡ done f
+  read : filled live s at size parent numbers ≡ done f
 
-module _ (s : List ℕ) (part numbers at size : ℕ) (heads : List ℕ) (f : Forest) where
+module _ (live : Bool) (s : List ℕ) (part numbers at size : ℕ) (heads : List ℕ) (f : Forest) where
   sought-read : (parent : ℕ) (e : Headed) (hs : List ℕ) → allowed s 0 numbers ≡ true → parentOf part ≡ Id parent
-      → lookupOf s part ≡ foundAt e hs
-      → (o : Outcome) → filled s (e .payload .at) (e .header .size) parent numbers ≡ o
+      → lookupOf live s part ≡ foundAt e hs
+      → (o : Outcome) → filled live s (e .payload .at) (e .header .size) parent numbers ≡ o
       → as-search (e .payload .at) (e .header .size) hs o ≡ found at size heads f
-      → Sought s part numbers at size heads f
+      → Sought live s part numbers at size heads f
   sought-read parent e hs a i p (done g) k w =
       let x : e .payload .at ≡ at = cc in
       let y : e .header .size ≡ size = cc in
@@ -123,38 +123,38 @@ module _ (s : List ℕ) (part numbers at size : ℕ) (heads : List ℕ) (f : For
   sought-read parent e hs a i p (unread r) k w = let z : _≡_ {A = ℕ} 0 1 = cc in absurd (omega arith)
 
   sought-at : (parent : ℕ) → allowed s 0 numbers ≡ true → parentOf part ≡ Id parent
-      → (p : Lookup) → lookupOf s part ≡ p
-      → onLookup p (reading s numbers parent) ≡ found at size heads f → Sought s part numbers at size heads f
+      → (p : Lookup) → lookupOf live s part ≡ p
+      → onLookup p (reading live s numbers parent) ≡ found at size heads f → Sought live s part numbers at size heads f
   sought-at parent a i (foundAt e hs) p w =
-      sought-read parent e hs a i p (filled s (e .payload .at) (e .header .size) parent numbers) refl w
+      sought-read parent e hs a i p (filled live s (e .payload .at) (e .header .size) parent numbers) refl w
   sought-at parent a i (absentAt hs) p w = let z : _≡_ {A = ℕ} 0 1 = cc in absurd (omega arith)
   sought-at parent a i (stoppedAt e) p w = let z : _≡_ {A = ℕ} 0 1 = cc in absurd (omega arith)
 
-  sought : searchOf s part numbers ≡ found at size heads f → Sought s part numbers at size heads f
+  sought : searchOf live s part numbers ≡ found at size heads f → Sought live s part numbers at size heads f
   unfolding searchOf
   sought = by (allowed s 0 numbers) refl (parentOf part) refl
     where
       by : (b : Bool) → allowed s 0 numbers ≡ b → (x : Parent) → parentOf part ≡ x
           → cond (not b) (refused badArgument)
-          (onParent x (refused badArgument) (λ parent. onLookup (lookupOf s part) (reading s numbers parent)))
+          (onParent x (refused badArgument) (λ parent. onLookup (lookupOf live s part) (reading live s numbers parent)))
           ≡ found at size heads f
-          → Sought s part numbers at size heads f
-      by true a (Id parent) i w = sought-at parent a i (lookupOf s part) refl w
+          → Sought live s part numbers at size heads f
+      by true a (Id parent) i w = sought-at parent a i (lookupOf live s part) refl w
       by true a NoPart i w = let z : _≡_ {A = ℕ} 0 1 = cc in absurd (omega arith)
       by false a x i w = let z : _≡_ {A = ℕ} 0 1 = cc in absurd (omega arith)
 
 -- Its payload starts in the recording.
-starts : (s : List ℕ) (part numbers at size : ℕ) (heads : List ℕ) (f : Forest) → Sought s part numbers at size heads f
+starts : (live : Bool) (s : List ℕ) (part numbers at size : ℕ) (heads : List ℕ) (f : Forest) → Sought live s part numbers at size heads f
     → at ≤ length s
-starts s part numbers at size heads f g = omega (arith, found-inside s part (g .element) heads (g .place), g .payload)
+starts live s part numbers at size heads f g = omega (arith, found-inside live s part (g .element) heads (g .place), g .payload)
 
 pub found-is-part : FoundIsPart
 unfolding headsOf
-found-is-part s part t at size rows n t′ p =
-    let (heads, f, q, r, l) = reply-found at size rows n (searchOf s part (length t)) (p .reply) in
-    let g = sought s part (length t) at size heads f q in
-    let b = found-part s part (g .element) heads (g .place) in
-    let by : FoundBy s part at size heads = record {
+found-is-part live s part t at size rows n t′ p =
+    let (heads, f, q, r, l) = reply-found at size rows n (searchOf live s part (length t)) (p .reply) in
+    let g = sought live s part (length t) at size heads f q in
+    let b = found-part live s part (g .element) heads (g .place) in
+    let by : FoundBy live s part at size heads = record {
       part = b .part;
       payload = b .payload ∙ g .payload;
       sized = b .sized ∙ g .sized;
@@ -162,7 +162,7 @@ found-is-part s part t at size rows n t′ p =
       is-segment = b .is-segment;
       way = b .way;
     } in
-    subst (λ (hs : List ℕ). FoundBy s part at size hs) (sym (ap headsOf q)) by
+    subst (λ (hs : List ℕ). FoundBy live s part at size hs) (sym (ap headsOf q)) by
 
 -- A part is read under one parent.
 same-parent : (a b : ℕ) {x : Parent} → x ≡ Id a → x ≡ Id b → a ≡ b
@@ -170,24 +170,24 @@ same-parent a b p q = cc
 
 pub found-is-read : FoundIsRead
 unfolding tableOf
-found-is-read s part parent t at size rows n t′ p i =
-    let (heads, f, q, r, l) = reply-found at size rows n (searchOf s part (length t)) (p .reply) in
-    let g = sought s part (length t) at size heads f q in
-    let a = allowed-at s at (length t) (g .within) (starts s part (length t) at size heads f g) in
+found-is-read live s part parent t at size rows n t′ p i =
+    let (heads, f, q, r, l) = reply-found at size rows n (searchOf live s part (length t)) (p .reply) in
+    let g = sought live s part (length t) at size heads f q in
+    let a = allowed-at s at (length t) (g .within) (starts live s part (length t) at size heads f g) in
     let e : g .parent ≡ parent = same-parent (g .parent) parent (g .named) i in
-    let o : readOf s at size parent (length t) ≡ done f
-    = read-at s at size parent (length t) a
-    ∙ subst (λ (x : ℕ). filled s at size x (length t) ≡ done f) e (g .read) in
+    let o : readOf live s at size parent (length t) ≡ done f
+    = read-at live s at size parent (length t) a
+    ∙ subst (λ (x : ℕ). filled live s at size x (length t) ≡ done f) e (g .read) in
     record {
       reply = ap accepted r ∙ sym (ap readReply o);
       table = p .table ∙ ap (tableOf (length t)) q ∙ sym (ap (readTable at (length t)) o);
     }
 
 -- What the table of a part that was found holds: the rows of its elements, and no more than it has room for.
-pub record Holding (s : List ℕ) (part numbers at size n : ℕ) (t′ : List ℕ) : Type 0 where
+pub record Holding (live : Bool) (s : List ℕ) (part numbers at size n : ℕ) (t′ : List ℕ) : Type 0 where
   pub heads : List ℕ
   pub forest : Forest
-  pub searched : searchOf s part numbers ≡ found at size heads forest
+  pub searched : searchOf live s part numbers ≡ found at size heads forest
   pub counted : n ≡ count forest
   pub rows-are : rowsOf t′ n ≡ rows 0 0 at 0 forest
   pub fits : n ≤ numbers / width
@@ -197,15 +197,15 @@ same-forest : (f g : Forest) {o : Outcome} → o ≡ done f → o ≡ done g →
 same-forest f g p q = cc
 
 pub found-holds :
-    (s : List ℕ) (part : ℕ) (t : List ℕ) (at size n heads : ℕ) (t′ : List ℕ)
-    → PartPromise s part t (Found at size n heads) t′ → Holding s part (length t) at size n t′
-found-holds s part t at size n k t′ p =
-    let (heads, f, q, r, l) = reply-found at size n k (searchOf s part (length t)) (p .reply) in
-    let g = sought s part (length t) at size heads f q in
-    let i = found-is-read s part (g .parent) t at size n k t′ p (g .named) in
-    let a = accepted-read s at size (g .parent) t n t′ i in
-    let w = allowed-at s at (length t) (g .within) (starts s part (length t) at size heads f g) in
-    let e = same-forest f (a .forest) (read-at s at size (g .parent) (length t) w ∙ g .read) (a .outcome) in
+    (live : Bool) (s : List ℕ) (part : ℕ) (t : List ℕ) (at size n heads : ℕ) (t′ : List ℕ)
+    → PartPromise live s part t (Found at size n heads) t′ → Holding live s part (length t) at size n t′
+found-holds live s part t at size n k t′ p =
+    let (heads, f, q, r, l) = reply-found at size n k (searchOf live s part (length t)) (p .reply) in
+    let g = sought live s part (length t) at size heads f q in
+    let i = found-is-read live s part (g .parent) t at size n k t′ p (g .named) in
+    let a = accepted-read live s at size (g .parent) t n t′ i in
+    let w = allowed-at s at (length t) (g .within) (starts live s part (length t) at size heads f g) in
+    let e = same-forest f (a .forest) (read-at live s at size (g .parent) (length t) w ∙ g .read) (a .outcome) in
     record {
       heads = heads;
       forest = f;

@@ -21,12 +21,12 @@ replied-back (Absent heads) = refl
 replied-back (Refused e) = refl
 
 pub part-unique : OnePart
-part-unique s part t u r r′ t′ u′ l p q =
-    let a = ap (λ (n : ℕ). replyOf (searchOf s part n)) l in
-    let b = ap (λ (n : ℕ). tableOf n (searchOf s part n)) l in (
+part-unique live s part t u r r′ t′ u′ l p q =
+    let a = ap (λ (n : ℕ). replyOf (searchOf live s part n)) l in
+    let b = ap (λ (n : ℕ). tableOf n (searchOf live s part n)) l in (
       sym (replied-back r) ∙ ap replied (p .reply ∙ a ∙ sym (q .reply)) ∙ replied-back r′,
       p .table ∙ b ∙ sym (q .table),
     )
 
 pub part-refuses-listed : RefusesListed
-part-refuses-listed s part t e t′ p = listed e
+part-refuses-listed live s part t e t′ p = listed e

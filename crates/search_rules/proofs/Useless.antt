@@ -2,6 +2,7 @@
 -- was. Assumes nothing.
 use Prim.Native.Nat.{ℕ}
 use mathlib.Core.Path.{_≡_, refl, ap, _∙_}
+use mathlib.Core.Bool.{Bool, true, false}
 use native.Mathlib.Omega.{arith}
 use lib.ListN.{length}
 use Rattle.header.specs.Vint.{octetBits, bits, oneMore, widthOf, bigEndianFrom, bigEndian, ofWidth, vintOf}
@@ -16,9 +17,11 @@ use Rattle.seekhead_rules.specs.Seeks.{entries}
 use Rattle.seekhead_rules.specs.Table.{latestFrom}
 use Rattle.seekchain_rules.specs.Heads.{nextHead, chain}
 use Rattle.seekchain_rules.specs.Lookup.{partAt, byHeads}
-use Rattle.walks_rules.specs.Step.{childAt}
-use Rattle.segments_rules.specs.Walk.{walk}
-use Rattle.segments_rules.specs.Segment.{segmentOf, visit, segmentChildren, lookupOf}
+use Rattle.walks_rules.specs.Step.{isPast, endedBy, barredStep, childAt}
+use Rattle.sizes.specs.Unknown.{unknown}
+use Rattle.walks_rules.specs.Walk.{walk}
+use Rattle.walks_rules.specs.Endings.{passOver}
+use Rattle.segments_rules.specs.Segment.{segmentOf, stretchOf, overruns, visit, segmentChildren, lookupOf}
 use Rattle.search_rules.specs.Part.{parentOf, Search, found, absent, refused, searchOf, replyOf, tableOf}
 use Rattle.search_rules.specs.Part.{foundPart, absentPart, partTold}
 use Rattle.search_rules.specs.Theorems.{tagsAlone, tagsBehindAHead, NotMadeUp, NotUntouched}
@@ -28,22 +31,26 @@ use Rattle.search_rules.specs.declared.part.PartReply.the-variants.{Foun
 -- ---- two recordings, computed
 
 unfoldable alone : Type 0
-alone = replyOf (searchOf tagsAlone 0x1254C367 0) ≡ accepted (foundPart 10 0 0 0)
+alone = (live : Bool) → replyOf (searchOf live tagsAlone 0x1254C367 0) ≡ accepted (foundPart 10 0 0 0)
 
 unfoldable behind : Type 0
-behind = replyOf (searchOf tagsBehindAHead 0x1254C367 0) ≡ accepted (absentPart 1)
+behind = (live : Bool) → replyOf (searchOf live tagsBehindAHead 0x1254C367 0) ≡ accepted (absentPart 1)
 
 is-alone : alone
 unfolding alone octetBits bits oneMore widthOf bigEndianFrom bigEndian ofWidth vintOf sized named headerOf
     headerRead headerAt count siblings masterBody isTable allowed filled
-    childAt walk segmentOf visit segmentChildren lookupOf parentOf searchOf
-is-alone = refl
+    isPast endedBy barredStep childAt walk passOver unknown segmentOf stretchOf overruns visit segmentChildren lookupOf
+    parentOf searchOf
+is-alone true = refl
+is-alone false = refl
 
 is-behind : behind
 unfolding behind octetBits bits oneMore widthOf bigEndianFrom bigEndian ofWidth vintOf sized named headerOf
     headerRead headerAt count siblings masterBody isTable allowed filled entries latestFrom nextHead chain partAt
-    byHeads childAt walk segmentOf visit segmentChildren lookupOf parentOf searchOf
-is-behind = refl
+    byHeads isPast endedBy barredStep childAt walk passOver unknown segmentOf stretchOf overruns visit segmentChildren
+    lookupOf parentOf searchOf
+is-behind true = refl
+is-behind false = refl
 
 one-found : (r : PartReply) → partTold r ≡ accepted (foundPart 10 0 0 0) → r ≡ Found 10 0 0 0
 one-found (Found at size rows heads) q = cc
@@ -57,10 +64,10 @@ none-found (Refused e) q = let z : _≡_ {A = ℕ} 0 1 = cc in absurd (omega ari
 
 pub not-made-up : NotMadeUp
 unfolding alone behind
-not-made-up t u r r′ t′ u′ l m p q =
-    let a = ap (λ (n : ℕ). replyOf (searchOf tagsAlone 0x1254C367 n)) l in
-    let b = ap (λ (n : ℕ). replyOf (searchOf tagsBehindAHead 0x1254C367 n)) m in
-    (one-found r (p .reply ∙ a ∙ is-alone), none-found r′ (q .reply ∙ b ∙ is-behind))
+not-made-up live t u r r′ t′ u′ l m p q =
+    let a = ap (λ (n : ℕ). replyOf (searchOf live tagsAlone 0x1254C367 n)) l in
+    let b = ap (λ (n : ℕ). replyOf (searchOf live tagsBehindAHead 0x1254C367 n)) m in
+    (one-found r (p .reply ∙ a ∙ is-alone live), none-found r′ (q .reply ∙ b ∙ is-behind live))
 
 -- ---- the table
 
@@ -78,7 +85,7 @@ zeros-refused numbers e (absent heads) q = refl
 zeros-refused numbers e (refused e′) q = refl
 
 pub not-untouched : NotUntouched
-not-untouched s part t t′ = (
-  (λ n p. p .table ∙ zeros-absent (length t) n (searchOf s part (length t)) (p .reply)),
-  (λ e p. p .table ∙ zeros-refused (length t) e (searchOf s part (length t)) (p .reply)),
+not-untouched live s part t t′ = (
+  (λ n p. p .table ∙ zeros-absent (length t) n (searchOf live s part (length t)) (p .reply)),
+  (λ e p. p .table ∙ zeros-refused (length t) e (searchOf live s part (length t)) (p .reply)),
 )

@@ -2,7 +2,7 @@
 use Prim.Native.Nat.{ℕ}
 use mathlib.Core.Path.{_≡_}
 use mathlib.Core.List.{List, []}
-use mathlib.Core.Bool.{cond, not}
+use mathlib.Core.Bool.{Bool, cond, not}
 use lib.ListN.{length}
 use lib.Dec.{eqb}
 use Rattle.refusals.specs.Refusals.{badArgument}
@@ -50,12 +50,12 @@ onLookup (stoppedAt e) next = refused e
 -- The search for a part with a table of so many numbers (document 01, Seek tables and the search): 14 for the lengths
 -- (no start is given) and for the part; then the walk; then the part's payload, read as the public read would fill the
 -- table.
-unfoldable pub searchOf : List ℕ → (part numbers : ℕ) → Search
-searchOf s part numbers =
+unfoldable pub searchOf : (live : Bool) → List ℕ → (part numbers : ℕ) → Search
+searchOf live s part numbers =
     cond (not (allowed s 0 numbers)) (refused badArgument)
     (onParent (parentOf part) (refused badArgument) (λ parent.
-    onLookup (lookupOf s part) (λ e heads.
-    onOutcome (filled s (e .payload .at) (e .header .size) parent numbers) refused
+    onLookup (lookupOf live s part) (λ e heads.
+    onOutcome (filled live s (e .payload .at) (e .header .size) parent numbers) refused
     (found (e .payload .at) (e .header .size) heads))))
 
 -- The addresses of the heads of an accepted search.
@@ -87,6 +87,6 @@ partTold (Found at size rows heads) = accepted (foundPart at size rows heads)
 partTold (Absent heads) = accepted (absentPart heads)
 partTold (Refused e) = refusal e
 
-pub record PartPromise (s : List ℕ) (part : ℕ) (t : List ℕ) (r : PartReply) (t′ : List ℕ) : Type 0 where
-  pub reply : partTold r ≡ replyOf (searchOf s part (length t))
-  pub table : t′ ≡ tableOf (length t) (searchOf s part (length t))
+pub record PartPromise (live : Bool) (s : List ℕ) (part : ℕ) (t : List ℕ) (r : PartReply) (t′ : List ℕ) : Type 0 where
+  pub reply : partTold r ≡ replyOf (searchOf live s part (length t))
+  pub table : t′ ≡ tableOf (length t) (searchOf live s part (length t))
