@@ -26,10 +26,11 @@ fn parent_of(part: u32) -> Parent
     }
 }
 
-// Where the part is, and its elements as rows of the table, as `read` would fill it. The table of an absent part is all
+// Where the part is, and its elements as rows of the table, as `read` would fill it in the same mode. In live mode the
+// walk knows where a Segment or Cluster of unknown size ends. The table of an absent part is all
 // zeros, and that of a refused one too. 14: a length is broken, or the part is none of the four.
-pub fn find_part(recording: &[u8], part: u32, table: &mut [u64]) -> PartReply
-    ensures { λ r. ⌜ PartPromise (now (recording .entry)) part (now (table .entry)) r (now (table .exit)) ⌝ }
+pub fn find_part(recording: &[u8], live: bool, part: u32, table: &mut [u64]) -> PartReply
+    ensures { λ r. ⌜ PartPromise live (now (recording .entry)) part (now (table .entry)) r (now (table .exit)) ⌝ }
 {
     clear(table);
     if !is_allowed(recording, 0, table) {
@@ -43,13 +44,13 @@ pub fn find_part(recording: &[u8], part: u32, table: &mut [u64]) -> PartReply
             address: 0,
             cause: Cause::BadArgument,
         }),
-        Parent::Id(parent) => match look_up(recording, part) {
+        Parent::Id(parent) => match look_up(recording, live, part) {
             PartPlace::Refused(refusal) => PartReply::Refused(refusal),
             PartPlace::Absent { heads } => PartReply::Absent { heads },
             PartPlace::Found { part: found, heads } => {
                 let at = found.payload.at;
                 let size = found.header.size;
-                match fill(recording, at, size, parent, table) {
+                match fill(recording, live, at, size, parent, table) {
                     ReadReply::Refused(refusal) => PartReply::Refused(refusal),
                     ReadReply::Rows(rows) => PartReply::Found {
                         at,

@@ -57,7 +57,7 @@ use Rattle.search_rules.specs.declared.part.Parent.the-variants.{Id, NoP
 -- ---- a walk, with the way that it went
 
 -- What a visit has to give: what is to hold of an answer that ends the walk, or that the element is passed over.
-abbrev Went : {A B : Type 0} → (B → Type 0) → Type 0 → Visit A B → Type 0
+abbrev pub Went : {A B : Type 0} → (B → Type 0) → Type 0 → Visit A B → Type 0
 Went P Q (ends b) = P b
 Went P Q (over a) = Q
 
@@ -108,7 +108,7 @@ module _ {A B : Type 0} (live : Bool) (s : List ℕ) (stretch : Stretch) (w : Wa
     → Went P (Over e) (w .visit a e))
     (lost : (at : ℕ) (e : Headed) (r : Refusal) → Along live s stretch Over from at → childAt live s stretch at ≡ Child e
     → Over e → passOver live s (endOf stretch) e ≡ Lost r → P (w .stop r)) where
-  the-walk : (a : A) → P (walkFrom live s stretch w from a)
+  pub the-walk : (a : A) → P (walkFrom live s stretch w from a)
   the-walk a =
       on-the-way (childAt live s stretch) (passOver live s (endOf stretch)) w Over from P (roomOf s stretch)
       (no-room live s stretch)
@@ -176,7 +176,7 @@ overrun-known live segment e q = by (live && unknown (segment .header)) refl (li
     by false k false l w = (k, l, ltb-true (behind segment) (behind e) w)
 
 -- The place of a child is not past its stretch.
-child-before : (live : Bool) (s : List ℕ) (stretch : Stretch) (at : ℕ) (e : Headed)
+pub child-before : (live : Bool) (s : List ℕ) (stretch : Stretch) (at : ℕ) (e : Headed)
     → childAt live s stretch at ≡ Child e → isPast s stretch at ≡ false
 child-before live s stretch at e q = by (childAt live s stretch at) q (goes live s stretch at)
   where

@@ -6,3 +6,4 @@ pub mod Found
 pub mod Useless
 pub mod Cases
 pub mod Faults
+pub mod Live

@@ -10,12 +10,12 @@ use Rattle.search_rules.specs.declared.part.PartReply.{PartReply}
 use Rattle.search_rules.specs.declared.part.PartReply.the-variants.{Found, Absent, Refused}
 
 -- What was told tells the reply.
-abbrev replied : Reply PartTold → PartReply
+abbrev pub replied : Reply PartTold → PartReply
 replied (accepted (foundPart at size rows heads)) = Found at size rows heads
 replied (accepted (absentPart heads)) = Absent heads
 replied (refusal e) = Refused e
 
-replied-back : (r : PartReply) → replied (partTold r) ≡ r
+pub replied-back : (r : PartReply) → replied (partTold r) ≡ r
 replied-back (Found at size rows heads) = refl
 replied-back (Absent heads) = refl
 replied-back (Refused e) = refl

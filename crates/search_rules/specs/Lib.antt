@@ -3,3 +3,4 @@ pub mod Part
 pub mod Theorems
 pub mod Faults
 pub mod Cases
+pub mod Live

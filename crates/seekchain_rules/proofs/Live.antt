@@ -43,7 +43,7 @@ unfolding sought
 sought-known s address id k =
     ap (λ (x : ChildRead). onChild x (HeaderRefused (pastEnd address)) HeaderRefused (λ y.
     cond (eqb (y .header .id) id) (Read y) (HeaderRefused (staleEntry address))))
-    (child-known s (Sized (length s)) address k)
+    (child-known s (Sized (length s)) address (λ p. k))
 
 module _ (s : List ℕ) (wanted start : ℕ) (first : Headed) (k : AllKnown s (HeadsCome false s wanted start first)) where
   head-known : (heads : Heads) (head : Headed) → ReadNext false s start first heads head

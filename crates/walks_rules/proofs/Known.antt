@@ -23,17 +23,24 @@ use Rattle.walks_rules.specs.declared.step.ChildRead.the-variants.{Child
 abbrev pub KnownAt : List ℕ → ℕ → Type 0
 KnownAt s at = (h : Header) → headerOf (drop at s) ≡ heading h → unknown h ≡ false
 
-pub child-known : (s : List ℕ) (stretch : Stretch) (at : ℕ) → KnownAt s at
+pub child-known : (s : List ℕ) (stretch : Stretch) (at : ℕ) → (isPast s stretch at ≡ false → KnownAt s at)
     → childAt true s stretch at ≡ childAt false s stretch at
 unfolding childAt barredStep
-child-known s stretch at k = ap (cond (isPast s stretch at) End) (by (headerAt s at) refl)
+child-known s stretch at k = by-past (isPast s stretch at) refl
   where
-    by : (x : HeaderRead) → headerAt s at ≡ x
+    by : KnownAt s at → (x : HeaderRead) → headerAt s at ≡ x
         → onHeader x Refused (λ e. cond (endedBy stretch (e .header .id)) End (stepped true e))
         ≡ onHeader x Refused (λ e. cond (endedBy stretch (e .header .id)) End (stepped false e))
-    by (HeaderRefused r) q = refl
-    by (Read e) q =
-        ap (cond (endedBy stretch (e .header .id)) End) (rw (k (e .header) (header-there s at e q .head)) refl)
+    by n (HeaderRefused r) q = refl
+    by n (Read e) q =
+        ap (cond (endedBy stretch (e .header .id)) End) (rw (n (e .header) (header-there s at e q .head)) refl)
+
+    by-past : (b : Bool) → isPast s stretch at ≡ b
+        → cond b End (onHeader (headerAt s at) Refused (λ e. cond (endedBy stretch (e .header .id)) End (stepped true e)))
+        ≡ cond b End
+        (onHeader (headerAt s at) Refused (λ e. cond (endedBy stretch (e .header .id)) End (stepped false e)))
+    by-past true q = refl
+    by-past false q = by (k q) (headerAt s at) refl
 
 pub pass-known : (s : List ℕ) (end : ℕ) (e : Headed) → unknown (e .header) ≡ false
     → passOver true s end e ≡ passOver false s end e
