@@ -105,7 +105,7 @@ fn ask(question: &Question) -> String {
         Audio { payload, k } => with_table(records::audio(payload, *k)),
         TrackType { number } => tracktype(crate::Tracktype::new(*number)).to_string(),
         // Added by the port: the crate has nothing of the kind.
-        Label { .. } | Owner { .. } => "no answer".to_string(),
+        Label { .. } | Owner { .. } | Live(_) => "no answer".to_string(),
         Shown {
             start,
             size,

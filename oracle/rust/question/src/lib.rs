@@ -34,6 +34,7 @@ pub const fn whole_rows(numbers: u64) -> bool {
 }
 
 /// Where a record question finds its payload.
+#[derive(Clone)]
 pub struct Payload {
     pub start: u64,
     pub size: u64,
@@ -51,6 +52,7 @@ pub enum List {
 }
 
 /// One well-formed line.
+#[derive(Clone)]
 pub enum Question {
     Header {
         at: u64,
@@ -170,10 +172,45 @@ pub enum Question {
         address: u64,
         bytes: Vec<u8>,
     },
+    /// A question in live mode, one that takes it.
+    Live(Box<Question>),
 }
+
+/// The word that puts a question in live mode, with the space behind it.
+pub const LIVE: &[u8] = b"live ";
+
+/// The words of the questions that take live mode: those that read a payload or search.
+pub const LIVE_WORDS: [&str; 15] = [
+    "read",
+    "whose",
+    "owner",
+    "part",
+    "payload",
+    "shown",
+    "attachment",
+    "edition",
+    "chapter",
+    "display",
+    "tag",
+    "uid",
+    "simple",
+    "audio",
+    "track",
+];
 
 /// Takes a line apart, its line feed already removed. `None`: a bad question.
 pub fn parse(line: &[u8]) -> Option<Question> {
+    let Some(rest) = line.strip_prefix(LIVE) else {
+        return parse_plain(line);
+    };
+    let word = rest.split(|byte| *byte == b' ').next()?;
+    let takes_it = LIVE_WORDS.iter().any(|known| known.as_bytes() == word);
+    let asked = parse_plain(rest).filter(|_| takes_it)?;
+    Some(Question::Live(Box::new(asked)))
+}
+
+/// The same for a question without the word in front.
+fn parse_plain(line: &[u8]) -> Option<Question> {
     let words: Vec<&[u8]> = line.split(|byte| *byte == b' ').collect();
     let w = &words;
     Some(match (w[0], w.len()) {

@@ -70,8 +70,10 @@ pub fn listed(number: u64) -> u32 {
 /// Chapters and Tags.
 pub const SPECIAL: [u32; 5] = [0x1549A966, 0x1654AE6B, 0x1941A469, 0x1043A770, 0x1254C367];
 
-/// The segment, and the seek heads in it with their entries.
+/// The EBML header, the segment, its clusters, and the seek heads in it with their entries.
+pub const EBML: u32 = 0x1A45DFA3;
 pub const SEGMENT: u32 = 0x18538067;
+pub const CLUSTER: u32 = 0x1F43B675;
 pub const SEEK_HEAD: u32 = 0x114D9B74;
 pub const SEEK: u32 = 0x4DBB;
 pub const SEEK_ID: u32 = 0x53AB;

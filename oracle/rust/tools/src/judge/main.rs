@@ -1,6 +1,7 @@
 //! Judges answers: ours against the oracle's, a stored list, the worked cases.
 
 mod files;
+mod live;
 mod owner;
 mod part;
 mod reading;
@@ -10,13 +11,16 @@ mod rules;
 mod table;
 
 use files::Lines;
+use live::Way;
+use question::{parse, Question};
 use refusal::parted;
 use rules::{as_ours, due, verdict, Case, Verdict, NAMES};
 use std::collections::BTreeMap;
 use std::fs;
 use std::io::{self, Write};
 
-const USAGE: &str = "usage: judge verdict QUESTIONS OURS CHECKED WRAPPING
+const USAGE: &str = "usage: judge asked QUESTIONS
+       judge verdict QUESTIONS OURS CHECKED WRAPPING
        judge split TO_QUESTIONS TO_ANSWERS FILE..
        judge store QUESTIONS GIVEN CHECKED WRAPPING
        judge cases QUESTIONS EXPECTED CHECKED WRAPPING";
@@ -42,6 +46,7 @@ fn judge() -> Result<bool, String> {
     let arguments: Vec<String> = std::env::args().skip(1).collect();
     let words: Vec<&str> = arguments.iter().map(String::as_str).collect();
     match words[..] {
+        ["asked", questions] => asked(questions),
         ["verdict", questions, ours, checked, wrapping] => {
             four(questions, ours, checked, wrapping, compare)
         }
@@ -57,6 +62,19 @@ fn judge() -> Result<bool, String> {
             std::process::exit(2);
         }
     }
+}
+
+/// Prints the lines that are put to the crate: the questions, of which a live one has a plain
+/// one in its place where there is any.
+fn asked(questions: &str) -> Result<bool, String> {
+    let mut lines = Vec::new();
+    for line in Lines::read(questions)?.all() {
+        lines.extend(live::asked(line));
+        lines.push(b'\n');
+    }
+    let written = io::stdout().write_all(&lines);
+    written.map_err(|error| error.to_string())?;
+    Ok(true)
 }
 
 /// Reads four files of as many lines and puts them to a judgement.
@@ -104,6 +122,9 @@ fn compare(cases: &[Case]) -> Result<bool, String> {
         println!("exception {name} {}", count(Verdict::Exception(name)));
     }
     println!("unexplained {}", count(Verdict::Unexplained));
+    for (way, number) in ways(cases) {
+        println!("{way} {number}");
+    }
     for (sort, number) in sorts(cases) {
         println!("ours {sort} {number}");
     }
@@ -114,13 +135,45 @@ fn compare(cases: &[Case]) -> Result<bool, String> {
         .min_by_key(|case| case.question.len());
     if let Some(case) = smallest {
         show(case, "ours");
-        if let Some(due) = question::parse(case.question).and_then(|asked| due(&asked)) {
+        if let Some(due) = parse(case.question).and_then(|asked| due(&asked)) {
             show_line("due of ours", due.ours.as_bytes());
             show_line("due of checked", due.checked.as_bytes());
             show_line("due of wrapping", due.wrapping.as_bytes());
         }
     }
     Ok(smallest.is_none())
+}
+
+/// How many questions are live, and how they are held to the crate; nothing if none is.
+fn ways(cases: &[Case]) -> Vec<(&'static str, usize)> {
+    let ways: Vec<Way> = cases
+        .iter()
+        .filter_map(|case| match parse(case.question) {
+            Some(Question::Live(asked)) => Some(live::held(&asked).way),
+            _ => None,
+        })
+        .collect();
+    if ways.is_empty() {
+        return Vec::new();
+    }
+    let count = |wanted: Way| ways.iter().filter(|way| **way == wanted).count();
+    let replaced: Vec<usize> = ways
+        .iter()
+        .filter_map(|way| match way {
+            Way::Replaced(sizes) => Some(*sizes),
+            _ => None,
+        })
+        .collect();
+    vec![
+        ("live questions", ways.len()),
+        ("live by the crate with replaced sizes", replaced.len()),
+        ("live replaced sizes", replaced.iter().sum()),
+        ("live by the crate as plain ones", count(Way::Same)),
+        ("live by the judge, 17", count(Way::Unknown)),
+        ("live by the judge, refused in an ending", count(Way::Ending)),
+        ("live by the judge, a size without room", count(Way::NoRoom)),
+        ("live by the judge, replaced bytes read", count(Way::Otherwise)),
+    ]
 }
 
 /// How often ours accepts, gives each refusal, or finds no question; and how often each
@@ -196,7 +249,7 @@ fn split(questions: &str, answers: &str, names: &[&str]) -> Result<bool, String>
 fn store(cases: &[Case]) -> Result<bool, String> {
     let mut answers = Vec::new();
     for case in cases {
-        let asked = question::parse(case.question);
+        let asked = parse(case.question);
         let given = !case.ours.is_empty();
         let theirs = match &asked {
             Some(asked) => as_ours(asked, case.checked),

@@ -2,7 +2,7 @@
 //! headers from the front of the master, down the one path that leads to the address. Where
 //! the whole payload is accepted, its rows have to give the same answer.
 
-use crate::reading::{header, End, Header, Payload, Row, OURS, TOO_DEEP};
+use crate::reading::{header, End, Header, Payload, Row, Terms, LIVE, OURS, TOO_DEEP};
 use crate::records::added;
 use crate::refusal::refused;
 use crate::table::{read, Due, NOWHERE};
@@ -11,6 +11,16 @@ use tools::ids::{kind, MASTER_KIND};
 
 /// The answers due to a question; `None` if it asks for no owner. The crate has none.
 pub fn due(question: &Question) -> Option<Due> {
+    Some(added(&told(question, OURS)?))
+}
+
+/// Our answer in live mode.
+pub fn live(question: &Question) -> Option<String> {
+    told(question, LIVE)
+}
+
+/// Our answer by some terms, by the walk and by the rows.
+fn told(question: &Question, terms: Terms) -> Option<String> {
     let Question::Owner {
         start,
         size,
@@ -28,22 +38,22 @@ pub fn due(question: &Question) -> Option<Due> {
         numbers: MOST_NUMBERS,
         bytes,
     };
-    let told = match walked(&payload, *address) {
+    let told = match walked(&payload, *address, terms) {
         Ok(told) => told,
         Err(End::Refused(number, at)) => refused(number, None, at),
         Err(End::Memory) => "memory".to_string(),
     };
-    let ours = match by_rows(&payload, *address) {
+    Some(match by_rows(&payload, *address, terms) {
         // An answer that nobody gives, so that it is found.
         Some(other) if other != told => format!("judge fault: {told} by the walk, {other} by rows"),
         _ => told,
-    };
-    Some(added(&ours))
+    })
 }
 
-/// The walk: 14, 15, then at each header that is read what is wrong with it, 12 and 3, and
-/// only then where the address is. No body is looked at, nor what stands behind the address.
-fn walked(payload: &Payload, address: u64) -> Result<String, End> {
+/// The walk: 14, 15, then at each header that is read what is wrong with it, in live mode 17,
+/// 12 and 3, and only then where the address is. No body is looked at, nor what stands behind
+/// the address.
+fn walked(payload: &Payload, address: u64, terms: Terms) -> Result<String, End> {
     if payload.start > payload.bytes.len() as u64 {
         return Err(End::Refused(14, NOWHERE));
     }
@@ -58,7 +68,11 @@ fn walked(payload: &Payload, address: u64) -> Result<String, End> {
             id,
             header: length,
             payload: size,
+            unknown,
         } = header(payload.bytes, at)?;
+        if terms.live && unknown {
+            return Err(End::Refused(17, at));
+        }
         if depth == TOO_DEEP {
             return Err(End::Refused(12, at));
         }
@@ -84,8 +98,8 @@ fn walked(payload: &Payload, address: u64) -> Result<String, End> {
 /// The reply of the full question by a table of 4,096 rows, the row told by its header
 /// address; `None` if that refuses. One row, and no other, has the address in its header or
 /// leaf payload.
-fn by_rows(payload: &Payload, address: u64) -> Option<String> {
-    let rows = read(payload, OURS).ok()?;
+fn by_rows(payload: &Payload, address: u64, terms: Terms) -> Option<String> {
+    let rows = read(payload, terms).ok()?;
     let named = u128::from(payload.start)..u128::from(payload.start) + u128::from(payload.size);
     if !named.contains(&u128::from(address)) {
         return None;

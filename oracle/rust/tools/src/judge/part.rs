@@ -2,10 +2,12 @@
 //! crate: our answer by the document's terms, and each build's by the crate's. A
 //! refusal carries the address that document 02 gives it.
 
-use crate::reading::{header, part, rows, End, Header, Payload, Row, Terms, CRATE, OURS};
+use crate::live::{endless, walk, Met, Walk};
+use crate::reading::{header, part, rows, End, Header, Payload, Row, Terms, CRATE, LIVE, OURS};
 use crate::refusal::{plain, refused};
 use crate::table::{broken, table, Due, NOWHERE};
 use question::Question;
+use std::cell::RefCell;
 use std::collections::{BTreeMap, BTreeSet};
 use tools::ids::{part_parent, SEEK, SEEK_HEAD, SEEK_ID, SEEK_POSITION, SEGMENT};
 
@@ -54,6 +56,79 @@ struct Search<'a> {
     terms: Terms,
     /// Whether the crate's numbers wrap. Else it panics.
     wraps: bool,
+    /// What it has read beside the headers that it walked over.
+    seen: RefCell<Vec<Seen>>,
+}
+
+/// Something that a search has read: the header at an address where that id was sought, the
+/// payload of a head, or that of the part under its parent.
+#[derive(Clone, Copy)]
+enum Seen {
+    Sought(u64, u32),
+    Head(u64, Header),
+    Part(u64, Header, u32),
+}
+
+/// A search of ours in live mode.
+pub struct Live {
+    /// The answer.
+    pub told: String,
+    /// The walk to the part or to the first head; `None` if the arguments are refused.
+    pub walk: Option<Walk>,
+    seen: Vec<Seen>,
+}
+
+/// Our search in live mode.
+pub fn live(id: u32, numbers: u64, bytes: &[u8]) -> Live {
+    let search = Search {
+        wanted: id,
+        parent: part_parent(id),
+        numbers,
+        bytes,
+        terms: LIVE,
+        wraps: false,
+        seen: RefCell::default(),
+    };
+    let told = search.answer();
+    let accepted = search.parent.is_some() && !broken(numbers);
+    Live {
+        told,
+        walk: accepted.then(|| walk(bytes, id)),
+        seen: search.seen.into_inner(),
+    }
+}
+
+impl Live {
+    /// Whether all that the search has read beside the headers of its walk is read the same
+    /// by the plain rules in other bytes.
+    pub fn reads_same(&self, bytes: &[u8], numbers: u64, others: &[u8]) -> bool {
+        let search = |bytes, terms| Search {
+            wanted: 0,
+            parent: None,
+            numbers,
+            bytes,
+            terms,
+            wraps: false,
+            seen: RefCell::default(),
+        };
+        let (own, other) = (search(bytes, LIVE), search(others, OURS));
+        self.seen.iter().all(|seen| match *seen {
+            // Another element is 9 whatever its size is.
+            Seen::Sought(at, id) => match (own.sought(at, id), other.sought(at, id)) {
+                (Ok(one), Ok(two)) => (one.header, one.payload) == (two.header, two.payload),
+                (Err(one), Err(two)) => one == two,
+                _ => false,
+            },
+            Seen::Head(at, head) => own.entries(at, &head) == other.entries(at, &head),
+            Seen::Part(at, part, parent) => {
+                let rows_of = |search: &Search| {
+                    let payload = search.payload(at, &part, parent, numbers);
+                    rows(&payload, search.terms)
+                };
+                rows_of(&own) == rows_of(&other)
+            }
+        })
+    }
 }
 
 /// The answers due to a question; `None` if it asks for no part.
@@ -68,6 +143,7 @@ pub fn due(question: &Question) -> Option<Due> {
         bytes,
         terms,
         wraps,
+        seen: RefCell::default(),
     };
     let ours = search(OURS, false).answer();
     let checked = plain(&search(CRATE, false).answer());
@@ -114,7 +190,12 @@ impl Search<'_> {
         let Some(parent) = self.parent else {
             return "no answer".to_string();
         };
-        match self.segment(parent) {
+        let reply = if self.terms.live {
+            self.walked(parent)
+        } else {
+            self.segment(parent)
+        };
+        match reply {
             Ok(Reply { heads, found: None }) => format!("absent heads {heads} rows 0 rest 0"),
             Ok(Reply {
                 heads,
@@ -127,6 +208,19 @@ impl Search<'_> {
             Err(Stop::Position(id, head)) => refused(8, Some(id), head) + " table 0",
             Err(Stop::Panic) => "panic".to_string(),
             Err(Stop::Circles) => "circles".to_string(),
+        }
+    }
+
+    /// The same in live mode, where a walk of its own finds the part or the first head.
+    fn walked(&self, parent: u32) -> Result<Reply, Stop> {
+        let walk = walk(self.bytes, self.wanted);
+        match walk.met? {
+            Met::Nothing => Ok(Reply {
+                heads: 0,
+                found: None,
+            }),
+            Met::Head(at, head) => self.heads(walk.start, at, head, parent),
+            Met::Part(at, part) => self.read(at, &part, parent, 0),
         }
     }
 
@@ -206,9 +300,14 @@ impl Search<'_> {
         self.read(sought, &part, parent, heads.len())
     }
 
-    /// The header at a sought address, which has to have that id.
+    /// The header at a sought address, which has to have that id. In live mode 17 comes before,
+    /// but for a Segment or Cluster.
     fn sought(&self, at: u64, id: u32) -> Result<Header, Stop> {
+        self.seen.borrow_mut().push(Seen::Sought(at, id));
         let found = header(self.bytes, at)?;
+        if self.terms.live && found.unknown && !endless(found.id) {
+            return Err(Stop::Read(End::Refused(17, at)));
+        }
         if found.id != id {
             return Err(self.refused_or(9, at, Stop::Panic));
         }
@@ -218,6 +317,7 @@ impl Search<'_> {
     /// The entries of a head, the last of an id last. Its payload is read without
     /// rows, so none can be missing.
     fn entries(&self, at: u64, head: &Header) -> Result<Vec<(u32, u64)>, Stop> {
+        self.seen.borrow_mut().push(Seen::Head(at, *head));
         let payload = self.payload(at, head, SEGMENT, u64::MAX);
         let rows = rows(&payload, self.terms)?;
         let numbered = (1..).zip(&rows);
@@ -244,6 +344,7 @@ impl Search<'_> {
 
     /// Reads the part whose header stands at an address.
     fn read(&self, at: u64, part: &Header, parent: u32, heads: usize) -> Result<Reply, Stop> {
+        self.seen.borrow_mut().push(Seen::Part(at, *part, parent));
         let payload = self.payload(at, part, parent, self.numbers);
         let rows = rows(&payload, self.terms)?;
         let found = Found {

@@ -9,7 +9,7 @@ use tools::ids::{
     UTF8_KIND,
 };
 
-/// The terms of a reading. All of them hold for ours and none for the crate.
+/// The terms of a reading. All of them but the last hold for ours and none for the crate.
 #[derive(Clone, Copy)]
 pub struct Terms {
     /// The arguments, the depth and the rows are bounded: 14, 12 and 13.
@@ -23,6 +23,8 @@ pub struct Terms {
     pub unset_marks: bool,
     /// Shown text ends before its first zero byte. Else it is the whole text.
     pub ended_text: bool,
+    /// Live mode: an unknown size is 17. Else it is the number that it spells.
+    pub live: bool,
 }
 
 pub const OURS: Terms = Terms {
@@ -31,7 +33,11 @@ pub const OURS: Terms = Terms {
     no_memory: true,
     unset_marks: true,
     ended_text: true,
+    live: false,
 };
+
+/// Ours in live mode.
+pub const LIVE: Terms = Terms { live: true, ..OURS };
 
 pub const CRATE: Terms = Terms {
     bounds: false,
@@ -39,6 +45,7 @@ pub const CRATE: Terms = Terms {
     no_memory: false,
     unset_marks: false,
     ended_text: false,
+    live: false,
 };
 
 /// The largest single request for memory that the oracle grants.
@@ -58,6 +65,7 @@ pub enum End {
 /// A row as it stands in the table: id, parent (row number plus 1), header
 /// address, header length, payload length, kind, depth, and the first row after it
 /// that is not below it.
+#[derive(PartialEq)]
 pub struct Row {
     pub id: u32,
     pub parent: u64,
@@ -130,13 +138,17 @@ impl Reading<'_> {
         Ok(())
     }
 
-    /// An element: its header, 12, 13, its body. Gives its whole length.
+    /// An element: its header, in live mode 17, then 12, 13, its body. Gives its whole length.
     fn element(&mut self, at: u64, parent_id: u32, parent: u64, depth: u64) -> Result<u64, End> {
         let Header {
             id,
             header,
             payload,
+            unknown,
         } = header(self.bytes, at)?;
+        if self.terms.live && unknown {
+            return Err(End::Refused(17, at));
+        }
         if self.terms.bounds && depth == TOO_DEEP {
             return Err(End::Refused(12, at));
         }
@@ -189,10 +201,13 @@ impl Reading<'_> {
 }
 
 /// What a header says: the id, its own length and the payload's.
+#[derive(Clone, Copy)]
 pub struct Header {
     pub id: u32,
     pub header: u64,
     pub payload: u64,
+    /// All bits of the size behind its marker are ones.
+    pub unknown: bool,
 }
 
 /// The header at a place, the id before the size. A bad one is told by where it begins.
@@ -200,11 +215,13 @@ pub fn header(bytes: &[u8], at: u64) -> Result<Header, End> {
     let refused = |number| End::Refused(number, at);
     let (id, id_width) = number(bytes, at, 4, 2).map_err(refused)?;
     let (size, size_width) = number(bytes, at + id_width, 8, 3).map_err(refused)?;
+    let marker = 1 << (7 * size_width);
     Ok(Header {
         // Four bytes hold an id.
         id: id as u32,
         header: id_width + size_width,
-        payload: size - (1 << (7 * size_width)),
+        payload: size - marker,
+        unknown: size == marker | (marker - 1),
     })
 }
 

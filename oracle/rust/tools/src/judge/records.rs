@@ -1,7 +1,7 @@
 //! The records, built straight from document 01 over the judge's own reading and
 //! apart from the crate: a field is the last direct child of its id and kind.
 
-use crate::reading::{before_zero, part, End, Payload, Row, Terms, CRATE, OURS};
+use crate::reading::{before_zero, part, End, Payload, Row, Terms, CRATE, LIVE, OURS};
 use crate::refusal::plain;
 use crate::table::{digits, read, reason, with_table, Due, BOUNDED, NOWHERE};
 use question::{List, Question};
@@ -29,14 +29,7 @@ pub fn due(question: &Question) -> Option<Due> {
             Some(added(&told))
         }
         _ => {
-            let (payload, parent) = payload_of(question)?;
-            let payload = Payload {
-                start: payload.start,
-                size: payload.size,
-                parent,
-                numbers: payload.numbers,
-                bytes: &payload.bytes,
-            };
+            let payload = read_of(question)?;
             let ours = answer(question, &payload, OURS);
             let theirs = plain(&answer(question, &payload, CRATE));
             let bounded = || plain(&answer(question, &payload, BOUNDED));
@@ -50,6 +43,12 @@ pub fn due(question: &Question) -> Option<Due> {
             Some(told_by(&ours, &theirs, exception))
         }
     }
+}
+
+/// Our answer in live mode; `None` if the question reads no payload for a record.
+pub fn live(question: &Question) -> Option<String> {
+    let payload = read_of(question)?;
+    Some(answer(question, &payload, LIVE))
 }
 
 /// Our answer to a question that the port adds, which the crate has no answer to.
@@ -71,13 +70,25 @@ fn but_marks(ours: &str, theirs: &str) -> bool {
 }
 
 /// Our answer, and that of both builds.
-fn told_by(ours: &str, theirs: &str, exception: Option<&'static str>) -> Due {
+pub fn told_by(ours: &str, theirs: &str, exception: Option<&'static str>) -> Due {
     Due {
         ours: ours.to_string(),
         checked: theirs.to_string(),
         wrapping: theirs.to_string(),
         exception,
     }
+}
+
+/// What a record question has read.
+fn read_of(question: &Question) -> Option<Payload<'_>> {
+    let (payload, parent) = payload_of(question)?;
+    Some(Payload {
+        start: payload.start,
+        size: payload.size,
+        parent,
+        numbers: payload.numbers,
+        bytes: &payload.bytes,
+    })
 }
 
 /// The payload of a record question, and the parent under which it is read.

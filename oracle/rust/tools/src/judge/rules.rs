@@ -4,7 +4,7 @@
 use crate::reading::MOST_AT_ONCE;
 use crate::refusal::{parted, plain};
 use crate::table::{Due, NOWHERE};
-use crate::{owner, part, records, table};
+use crate::{live, owner, part, records, table};
 use question::{parse, Question};
 
 /// A question with the answers of ours and of the two builds of the oracle.
@@ -45,7 +45,7 @@ pub enum Verdict {
 type Rule = fn(&Question, &Case) -> Option<bool>;
 
 /// The listed exceptions by name.
-pub const NAMES: [&str; 12] = [
+pub const NAMES: [&str; 13] = [
     "argument",
     "signed",
     "allocation",
@@ -58,12 +58,13 @@ pub const NAMES: [&str; 12] = [
     "added",
     records::MARKS,
     table::ZEROS,
+    live::LIVE_MODE,
 ];
 
 /// Those of a header or body question, each with its rule. The element table and
-/// the records have the first five, and the search the first nine. Of the last three the
+/// the records have the first five, and the search the first nine. Of the next three the
 /// label and the owner of an address have the first, and a track and shown text have theirs
-/// beside the first five.
+/// beside the first five. The last is that of a live question that the crate can't be asked.
 /// There the judge's own reading says what is due.
 const RULES: [(&str, Rule); 3] = [
     ("argument", argument),
@@ -211,12 +212,13 @@ fn equality(case: &Case) -> Verdict {
 }
 
 /// The answers due to a question about the element table, the search, a record or the
-/// owner of an address; `None` for any other.
+/// owner of an address, in both modes; `None` for any other.
 pub fn due(question: &Question) -> Option<Due> {
     table::due(question)
         .or_else(|| part::due(question))
         .or_else(|| records::due(question))
         .or_else(|| owner::due(question))
+        .or_else(|| live::due(question))
 }
 
 /// There every answer is known beforehand, ours with the address of a refusal. A crate that

@@ -1,7 +1,7 @@
 //! The answers due to the questions about the element table, from the judge's
 //! own reading: ours by document 01's terms, the crate's by its own.
 
-use crate::reading::{before_zero, part, rows, End, Payload, Row, Terms, CRATE, OURS};
+use crate::reading::{before_zero, part, rows, End, Payload, Row, Terms, CRATE, LIVE, OURS};
 use crate::refusal::{plain, refused};
 use question::{rows_in, whole_rows, Question, MOST_NUMBERS, WIDTH};
 use std::fmt::Write;
@@ -54,6 +54,12 @@ pub fn due(question: &Question) -> Option<Due> {
         wrapping: theirs,
         exception,
     })
+}
+
+/// Our answer in live mode; `None` if the question is not about the element table.
+pub fn live(question: &Question) -> Option<String> {
+    let payload = payload_of(question)?;
+    Some(answer(question, &payload, LIVE))
 }
 
 /// The payload that a question has read.

@@ -497,6 +497,76 @@ gamma-zero: a negative zero is told as zero
 gamma-unset: a gamma of 0 is told as unset
 ";
 
+/// Those of live mode.
+pub const LIVE: &str = "\
+live-never: live mode is the plain one
+live-read-plain: a read is plain in live mode
+live-whose-plain: the address question is plain in live mode
+live-row-plain: the read before a row's payload or shown text is plain in live mode
+live-owner-plain: the address question without a table is plain in live mode, and takes unknown sizes
+live-search-plain: the search is plain in live mode
+live-record-plain: the read of a record is plain in live mode
+live-heads-plain: seek heads are read as in plain mode
+live-part-plain: the part that is found is read as in plain mode
+live-width-1: only a size of one byte can be unknown
+live-width-8: only a size of eight bytes can be unknown
+live-narrow: a size is unknown if it is all ones of some width, as 40 7F
+live-zero: a size of 0 is unknown too
+live-17-12: in a payload 17 comes after 12
+live-17-13: in a payload 17 comes after 12 and 13
+live-17-9: at a sought address 17 comes after 9
+live-cluster-payload: a Cluster of unknown size is read in a payload
+live-segment-payload: a Segment of unknown size is read in a payload
+live-at-master: 17 carries the address of the element around
+live-at-payload: 17 carries the address behind the header
+live-owner-12: 17 comes after 12 in the address question without a table
+live-owner-3: 17 comes after 12 and 3 there
+live-owner-held: an unknown size before the address is skipped there
+live-owner-cluster: a Cluster of unknown size is skipped there, or gone into
+live-owner-segment: a Segment of unknown size is skipped there, or gone into
+live-sought-segment: a Segment of unknown size at a sought address is 17
+live-sought-cluster: a Cluster of unknown size at a sought address is 17
+live-sought-taken: an unknown size at a sought address is taken as a number
+live-before-any: an unknown size before the segment is skipped by its number
+live-before-cluster: a Cluster of unknown size before the segment is 17
+live-head-taken: a seek head of unknown size that is met is read
+live-part-taken: the part is read if its size is unknown where it is met
+live-void-ends: a Void ends a Cluster
+live-crc-ends: a CRC-32 ends a Cluster
+live-group-ends: a BlockGroup ends a Cluster
+live-wide-ends: every id of four bytes ends a Cluster
+live-head-inside: a seek head does not end a Cluster
+live-info-inside: Info does not end a Cluster
+live-tracks-inside: Tracks does not end a Cluster
+live-chapters-inside: Chapters does not end a Cluster
+live-cluster-inside: a Cluster does not end a Cluster
+live-cues-inside: Cues does not end a Cluster
+live-attachments-inside: Attachments does not end a Cluster
+live-tags-inside: Tags does not end a Cluster
+live-ebml-cluster: an EBML header does not end a Cluster
+live-ebml-segment: an EBML header does not end a Segment
+live-segment-cluster: a Segment does not end a Cluster
+live-segment-segment: a Segment does not end a Segment
+live-end-17: an EBML header of unknown size that ends a Segment is 17
+live-known-ends: an EBML header or Segment ends a Segment of known size
+live-known-cluster: a Cluster of known size ends where one of unknown size would
+live-limit: an ending is counted from the recording, not from the known Segment around
+live-recording-first: the recording's end comes before that of the known Segment
+live-inner-segment: a Segment of unknown size in one of known size ends with the recording
+live-inner-17: a Segment of unknown size in one of known size is 17
+live-nested-17: a Cluster of unknown size in a Segment that is passed over is 17
+live-block-overrun: a block over the known Segment's end is 3
+live-overrun: a child over the recording's end in a Segment of unknown size is 3
+live-past-end: a place past the end is 1 in a Segment of unknown size
+live-past-cluster: a place past the end is 1 in a Cluster of unknown size
+live-scan: an ending is found by its bytes, wherever they stand
+live-cut: a header that is cut in the middle is the end
+live-cut-at: a bad header in a Cluster is told by the Cluster's address
+live-child-skipped: an unknown size in a Cluster goes on to the end
+live-child-taken: an unknown size in a Cluster is taken as a number
+live-group-into: a BlockGroup of unknown size in a Cluster is gone into
+";
+
 /// The faults of records that a reader of tracks could have as well.
 pub const SHARED: [&str; 47] = [
     "record-parent",

@@ -35,7 +35,7 @@ pub struct Lent {
     pub about: Option<u32>,
     /// What is read is a seek head.
     pub head: bool,
-    fault: Fault,
+    pub fault: Fault,
 }
 
 /// A master that is being read, or the whole payload.
@@ -201,6 +201,10 @@ impl Lent {
         })?;
         let kind = self.kind(id as u32, open);
         let body = at + header;
+        self.sized([at, id, header, size], outer, |number| {
+            let limits = self.limits(at, body, open);
+            limits.is_err_and(|bad| bad.number == number)
+        })?;
         if self.fault.is("overrun-first") && header + size > left {
             return Err(refusal(3, at));
         }
@@ -231,6 +235,29 @@ impl Lent {
         read.map_err(|bad| bad.or(self.fault, &[("at-body-master", outer)]))?;
         self.take(at, header + size, open)?;
         Ok(body + size)
+    }
+
+    /// 17 in live mode for an unknown size, given where the header stands, its id, its length
+    /// and the size, and the address of the master. A faulty reader has another refusal before
+    /// it, of which it asks whether it is due.
+    fn sized(
+        &self,
+        [at, id, header, size]: [u64; 4],
+        master: u64,
+        due: impl Fn(u64) -> bool,
+    ) -> Result<(), Refusal> {
+        let late = self.fault.is("live-17-12") && due(12)
+            || self.fault.is("live-17-13") && (due(12) || due(13));
+        let taken = match id as u32 {
+            ids::CLUSTER => self.fault.is("live-cluster-payload"),
+            ids::SEGMENT => self.fault.is("live-segment-payload"),
+            _ => false,
+        };
+        if late || taken || !self.fault.live || !unknown([id, header, size], self.fault) {
+            return Ok(());
+        }
+        let wrong = [("live-at-master", master), ("live-at-payload", at + header)];
+        Err(refusal(17, at).or(self.fault, &wrong))
     }
 
     /// The address of the last row's header.
@@ -480,6 +507,23 @@ impl Lent {
             }
         }
     }
+}
+
+/// Whether a size is unknown, given the id, the length of the header and the size.
+pub fn unknown([id, header, size]: [u64; 3], fault: Fault) -> bool {
+    let width = header - id_width(id);
+    match () {
+        () if fault.is("live-width-1") => width == 1 && size == 127,
+        () if fault.is("live-width-8") => width == 8 && size == (1 << 56) - 1,
+        () if fault.is("live-narrow") => (1..=width).any(|width| size == (1 << (7 * width)) - 1),
+        () if fault.is("live-zero") => size == 0 || size == (1 << (7 * width)) - 1,
+        () => size == (1 << (7 * width)) - 1,
+    }
+}
+
+/// The bytes of an id.
+pub fn id_width(id: u64) -> u64 {
+    u64::from(71 - id.leading_zeros()) / 8
 }
 
 /// Whether a table's length is broken.

@@ -2,12 +2,13 @@
 //! questions on standard input as documents 01 and 02 order, `model FAULT` with one fault.
 //! `model faults` tells the faults, `model faults SORT` those of one sort: of single headers
 //! and bodies, of the element table and the search, of the owner of an address, of records,
-//! and of tracks. It shares no reading with the judge.
+//! of tracks, and of live mode. It shares no reading with the judge.
 
 mod ended;
 mod faults;
 mod label;
 mod lent;
+mod live;
 mod owner;
 mod places;
 mod records;
@@ -16,7 +17,7 @@ mod search;
 mod single;
 mod track;
 
-use faults::{OWNER, RECORD, SHARED, SHARED_TABLE, SINGLE, TABLE, TRACK};
+use faults::{LIVE, OWNER, RECORD, SHARED, SHARED_TABLE, SINGLE, TABLE, TRACK};
 use lent::{Lent, Read};
 use question::{parse, rows_in, Question};
 use refusal::{refusal, Refusal};
@@ -24,23 +25,34 @@ use std::io::{self, BufRead, BufWriter, Write};
 use tools::ids::kind;
 
 /// The sorts of faults.
-const SORTS: [&str; 5] = [SINGLE, TABLE, OWNER, RECORD, TRACK];
+const SORTS: [&str; 6] = [SINGLE, TABLE, OWNER, RECORD, TRACK, LIVE];
 
-/// The fault of this run, or none.
+/// The fault of this run, or none, and whether the question is in live mode.
 #[derive(Clone, Copy)]
-pub struct Fault(Option<&'static str>);
+pub struct Fault {
+    name: Option<&'static str>,
+    pub live: bool,
+}
 
 impl Fault {
     /// Whether it is the one of that name.
     pub fn is(self, name: &str) -> bool {
-        self.0 == Some(name)
+        self.name == Some(name)
+    }
+
+    /// The same for a reader that reads plainly with the fault of that name.
+    pub fn plain_with(self, name: &str) -> Fault {
+        Fault {
+            live: self.live && !self.is(name),
+            ..self
+        }
     }
 }
 
 fn main() {
     let arguments: Vec<String> = std::env::args().skip(1).collect();
     let done = match &arguments[..] {
-        [] => answer_all(Fault(None)),
+        [] => answer_all(None),
         [word] if word == "faults" => tell(&SORTS),
         [word, sort] if word == "faults" && sort == "single" => tell(&[SINGLE]),
         [word, sort] if word == "faults" && sort == "table" => tell(&[TABLE]),
@@ -51,10 +63,11 @@ fn main() {
         [word, sort] if word == "faults" && sort == "track" => {
             tell(&[TRACK, &shared(RECORD, &SHARED)])
         }
-        [word] if known(word).is_some() => answer_all(Fault(known(word))),
+        [word, sort] if word == "faults" && sort == "live" => tell(&[LIVE]),
+        [word] if known(word).is_some() => answer_all(known(word)),
         _ => {
             eprintln!(
-                "usage: model [FAULT]\n       model faults [single|table|owner|record|track]"
+                "usage: model [FAULT]\n       model faults [single|table|owner|record|track|live]"
             );
             std::process::exit(2);
         }
@@ -89,15 +102,32 @@ fn known(word: &str) -> Option<&'static str> {
 /// A line of so many bytes or more is no question.
 const TOO_LONG: usize = 1 << 20;
 
-fn answer_all(fault: Fault) -> io::Result<()> {
+fn answer_all(fault: Option<&'static str>) -> io::Result<()> {
     let mut output = BufWriter::new(io::stdout().lock());
     for line in io::stdin().lock().split(b'\n') {
         let question = Some(line?).filter(|line| line.len() < TOO_LONG);
         let question = question.and_then(|line| parse(&line));
-        let told = question.map_or("bad question".to_string(), |asked| answer(&asked, fault));
+        let fault = |live| Fault { name: fault, live };
+        let told = match question {
+            None => "bad question".to_string(),
+            Some(Question::Live(asked)) => answer(&asked, live_mode(&asked, fault(true))),
+            Some(asked) => answer(&asked, fault(false)),
+        };
         writeln!(output, "{told}")?;
     }
     output.flush()
+}
+
+/// The mode of a live question. With a fault it is the plain one for some questions.
+fn live_mode(question: &Question, fault: Fault) -> Fault {
+    fault.plain_with("live-never").plain_with(match question {
+        Question::Read { .. } => "live-read-plain",
+        Question::Whose { .. } => "live-whose-plain",
+        Question::Payload { .. } | Question::Shown { .. } => "live-row-plain",
+        Question::Owner { .. } => "live-owner-plain",
+        Question::Part { .. } => "live-search-plain",
+        _ => "live-record-plain",
+    })
 }
 
 fn answer(question: &Question, fault: Fault) -> String {

@@ -1,7 +1,7 @@
 //! The address question without a table: each master on the path to the address is a call of
 //! its own, which knows where that master ends.
 
-use crate::lent::{Lent, Read};
+use crate::lent::{id_width, unknown, Lent, Read};
 use crate::places::{nowhere, outside};
 use crate::refusal::{refusal, Refusal};
 use crate::Fault;
@@ -139,14 +139,42 @@ impl Path<'_> {
         if self.fault.is("owner-ones") && size == (1 << (7 * width)) - 1 {
             return Err(refusal(3, at));
         }
+        let endless = self.fault.live && unknown([id, header, size], self.fault);
         let id = id as u32;
-        Ok(Child {
+        let child = Child {
             id,
             kind: self.kind(id, master),
             at,
             body: at + header,
             end: at + header + size,
-        })
+        };
+        if endless {
+            self.endless(&child, master)?;
+        }
+        Ok(child)
+    }
+
+    /// 17 for a child of unknown size.
+    fn endless(&self, child: &Child, master: &Master) -> Result<(), Refusal> {
+        let taken = match child.id {
+            ids::CLUSTER => self.fault.is("live-owner-cluster"),
+            ids::SEGMENT => self.fault.is("live-owner-segment"),
+            _ => child.end <= self.address && self.fault.is("live-owner-held"),
+        };
+        if taken {
+            return Ok(());
+        }
+        if self.fault.is("live-owner-12") {
+            self.depth(child, master)?;
+        }
+        if self.fault.is("live-owner-3") {
+            self.overrun(child, master)?;
+        }
+        let wrong = [
+            ("live-at-master", master.at),
+            ("live-at-payload", child.body),
+        ];
+        Err(refusal(17, child.at).or(self.fault, &wrong))
     }
 
     /// The kind of a child. A master's own id is what its children have as their parent.
@@ -336,9 +364,4 @@ impl Master<'_> {
     fn all(&self) -> impl Iterator<Item = &Master<'_>> {
         std::iter::successors(Some(self), |own| own.outer)
     }
-}
-
-/// The bytes of an id.
-fn id_width(id: u64) -> u64 {
-    u64::from(71 - id.leading_zeros()) / 8
 }

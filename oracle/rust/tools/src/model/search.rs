@@ -35,7 +35,11 @@ pub fn part(lent: &mut Lent, wanted: u32, bytes: &[u8], fault: Fault) -> Result<
         heads: Vec::new(),
         entries: Vec::new(),
     };
-    let told = search.whole();
+    let told = if fault.live {
+        search.live_file()
+    } else {
+        search.whole()
+    };
     if told.is_ok() {
         arguments?;
     }
@@ -43,17 +47,17 @@ pub fn part(lent: &mut Lent, wanted: u32, bytes: &[u8], fault: Fault) -> Result<
 }
 
 /// A search and what it has found out so far.
-struct Search<'a> {
+pub struct Search<'a> {
     lent: &'a mut Lent,
-    wanted: u32,
+    pub wanted: u32,
     parent: u32,
-    bytes: &'a [u8],
-    fault: Fault,
+    pub bytes: &'a [u8],
+    pub fault: Fault,
     /// The address of the segment's header.
-    segment: u64,
+    pub segment: u64,
     /// The segment's payload begins here, and ends here.
-    start: u64,
-    end: u64,
+    pub start: u64,
+    pub end: u64,
     /// The heads that were read.
     heads: Vec<Met>,
     /// The entries of all heads, as they came.
@@ -71,21 +75,21 @@ struct Entry {
 
 /// A header: its address, its id, its length and that of the payload.
 #[derive(Clone, Copy)]
-struct Met {
-    at: u64,
-    id: u32,
-    header: u64,
-    payload: u64,
+pub struct Met {
+    pub at: u64,
+    pub id: u32,
+    pub header: u64,
+    pub payload: u64,
 }
 
 impl Met {
-    fn body(&self) -> u64 {
+    pub fn body(&self) -> u64 {
         self.at + self.header
     }
 }
 
 impl Search<'_> {
-    fn header(&self, at: u64, left: u64) -> Result<Met, Refusal> {
+    pub fn header(&self, at: u64, left: u64) -> Result<Met, Refusal> {
         let [id, header, payload] = self.lent.header(self.bytes, at, left)?;
         Ok(Met {
             at,
@@ -212,7 +216,7 @@ impl Search<'_> {
     }
 
     /// Reads a head and all that it leads to, then looks the part up.
-    fn follow(&mut self, first: Met) -> Result<String, Refusal> {
+    pub fn follow(&mut self, first: Met) -> Result<String, Refusal> {
         let mut head = first;
         loop {
             self.heads.push(head);
@@ -357,7 +361,12 @@ impl Search<'_> {
             ("at-sought-seek", entry.seek),
             ("at-sought-position", entry.position),
         ];
-        self.header(at, 0).map_err(|bad| bad.or(self.fault, &wrong))
+        let met = self.header(at, 0);
+        let met = met.map_err(|bad| bad.or(self.fault, &wrong))?;
+        if self.fault.live {
+            self.live_sought(&met, entry.id)?;
+        }
+        Ok(met)
     }
 
     /// The last entry for an id.
@@ -374,7 +383,7 @@ impl Search<'_> {
         } else {
             numbers_of(self.bytes.len() as u64 / 2 + 2)
         };
-        let mut own = Lent::new(room, self.fault);
+        let mut own = Lent::new(room, self.fault.plain_with("live-heads-plain"));
         own.head = true;
         let end = if self.fault.is("head-held") {
             self.end.min(self.bytes.len() as u64)
@@ -460,7 +469,7 @@ impl Search<'_> {
     }
 
     /// Reads the part into the lent table.
-    fn read(&mut self, met: Met) -> Result<String, Refusal> {
+    pub fn read(&mut self, met: Met) -> Result<String, Refusal> {
         let end = if self.fault.is("part-held") {
             self.end.min(self.bytes.len() as u64)
         } else {
@@ -468,6 +477,7 @@ impl Search<'_> {
         };
         let bytes = &self.bytes[..end as usize];
         let read = Read::new(met.body(), met.payload, self.parent, bytes);
+        self.lent.fault = self.fault.plain_with("live-part-plain");
         let filled = self.lent.fill(&read);
         filled.map_err(|bad| bad.or(self.fault, &[("at-part-inner", met.at)]))?;
         let heads = self.count(self.heads.len());
@@ -485,7 +495,7 @@ impl Search<'_> {
         Ok(format!("at {at} size {size} heads {heads} "))
     }
 
-    fn absent(&self) -> Result<String, Refusal> {
+    pub fn absent(&self) -> Result<String, Refusal> {
         if self.fault.is("absent-refused") {
             return Err(refusal(1, self.end));
         }
