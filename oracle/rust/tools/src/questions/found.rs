@@ -17,14 +17,14 @@ pub struct Made {
 
 /// The marks of heads, parts and other elements, of one before the segment, and of
 /// what stands behind it.
-const HEADS: u64 = 1_000;
-const PLACES: u64 = 2_000;
-const OTHERS: u64 = 3_000;
+pub const HEADS: u64 = 1_000;
+pub const PLACES: u64 = 2_000;
+pub const OTHERS: u64 = 3_000;
 const BEFORE: u64 = 4_000;
 const BEHIND: u64 = 5_000;
 
 /// Any of the four parts.
-fn any_part(random: &mut Random) -> u32 {
+pub fn any_part(random: &mut Random) -> u32 {
     random.one_of(&PARTS).0
 }
 
@@ -130,7 +130,7 @@ pub fn headed(odd: bool, random: &mut Random) -> Made {
 }
 
 /// An entry for the element at a mark.
-fn entry(id: u32, mark: u64, odd: bool, random: &mut Random) -> Piece {
+pub fn entry(id: u32, mark: u64, odd: bool, random: &mut Random) -> Piece {
     let width = random.one_of(&[1, 1, 2, 2, 2, 3, 4, 8]);
     if !odd || random.once_in(2) {
         return seek(id, mark, width);
@@ -423,7 +423,7 @@ pub fn web(random: &mut Random) -> Made {
 }
 
 /// Headers that are none, or that the recording ends in.
-const NO_HEADERS: [&[u8]; 8] = [
+pub const NO_HEADERS: [&[u8]; 8] = [
     b"\x0F",
     b"\0\x01",
     b"\xEC",
@@ -459,7 +459,7 @@ fn recording(children: Vec<Piece>, random: &mut Random) -> Vec<Piece> {
 }
 
 /// Elements before the segment, which are skipped whatever they are.
-fn before(random: &mut Random) -> Vec<Piece> {
+pub fn before(random: &mut Random) -> Vec<Piece> {
     let kind = [leaf(0x4282, b"webm"), leaf(0x4287, &[4])];
     let first = element(0x1A45DFA3, kind.to_vec());
     match random.below(12) {
@@ -479,7 +479,7 @@ fn before(random: &mut Random) -> Vec<Piece> {
 }
 
 /// An element that is skipped.
-fn other(random: &mut Random) -> Piece {
+pub fn other(random: &mut Random) -> Piece {
     let length = random.one_of(&[0, 0, 1, 2, 5, 9]);
     let bytes = random.bytes(length);
     let id = match random.below(12) {
@@ -502,7 +502,7 @@ fn other(random: &mut Random) -> Piece {
 }
 
 /// What a part holds: a good tree of any shape, or what is usual there.
-fn contents(id: u32, random: &mut Random) -> Vec<Piece> {
+pub fn contents(id: u32, random: &mut Random) -> Vec<Piece> {
     let parent = part_parent(id).unwrap_or(0);
     match random.below(16) {
         0..=2 => Vec::new(),

@@ -3,6 +3,8 @@
 //! `questions whole WORD FROM COUNT` gives a piece of a kind's whole list, which
 //! has fewer questions where the list ends. `questions numbers ROWS` tells how many
 //! numbers a table of so many rows has.
+//! The word `live` in front of others makes every second question of those that take it a live
+//! one; the others stay as they are without it. Alone it gives live questions of all of them.
 
 mod asked;
 mod body;
@@ -13,6 +15,7 @@ mod header;
 mod kind;
 mod label;
 mod list;
+mod live;
 mod owner;
 mod part;
 mod payload;
@@ -63,7 +66,7 @@ const KINDS: [(&str, Kind); 22] = [
 
 /// The kinds that have a whole list; the records and what goes with them have one, but
 /// for the tracks.
-const WHOLE: [(&str, List); 7] = [
+const WHOLE: [(&str, List); 8] = [
     ("kind", kind::WHOLE),
     ("utf8", utf8::WHOLE),
     ("read", read::WHOLE),
@@ -71,20 +74,22 @@ const WHOLE: [(&str, List); 7] = [
     ("record", record::WHOLE),
     ("track", track::WHOLE),
     ("owner", owner::WHOLE),
+    ("live", live::WHOLE),
 ];
 
 fn main() {
     let arguments: Vec<String> = std::env::args().skip(1).collect();
     let printed = if let Some((list, from, count)) = piece(&arguments) {
         print_piece(&list, from, count)
-    } else if let Some((seed, count, kinds)) = understand(&arguments) {
-        print(seed, count, &kinds)
+    } else if let Some(asked) = understand(&arguments) {
+        print(&asked)
     } else if let Some(rows) = rows(&arguments) {
         println!("{}", numbers_of(rows));
         Ok(())
     } else {
         eprintln!(
-            "usage: questions SEED COUNT WORD.., words: {}
+            "usage: questions SEED COUNT [live] WORD.., words: {}
+       questions SEED COUNT live
        questions whole WORD FROM COUNT, words: {}
        questions numbers ROWS",
             KINDS.map(|(word, _)| word).join(" "),
@@ -129,9 +134,30 @@ fn rows(arguments: &[String]) -> Option<u64> {
 /// A kind with its place in the list.
 type Placed = (usize, Kind);
 
-fn understand(arguments: &[String]) -> Option<(u64, u64, Vec<Placed>)> {
+/// What is asked for.
+struct Wanted {
+    seed: u64,
+    count: u64,
+    kinds: Vec<Placed>,
+    live: Live,
+}
+
+/// Which questions of the words that take live mode are live.
+#[derive(PartialEq)]
+enum Live {
+    Never,
+    EverySecond,
+    Always,
+}
+
+fn understand(arguments: &[String]) -> Option<Wanted> {
     let [seed, count, words @ ..] = arguments else {
         return None;
+    };
+    let (live, words) = match words {
+        [word] if word == "live" => (Live::Always, question::LIVE_WORDS.map(String::from).to_vec()),
+        [word, words @ ..] if word == "live" => (Live::EverySecond, words.to_vec()),
+        _ => (Live::Never, words.to_vec()),
     };
     let kind = |word: &String| {
         let place = KINDS.iter().position(|(known, _)| known == word)?;
@@ -141,19 +167,36 @@ fn understand(arguments: &[String]) -> Option<(u64, u64, Vec<Placed>)> {
     if kinds.is_empty() {
         return None;
     }
-    Some((seed.parse().ok()?, count.parse().ok()?, kinds))
+    Some(Wanted {
+        seed: seed.parse().ok()?,
+        count: count.parse().ok()?,
+        kinds,
+        live,
+    })
 }
 
-fn print(seed: u64, count: u64, kinds: &[Placed]) -> io::Result<()> {
+fn print(wanted: &Wanted) -> io::Result<()> {
     let mut output = BufWriter::new(io::stdout().lock());
-    let turns = kinds.len() as u64;
-    for i in 0..count {
-        let (place, kind) = kinds[(i % turns) as usize];
-        let j = i / turns;
-        // Each question has numbers of its own, whatever else is asked for.
-        let mut random = Random::new(&[seed, place as u64, j]);
-        output.write_all(&kind(seed, j, &mut random))?;
+    let turns = wanted.kinds.len() as u64;
+    for i in 0..wanted.count {
+        let kind = wanted.kinds[(i % turns) as usize];
+        output.write_all(&asked(wanted, kind, i / turns))?;
         output.write_all(b"\n")?;
     }
     output.flush()
+}
+
+/// The j-th question of a kind. Each has numbers of its own, whatever else is asked for.
+fn asked(wanted: &Wanted, (place, kind): Placed, j: u64) -> Vec<u8> {
+    let (seed, word) = (wanted.seed, KINDS[place].0);
+    let (live, j) = match wanted.live {
+        Live::EverySecond if live::takes_it(word) => (j % 2 == 1, j / 2),
+        Live::Always => (true, j),
+        _ => (false, j),
+    };
+    if live {
+        let mut random = Random::new(&[seed, KINDS.len() as u64 + place as u64, j]);
+        return live::question(word, kind, seed, j, &mut random);
+    }
+    kind(seed, j, &mut Random::new(&[seed, place as u64, j]))
 }
