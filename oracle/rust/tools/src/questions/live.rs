@@ -325,11 +325,14 @@ fn block(random: &mut Random) -> Piece {
     }
 }
 
-/// Where the headers of a payload stand: the address, and the bytes of the id and of the size.
+/// Where the headers of a payload stand: the address, the bytes of the id and of the size, and the
+/// depth.
+#[derive(Clone, Copy)]
 struct Spot {
     at: usize,
     id: usize,
     size: usize,
+    depth: u64,
 }
 
 /// A plain question about a payload, mostly with an unknown size in it or one that is nearly so.
@@ -340,10 +343,10 @@ fn with_unknown(line: Vec<u8>, random: &mut Random) -> Vec<u8> {
     if spots.is_empty() {
         return line;
     }
-    let last = spots.len() - 1;
-    // Once in three the last one, which is the deepest of a chain.
-    let any = random.below(3 * spots.len() as u64 / 2 + 1) as usize;
-    let Spot { at, id, size } = spots[any.min(last)];
+    // Once in three the deepest one, which may be too deep.
+    let deepest = spots.iter().max_by_key(|spot| spot.depth).copied();
+    let chosen = deepest.filter(|_| random.once_in(3));
+    let Spot { at, id, size, .. } = chosen.unwrap_or_else(|| random.one_of(&spots));
     let (place, header) = (at + id..at + id + size, at..at + id + size);
     let wide = width(random);
     let ones = size_bytes((1 << (7 * wide)) - 1, wide);
@@ -418,6 +421,7 @@ fn headers(bytes: &[u8], at: u64, size: u64, parent: u32, depth: u64, spots: &mu
             at: at as usize,
             id: id_width as usize,
             size: size_width as usize,
+            depth,
         });
         if kind(id as u32, parent) == MASTER_KIND {
             headers(bytes, at + header, size, id as u32, depth + 1, spots);
