@@ -170,9 +170,15 @@ fn ways(cases: &[Case]) -> Vec<(&'static str, usize)> {
         ("live replaced sizes", replaced.iter().sum()),
         ("live by the crate as plain ones", count(Way::Same)),
         ("live by the judge, 17", count(Way::Unknown)),
-        ("live by the judge, refused in an ending", count(Way::Ending)),
+        (
+            "live by the judge, refused in an ending",
+            count(Way::Ending),
+        ),
         ("live by the judge, a size without room", count(Way::NoRoom)),
-        ("live by the judge, replaced bytes read", count(Way::Otherwise)),
+        (
+            "live by the judge, replaced bytes read",
+            count(Way::Otherwise),
+        ),
     ]
 }
 

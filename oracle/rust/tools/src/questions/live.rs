@@ -4,7 +4,9 @@
 
 use crate::asked::{damage, numbers, Asked};
 use crate::broken::{self, Sort};
-use crate::found::{any_part, before, contents, entry, other, Made, HEADS, NO_HEADERS, OTHERS, PLACES};
+use crate::found::{
+    any_part, before, contents, entry, other, Made, HEADS, NO_HEADERS, OTHERS, PLACES,
+};
 use crate::list::List;
 use crate::random::{hex, Random};
 use crate::segment::{count, element, head, leaf, recorded, seek, segment, Piece, Size};
@@ -73,6 +75,7 @@ fn searched(seed: u64, j: u64, random: &mut Random) -> Vec<u8> {
         0..=3 => return SEARCHES.walk(seed, round * 4 + turn),
         4..=8 => recorder(false, random),
         9..=10 => overrun(random),
+        11..=14 if random.once_in(16) => overlapping(random),
         11..=14 => recorder(true, random),
         15..=16 => return part::question(seed, j, random),
         17..=18 => recorder(random.once_in(2), random),
@@ -128,7 +131,9 @@ fn unknown(id: u32, within: Vec<Piece>, random: &mut Random) -> Piece {
 fn recorder(headed: bool, random: &mut Random) -> Made {
     let wanted = any_part(random);
     let (mut children, mut rows) = (Vec::new(), 0);
-    for mark in OTHERS..OTHERS + random.below(7) {
+    // Once in 40 a long one.
+    let most = if random.once_in(40) { 90 } else { 7 };
+    for mark in OTHERS..OTHERS + random.below(most) {
         children.push(vec![Piece::Mark(mark), child(random)]);
     }
     let parts = random.one_of(&[0, 1, 1, 1, 2]);
@@ -172,6 +177,32 @@ fn recorder(headed: bool, random: &mut Random) -> Made {
     }
 }
 
+/// A head that stands in a Void and runs over the header of the Cluster behind it: the bytes of
+/// an unknown size are a position too.
+fn overlapping(random: &mut Random) -> Made {
+    let wanted = any_part(random);
+    let more = random.below(5);
+    let position = [id_bytes(SEEK_POSITION), vec![0x84 + more as u8]].concat();
+    let named = [id_bytes(SEEK_ID), vec![0x84], id_bytes(wanted), position].concat();
+    let seek_size = named.len() as u64 + 4 + more;
+    let entry = [id_bytes(SEEK), size_bytes(seek_size, 1), named].concat();
+    let size = size_bytes(3 + seek_size, 1);
+    let inner = [id_bytes(SEEK_HEAD), size, entry].concat();
+    let within = vec![Piece::Mark(HEADS + 1), Piece::Bytes(inner)];
+    let children = vec![
+        element(0xEC, within),
+        cluster(true, random),
+        head(vec![seek(SEEK_HEAD, HEADS + 1, 2)]),
+        element(wanted, Vec::new()),
+    ];
+    let size = Size::Ones(width(random));
+    Made {
+        pieces: vec![segment(size, children)],
+        wanted,
+        rows: 0,
+    }
+}
+
 /// A segment of known size that ends within the last element, behind a Cluster of unknown size.
 fn overrun(random: &mut Random) -> Made {
     let wanted = any_part(random);
@@ -179,7 +210,9 @@ fn overrun(random: &mut Random) -> Made {
     let within = vec![Piece::Bytes(random.bytes(length))];
     let small = random.one_of(&[0xEC, 0xBF, 0xA0, 0xA3, 0xE7, 0x40FF]);
     let wide = random.one_of(&[0x1654AE6A, 0x1F43B674, EBML, SEGMENT, CLUSTER, SEEK_HEAD]);
-    let child = random.one_of(&[0x1549A966, 0x1C53BB6B, 0x1654AE6B, 0x1043A770, 0x1941A469, TAGS]);
+    let child = random.one_of(&[
+        0x1549A966, 0x1C53BB6B, 0x1654AE6B, 0x1043A770, 0x1941A469, TAGS,
+    ]);
     let id = random.one_of(&[small, small, wide, child, child]);
     let last = match random.below(6) {
         0 => unknown(id, within, random),
@@ -252,7 +285,11 @@ fn child(random: &mut Random) -> Piece {
         17 => element(0x1C53BB6B, vec![element(0xBB, vec![leaf(0xB3, &[1])])]),
         18 => leaf(0xEC, &random.bytes(3)),
         19 => element(SEGMENT, vec![cluster(true, random)]),
-        20 => unknown(SEGMENT, vec![cluster(true, random), cluster(true, random)], random),
+        20 => unknown(
+            SEGMENT,
+            vec![cluster(true, random), cluster(true, random)],
+            random,
+        ),
         21 => element(random.one_of(&[EBML, SEEK_HEAD]), Vec::new()),
         22 => Piece::Element {
             id: random.one_of(&[0xEC, 0x1654AE6A, 0x1C53BB6B]),
@@ -301,9 +338,13 @@ const FRAMES: [&[u8]; 6] = [
 fn block(random: &mut Random) -> Piece {
     let length = random.below(9);
     match random.below(32) {
-        0..=7 => leaf(0xA3, &random.bytes(length)),
+        0..=6 => leaf(0xA3, &random.bytes(length)),
+        7 => leaf(0xA3, &random.bytes(40 * length)),
         8..=13 => leaf(0xA3, random.one_of(&FRAMES)),
-        14..=17 => element(0xA0, vec![leaf(0xA1, &random.bytes(length)), leaf(0x9B, &[9])]),
+        14..=17 => element(
+            0xA0,
+            vec![leaf(0xA1, &random.bytes(length)), leaf(0x9B, &[9])],
+        ),
         18..=20 => leaf(0xEC, &random.bytes(length)),
         21..=22 => leaf(0xBF, &random.bytes(4)),
         23 => leaf(0xA7, &[1]),
@@ -573,7 +614,11 @@ fn any_listed(place: u64) -> Vec<u8> {
     let (in_cluster, place) = (place % 2 == 0, place / 2);
     let (size, place) = (if place % 2 == 0 { 0x80 } else { 0xFF }, place / 2);
     let (last, place) = (place % 2 == 0, place / 2);
-    let front = if in_cluster { &PIECES[..2] } else { &PIECES[..1] };
+    let front = if in_cluster {
+        &PIECES[..2]
+    } else {
+        &PIECES[..1]
+    };
     let block = if in_cluster { PIECES[4] } else { PIECES[3] };
     let part = if last { PIECES[2] } else { &[0xA3, 0x85] };
     let id = id_bytes(listed(place));
@@ -592,7 +637,9 @@ fn aim(place: u64) -> Vec<u8> {
     let size = [Size::Ones(1), Size::Fits(2)][place as usize];
     let position = Piece::Bytes(vec![position as u8]);
     let entry = crate::segment::seek_to(id, position);
-    let rest = [PIECES[1], PIECES[4], PIECES[5], PIECES[2], PIECES[1], PIECES[0], PIECES[11]];
+    let rest = [
+        PIECES[1], PIECES[4], PIECES[5], PIECES[2], PIECES[1], PIECES[0], PIECES[11],
+    ];
     let within = vec![head(vec![entry]), Piece::Bytes(rest.concat())];
     recorded(&[segment(size, within)]).0
 }

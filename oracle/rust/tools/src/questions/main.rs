@@ -155,7 +155,10 @@ fn understand(arguments: &[String]) -> Option<Wanted> {
         return None;
     };
     let (live, words) = match words {
-        [word] if word == "live" => (Live::Always, question::LIVE_WORDS.map(String::from).to_vec()),
+        [word] if word == "live" => (
+            Live::Always,
+            question::LIVE_WORDS.map(String::from).to_vec(),
+        ),
         [word, words @ ..] if word == "live" => (Live::EverySecond, words.to_vec()),
         _ => (Live::Never, words.to_vec()),
     };
