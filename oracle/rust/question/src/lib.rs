@@ -4,6 +4,9 @@
 /// The largest recording a line can carry.
 pub const MOST_BYTES: usize = 65_536;
 
+/// A line of so many bytes or more is no question.
+pub const TOO_LONG: usize = 1 << 20;
+
 /// The numbers of a row: id, parent, address, header, payload, kind, depth and after, the
 /// first row behind it that is none of its descendants.
 pub const WIDTH: usize = 8;
@@ -200,6 +203,9 @@ pub const LIVE_WORDS: [&str; 15] = [
 
 /// Takes a line apart, its line feed already removed. `None`: a bad question.
 pub fn parse(line: &[u8]) -> Option<Question> {
+    if line.len() >= TOO_LONG {
+        return None;
+    }
     let Some(rest) = line.strip_prefix(LIVE) else {
         return parse_plain(line);
     };

@@ -99,14 +99,10 @@ fn known(word: &str) -> Option<&'static str> {
     names.find(|name| *name == word)
 }
 
-/// A line of so many bytes or more is no question.
-const TOO_LONG: usize = 1 << 20;
-
 fn answer_all(fault: Option<&'static str>) -> io::Result<()> {
     let mut output = BufWriter::new(io::stdout().lock());
     for line in io::stdin().lock().split(b'\n') {
-        let question = Some(line?).filter(|line| line.len() < TOO_LONG);
-        let question = question.and_then(|line| parse(&line));
+        let question = parse(&line?);
         let fault = |live| Fault { name: fault, live };
         let told = match question {
             None => "bad question".to_string(),
