@@ -3,8 +3,9 @@
 
   It implements the rules of docs/01-scope.md, which comments here call document 01, as later requests change them
   (docs/DECISIONS.md: a row has eight numbers where document 01 has seven, a refusal has an address, a shown text ends
-  before its first zero byte, and the address question can be put without a table). Those rules rest on RFC 8794 (sizes,
-  integers, floats, dates, the end of a text), RFC 9559 (the ids) and RFC 3629 (UTF-8). It is proved that every call
+  before its first zero byte, the address question can be put without a table, and a live mode knows sizes that are
+  unknown). Those rules rest on RFC 8794 (sizes, integers, floats, dates, the end of a text), RFC 9559 (the ids) and
+  RFC 3629 (UTF-8). It is proved that every call
   ends and answers, on all bytes and all numbers, as the definitions in crates/NAME/specs say, which are written from
   document 01 and these requests. docs/TRUSTED.md lists what has to be believed; this header, which is written by hand,
   is in it. What is asked of the caller is in "What every call asks and promises" below.
@@ -53,7 +54,7 @@ int main(int count, char **words) {
     if (mapped == MAP_FAILED) return 2;
     const uint8_t *recording = mapped;
 
-    uz_part part = uz_find_part(recording, length, UZ_CHAPTERS, table, UZ_MOST_NUMBERS);
+    uz_part part = uz_find_part(recording, length, UZ_CHAPTERS, table, UZ_MOST_NUMBERS, UZ_PLAIN);
     if (part.refused != 0)
         fprintf(stderr, "refused %u at %llu: %s\n", (unsigned)part.refused, (unsigned long long)part.refused_at,
                 uz_refusal_words(part.refused).meaning);
@@ -92,6 +93,28 @@ int main(int count, char **words) {
   row A, with the UZ_PARENT of row R. So the direct children of a master are the rows C = R + 1, then
   C = T[C * UZ_WIDTH + UZ_AFTER], and so on while C < A.
 
+  Live mode. The size of an element may be all ones in its own width, as FF, 7F FF up to 01 FF FF FF FF FF FF FF: RFC
+  8794 calls that unknown, and a recorder writes it on the Segment and on each Cluster where it can't go back, or until
+  it is stopped. Four calls take a `mode`, their last argument:
+
+      UZ_PLAIN   a size of all ones is a plain number, as document 01 says. So a live recording is mostly refused with
+                 1 or 3 behind its first Cluster, and a part may be found in a Cluster's frames.
+      UZ_LIVE    a size of all ones is unknown. uz_find_part then knows where a Segment or a Cluster ends; on any other
+                 element that a call meets an unknown size is refusal 17.
+
+  Use live mode for a recording that was streamed, that is still being written, or whose recorder was stopped. A call
+  that meets no header of unknown size gives the same reply and the same table in both modes, so live mode may be asked
+  first; where a seek entry leads into other bytes, one can be met there though no element of the recording has one.
+
+  In live mode a Cluster of unknown size ends before the next SeekHead, Info, Tracks, Chapters, Cluster, Cues,
+  Attachments, Tags, Segment or EBML header, at the end of a Segment of known size, or at the end of the recording; a
+  Segment of unknown size before the next Segment or EBML header, or at the end of the recording. Void and CRC-32 end
+  neither. The end is found by the headers and sizes of what the Cluster holds, never by a look at the bytes between. A
+  block that reaches past the end, of the recording or of the Segment, ends with it; a header that is cut off is refusal
+  1. These endings count for the way of a search alone, over the file's elements and the segment's children. In a
+  payload, that of a part, of a seek head or one that is asked for, and on the way to an owner, every unknown size is
+  17, a Cluster's too: no row ever has one.
+
   What every call asks and promises.
 
   - `recording` points to `length` bytes, `table` to `numbers` numbers and `chain` to `links` numbers. None of them may
@@ -103,12 +126,13 @@ int main(int count, char **words) {
     a table or a chain has one that no other call uses meanwhile. A call takes less than 16 kilobytes of stack
     (measured, not proved).
   - Damaged or hostile bytes are answered like any others: the call ends, with an answer or a refusal.
-  - A refusal is a number from 1 to 15 in `refused`. Every other number of the reply is then 0, but `id` for 8 and
+  - A refusal is a number from 1 to 15 or 17 in `refused`. Every other number of the reply is then 0, but `id` for 8 and
     `refused_at`, and every number of a table or chain that the call was to write is 0. After acceptance `refused` and
     `refused_at` are 0, and so are the numbers of the table beyond the last row, or of the chain behind its last
     address. No other outcome exists, and equal arguments get equal answers.
   - The tests come in a fixed order, so a recording with two faults gets one number, always the same: 14 comes
-    before all else, then 15, then the others in the order in which the reader meets the elements.
+    before all else, then 15, then the others in the order in which the reader meets the elements. Of one element of a
+    payload it is the header (1, 2, 3), 17, 12, 13, the body (1, 4 to 7), then 3 where it is larger than what was left.
 
   What no call promises.
 
@@ -117,13 +141,15 @@ int main(int count, char **words) {
   - What happens on a NULL pointer, a wrong count, a misaligned table or chain, or an overlap: the call may crash.
   - That an id is one that Matroska knows. Every id of one to four bytes is accepted; one that is not in document
     01's list has the kind binary. What the elements mean is not looked at: a chapter may lack its name.
-  - That a size of all ones is unknown: it is a plain number here, as document 01 says. Live recordings are
-    therefore often refused with 1 or 3.
+  - That a part of a live recording is there. A recorder that was stopped may have written none of its chapters and
+    tags, or a seek head whose entries were never filled in, or a Segment of size 0: the reply is then what the head or
+    the size says, absent, 1, 8 or 9, in live mode too.
   - Speed. The time of a search is at most about 64 times that of one pass over the recording, of the address question
-    about one pass; skipped elements are not touched. Without a table it looks at headers alone, and its time grows with
-    how many stand before the address, each master around it with the siblings before it; what they hold is not touched.
-    A header that begins with zero bytes is looked through to its first other byte, and ends the call. A shown text
-    takes one pass over itself, however long the payload goes on behind it, and uz_row_payload no pass at all.
+    about one pass; skipped elements are not touched, but in live mode the headers in a Cluster of unknown size are.
+    Without a table it looks at headers alone, and its time grows with how many stand before the address, each master
+    around it with the siblings before it; what they hold is not touched. A header that begins with zero bytes is looked
+    through to its first other byte, and ends the call. A shown text takes one pass over itself, however long the
+    payload goes on behind it, and uz_row_payload no pass at all.
 */
 #ifndef UZRAFMED_H
 #define UZRAFMED_H
@@ -149,6 +175,10 @@ extern "C" {
 #define UZ_ATTACHMENTS UINT32_C(0x1941A469)
 #define UZ_CHAPTERS UINT32_C(0x1043A770)
 #define UZ_TAGS UINT32_C(0x1254C367)
+
+/* How sizes of all ones are taken: the `mode` of four calls. Any other number is refused with 14. */
+#define UZ_PLAIN UINT32_C(0) /* as plain numbers */
+#define UZ_LIVE UINT32_C(1)  /* as unknown: live mode, above */
 
 /* The parent ids that uz_find_part reads the elements of each part under. uz_whose_byte gives the same rows, and
    uz_owner the element of one of them, if it is asked with the same one. */
@@ -193,8 +223,9 @@ extern "C" {
 #define UZ_TOO_MANY_HEADS 11   /* 64 linked seek heads were read, and the last names one more */
 #define UZ_TOO_DEEP 12         /* elements are nested more than 16 deep */
 #define UZ_NO_FREE_ROW 13      /* the part has more elements than the table has rows, 4096 at most */
-#define UZ_BAD_ARGUMENT 14     /* a length, part, start or row that was given is out of bounds, or the row is no text */
+#define UZ_BAD_ARGUMENT 14     /* a length, part, mode, start or row that was given is none, or the row is no text */
 #define UZ_OUTSIDE 15          /* the address is outside the payload */
+#define UZ_UNKNOWN_SIZE 17     /* live mode: the size of an element other than a Segment or Cluster is not known */
 
 /* What a refusal means. The texts are constants of the library. */
 typedef struct uz_words {
@@ -209,7 +240,7 @@ typedef struct uz_words {
 typedef struct uz_part {
     uint64_t refused;    /* 0, or the number of the refusal; then the others are 0, but `id` for 8 and `refused_at` */
     uint64_t id;         /* for refusal 8 the id that the entry names, else 0 */
-    uint64_t refused_at; /* for refusals 1 to 13 the address where it broke, which may be 0 or past the end; else 0 */
+    uint64_t refused_at; /* for 1 to 13 and 17 the address where it broke, which may be 0 or past the end; else 0 */
     uint64_t found;      /* 1, or 0 for an absent part: then at, size and rows are 0 */
     uint64_t at;         /* the address of the part's payload, that is the first byte after its header */
     uint64_t size;       /* how many bytes the payload has; all of them are in the recording */
@@ -227,7 +258,7 @@ typedef struct uz_range {
 /* The reply of uz_whose_byte. */
 typedef struct uz_place {
     uint64_t refused;    /* 0, or the number of the refusal; then the others are 0, but `refused_at` */
-    uint64_t refused_at; /* for refusals 1 to 13 the address where it broke, which may be 0 or past the end; else 0 */
+    uint64_t refused_at; /* for 1 to 13 and 17 the address where it broke, which may be 0 or past the end; else 0 */
     uint64_t row;        /* the number of the one row that holds the address, from 0 on */
     uint64_t in_payload; /* 1 if its payload holds the address (it is a leaf row), 0 if its header does */
     uint64_t rows;       /* how many rows were written */
@@ -236,7 +267,7 @@ typedef struct uz_place {
 /* The reply of uz_owner and uz_owner_chain. */
 typedef struct uz_owned {
     uint64_t refused;    /* 0, or the number of the refusal; then the others are 0, but `refused_at` */
-    uint64_t refused_at; /* for 1, 2, 3 and 12 the address where it broke, which may be 0 or past the end; else 0 */
+    uint64_t refused_at; /* for 1, 2, 3, 12 and 17 the address where it broke, may be 0 or past the end; else 0 */
     uint64_t at;         /* the address of the header of the element that holds the byte */
     uint64_t in_payload; /* 1 if its payload holds the byte (it is no master), 0 if its header does */
     uint64_t depth;      /* how many masters stand around it in the payload that was asked for, 0 to UZ_MOST_DEPTH */
@@ -250,15 +281,22 @@ typedef struct uz_owned {
   entry is believed only if the header at its address has the id that it names. A seek head that does not name a
   part hides it, though it stands in the segment. A part that is not there is an accepted reply.
 
-  `part` is UZ_TRACKS, UZ_ATTACHMENTS, UZ_CHAPTERS or UZ_TAGS.
+  `part` is UZ_TRACKS, UZ_ATTACHMENTS, UZ_CHAPTERS or UZ_TAGS. `mode` is UZ_PLAIN or UZ_LIVE.
+
+  In live mode a Segment of unknown size has no end but its ending: its children are met up to there, and none of them
+  can overrun it. A Cluster of unknown size is passed over up to its ending, before the segment and in it, and so is a
+  Segment of unknown size in one of known size. At an address that an entry leads to, the order is the header, 17, then
+  9; a Segment or Cluster there is 9, whatever its size.
 
   Owns: nothing. Reads: the recording. Writes: every number of the table.
 
   Refusals, of which all but 13 and 14 are the recording's:
-     1  there is no segment, or a header, a seek head or the part reaches past the recording's end
+     1  there is no segment, or a header, a seek head or the part reaches past the recording's end; in live mode also
+        where a Segment of known size goes on behind the end
      2  the id of a header that was read has more than four bytes
      3  the size in such a header has more than eight bytes; or an element of the part or of a seek head is larger
-        than what its master had left; or an element passed over overruns the segment
+        than what its master had left; or an element of known size that is passed over overruns the segment, if the
+        segment's size is known
      4  an integer of the part or of a seek head has more than eight bytes
      5  a float there has other than 4 or 8 bytes
      6  a date there has other than 8 bytes
@@ -269,8 +307,10 @@ typedef struct uz_owned {
     11  64 linked seek heads were read, and the last names one more
     12  an element of the part or of a seek head would lie at depth 16
     13  the part has more elements than the table has rows
-    14  length exceeds UZ_MOST_BYTES, numbers is no multiple of UZ_WIDTH or exceeds UZ_MOST_NUMBERS, or part is none
-        of the four
+    14  length exceeds UZ_MOST_BYTES, numbers is no multiple of UZ_WIDTH or exceeds UZ_MOST_NUMBERS, part is none of
+        the four, or mode none of the two
+    17  live mode alone: the size of an element on the way, in a Cluster on the way or at the address of an entry is
+        unknown, and it is no Segment or Cluster; or that of any element of a seek head or of the part is
 
   What `refused_at` is, by the number:
      1  where the header begins that was not there whole; for a number, a text or bytes that are cut off, the header of
@@ -282,13 +322,14 @@ typedef struct uz_owned {
      9  the address that the entry leads to, where the header with another id begins
     10  the address of the seek head that would be read once more
     11  the address of the 65th seek head, which is not looked at: anything or nothing may be there
-    12, 13  the header of that element
+    12, 13, 17  the header of that element
     14  0
 
   Not promised: that the part lies within the segment, that it is the only one of its id, or that two parts do not
   overlap. A recording with several segments is searched in the first alone.
 */
-uz_part uz_find_part(const uint8_t *recording, size_t length, uint32_t part, uint64_t *table, size_t numbers);
+uz_part uz_find_part(const uint8_t *recording, size_t length, uint32_t part, uint64_t *table, size_t numbers,
+                     uint32_t mode);
 
 /*
   Tells where the payload of a row is. After acceptance the bytes from recording + at on, `length` of them, may be
@@ -343,7 +384,8 @@ uz_range uz_shown_text(const uint8_t *recording, size_t length, const uint64_t *
   For a part, start and size are `at` and `size` of uz_find_part, and `parent` is UZ_UNDER_TRACKS or its like; the
   rows are then those of uz_find_part. For the payload of a master row, parent is that row's id, and rows and depths
   count from there. Any parent is allowed; 0 is none. It decides which ids are masters: below Info, Tracks,
-  Attachments, Chapters and Tags themselves only few are.
+  Attachments, Chapters and Tags themselves only few are. `mode` is UZ_PLAIN or UZ_LIVE, and that of uz_find_part where
+  the rows are to be the same.
 
   Owns: nothing. Reads: the recording. Writes: every number of the table.
 
@@ -357,15 +399,16 @@ uz_range uz_shown_text(const uint8_t *recording, size_t length, const uint64_t *
      7  a text is not UTF-8
     12  an element would lie at depth 16
     13  the payload has more elements than the table has rows
-    14  length exceeds UZ_MOST_BYTES, numbers is no multiple of UZ_WIDTH or exceeds UZ_MOST_NUMBERS, or start exceeds
-        length
+    14  length exceeds UZ_MOST_BYTES, numbers is no multiple of UZ_WIDTH or exceeds UZ_MOST_NUMBERS, start exceeds
+        length, or mode is none of the two
     15  address is not one of the `size` bytes from start on
+    17  live mode alone: the size of an element is unknown, a Segment's or Cluster's too
 
   What `refused_at` is, by the number:
      1, 2, 3  where that header begins; for the body that the recording ends in, and for an element that is too large,
         the header of that element, not its master's
      4, 5, 6, 7  the header of that integer, float, date or text
-    12, 13  the header of that element
+    12, 13, 17  the header of that element
     14, 15  0
   It may lie behind the payload: an element is read, with all that it holds, before it is held to what was left.
 
@@ -374,7 +417,7 @@ uz_range uz_shown_text(const uint8_t *recording, size_t length, const uint64_t *
   out, mostly with 1.
 */
 uz_place uz_whose_byte(const uint8_t *recording, size_t length, uint64_t start, uint64_t size, uint32_t parent,
-                       uint64_t address, uint64_t *table, size_t numbers);
+                       uint64_t address, uint64_t *table, size_t numbers, uint32_t mode);
 
 /*
   Names the element that holds `address`, in the payload of `size` bytes from the address `start` on: the address
@@ -384,12 +427,13 @@ uz_place uz_whose_byte(const uint8_t *recording, size_t length, uint64_t start, 
   master that holds the address is gone into, and its headers are read likewise, up to the element that has the address
   in its header, or that is no master and has it in its payload. Start, size and parent are those of uz_whose_byte. To
   ask of the whole file, start is 0, size UINT64_MAX and parent 0: then the EBML header, the segment, seek heads and
-  Clusters are elements like others, and depths count from there.
+  Clusters are elements like others, and depths count from there. In live mode a Segment of unknown size is then 17,
+  since endings are not looked for here; ask with the payload of a part that uz_find_part found.
 
-  On a payload that uz_whose_byte accepts both name the same: `at` is the address of its row, `in_payload` is its
-  in_payload, and `depth` is the depth of that row. But no body is looked at, not even that of the element itself: it
-  may be no number, text or date of its kind, and the recording may end within it. What stands behind the address is not
-  read either. So there is a reply for many payloads that uz_whose_byte refuses.
+  On a payload that uz_whose_byte accepts in the same mode both name the same: `at` is the address of its row,
+  `in_payload` is its in_payload, and `depth` is the depth of that row. But no body is looked at, not even that of the
+  element itself: it may be no number, text or date of its kind, and the recording may end within it. What stands behind
+  the address is not read either. So there is a reply for many payloads that uz_whose_byte refuses.
 
   Owns: nothing. Reads: of the recording the headers that it comes to. Writes: nothing.
 
@@ -397,14 +441,15 @@ uz_place uz_whose_byte(const uint8_t *recording, size_t length, uint64_t start, 
      1  the recording ends before the header does
      2  the id has more than four bytes
      3  the size has more than eight bytes
+    17  live mode alone: the size is unknown, a Segment's or Cluster's too
     12  the element would lie at depth 16
      3  the element, header and payload, is larger than what its master, or the payload, had left
-    14  length exceeds UZ_MOST_BYTES, or start exceeds length
+    14  length exceeds UZ_MOST_BYTES, start exceeds length, or mode is none of the two
     15  address is not one of the `size` bytes from start on
   There is no 13, and none of 4 to 11.
 
   What `refused_at` is, by the number:
-     1, 2, 3, 12  where that header begins; for an element that is too large its own header, not its master's
+     1, 2, 3, 12, 17  where that header begins; for an element that is too large its own header, not its master's
     14, 15  0
 
   Not promised: that start is the begin of an element, or that the payload of the element lies in the recording: `at`
@@ -412,7 +457,7 @@ uz_place uz_whose_byte(const uint8_t *recording, size_t length, uint64_t start, 
   recording or 2^64-1.
 */
 uz_owned uz_owner(const uint8_t *recording, size_t length, uint64_t start, uint64_t size, uint32_t parent,
-                  uint64_t address);
+                  uint64_t address, uint32_t mode);
 
 /*
   The same reply as that of uz_owner, and the chain of elements down to the byte: chain[0] is the address of the header
@@ -431,12 +476,12 @@ uz_owned uz_owner(const uint8_t *recording, size_t length, uint64_t start, uint6
   where the chain ends, not a zero.
 */
 uz_owned uz_owner_chain(const uint8_t *recording, size_t length, uint64_t start, uint64_t size, uint32_t parent,
-                        uint64_t address, uint64_t *chain, size_t links);
+                        uint64_t address, uint64_t *chain, size_t links, uint32_t mode);
 
 /*
   Tells what the number of a refusal means and where its address points, in words for a person. Every number has an
-  answer: 0 is 'no refusal', and one over 15 'an unknown number'. It is plain C (viewer/refusals.c), not proved, and
-  docs/REFUSALS.md is made from it.
+  answer: 0 is 'no refusal', and one that is none of 0 to 15 and 17 'an unknown number'. It is plain C
+  (viewer/refusals.c), not proved, and docs/REFUSALS.md is made from it.
 */
 uz_words uz_refusal_words(uint64_t refused);
 

@@ -1,6 +1,6 @@
 // Answers questions of docs/ASK.md through the C face: the lines `part`, `whose`, `range`, `shown` and `owner`, which
-// are put to the calls of include/uzrafmed.h. So the replies of the C face can be compared with the crate's, as those
-// of `ask` are:
+// are put to the calls of include/uzrafmed.h, all but `range` in live mode where the word `live` stands in front. So the
+// replies of the C face can be compared with the crate's, as those of `ask` are:
 //
 //   UZ_ASK=target/viewer/answer oracle/compare 1 20000 part whose range shown owner
 //
@@ -21,7 +21,7 @@
 #define MOST_RECORDING 65536
 #define MOST_TABLE 36000
 
-// The most words that a question has.
+// The most words that a question has, behind `live`.
 #define MOST_WORDS 7
 
 // A word of a line. Nothing ends it but its length.
@@ -41,6 +41,7 @@ static uint8_t recording[MOST_RECORDING];
 static size_t length;
 static uint64_t table[MOST_TABLE];
 static size_t numbers;
+static uint32_t mode;
 
 // ---- Words ----
 
@@ -169,7 +170,7 @@ static bool answer_part(const question *q)
     uint32_t id;
     if (q->count != 4 || !id_of(q->words[1], &id) || !lend_table(q->words[2]) || !take_recording(q->words[3]))
         return false;
-    uz_part part = uz_find_part(recording, length, id, table, numbers);
+    uz_part part = uz_find_part(recording, length, id, table, numbers, mode);
     if (part.refused != 0) {
         tell_refusal(part.refused, part.id, part.refused_at, true);
         return true;
@@ -191,7 +192,7 @@ static bool answer_whose(const question *q)
         !id_of(q->words[3], &parent) || !decimal(q->words[4], &address) || !lend_table(q->words[5]) ||
         !take_recording(q->words[6]))
         return false;
-    uz_place place = uz_whose_byte(recording, length, start, size, parent, address, table, numbers);
+    uz_place place = uz_whose_byte(recording, length, start, size, parent, address, table, numbers, mode);
     if (place.refused != 0) {
         tell_refusal(place.refused, 0, place.refused_at, true);
         return true;
@@ -227,7 +228,7 @@ static bool answer_shown(const question *q)
         !id_of(q->words[3], &parent) || !lend_table(q->words[4]) || !decimal(q->words[5], &row) ||
         !take_recording(q->words[6]))
         return false;
-    uz_place place = uz_whose_byte(recording, length, start, size, parent, start, table, numbers);
+    uz_place place = uz_whose_byte(recording, length, start, size, parent, start, table, numbers, mode);
     if (place.refused != 0 && !(size == 0 && place.refused == UZ_OUTSIDE)) {
         tell_refusal(place.refused, 0, place.refused_at, true);
         return true;
@@ -254,8 +255,8 @@ static bool answer_owner(const question *q)
     if (q->count != 6 || !decimal(q->words[1], &start) || !decimal(q->words[2], &size) ||
         !id_of(q->words[3], &parent) || !decimal(q->words[4], &address) || !take_recording(q->words[5]))
         return false;
-    uz_owned owned = uz_owner(recording, length, start, size, parent, address);
-    uz_owned again = uz_owner_chain(recording, length, start, size, parent, address, chain, UZ_MOST_LINKS);
+    uz_owned owned = uz_owner(recording, length, start, size, parent, address, mode);
+    uz_owned again = uz_owner_chain(recording, length, start, size, parent, address, chain, UZ_MOST_LINKS, mode);
     bool alike = owned.refused == again.refused && owned.refused_at == again.refused_at && owned.at == again.at &&
                  owned.in_payload == again.in_payload && owned.depth == again.depth && owned.depth < UZ_MOST_LINKS;
     if (!alike || chain[owned.depth] != owned.at)
@@ -267,12 +268,13 @@ static bool answer_owner(const question *q)
     return true;
 }
 
+// A range has no mode: the table that it is asked of is given.
 static bool answered(const question *q)
 {
     if (q->count == 0) return false;
     if (is(q->words[0], "part")) return answer_part(q);
     if (is(q->words[0], "whose")) return answer_whose(q);
-    if (is(q->words[0], "range")) return answer_range(q);
+    if (is(q->words[0], "range") && mode == UZ_PLAIN) return answer_range(q);
     if (is(q->words[0], "shown")) return answer_shown(q);
     if (is(q->words[0], "owner")) return answer_owner(q);
     return false;
@@ -281,6 +283,15 @@ static bool answered(const question *q)
 // ---- Lines ----
 
 static char line[MOST_LINE];
+
+// A line without the word `live` and the space behind it, if they stand in front. That sets the mode.
+static question put(const char *from, size_t size)
+{
+    static const char live[] = "live ";
+    size_t past = sizeof live - 1;
+    mode = size > past && memcmp(from, live, past) == 0 ? UZ_LIVE : UZ_PLAIN;
+    return mode == UZ_LIVE ? taken_apart(from + past, size - past) : taken_apart(from, size);
+}
 
 int main(void)
 {
@@ -292,7 +303,7 @@ int main(void)
             c = getchar();
         }
         if (c == '\n') c = getchar();
-        question q = size < MOST_LINE ? taken_apart(line, size) : (question){.count = 0};
+        question q = size < MOST_LINE ? put(line, size) : (question){.count = 0};
         if (!answered(&q)) fputs("bad question", stdout);
         putchar('\n');
     }

@@ -5,8 +5,9 @@
 // Recordings lie in memory that can only be read, tables in memory that is inaccessible on both
 // sides: right before the first number or right after the last one, in turn. A read past a
 // recording's end or a write past a table's end so ends the program. Every reply is held to what
-// the header says of all replies, and worked cases to their numbers; the owner of a byte also to a
-// walk over the headers that is written here once more.
+// the header says of all replies, and worked cases to their numbers; the owner of a byte and the
+// way of a search also to walks over the headers that are written once more (replies.h). Both modes
+// are asked: where they may not differ they have to agree.
 //
 // Prints what is wrong, and last 'faces: N checks, 0 wrong'. Status 1 if anything is wrong.
 #define _DEFAULT_SOURCE
@@ -95,24 +96,48 @@ static void check_rows(recording from, uint64_t rows, lent in) {
     }
 }
 
+// What plain mode says to the same question, in a table of its own, where that was not asked for.
+static arena plain_tables;
+
+static lent plain_table(lent to) {
+    return lend(plain_tables, to.numbers, false);
+}
+
+static bool same_table(lent one, lent other) {
+    return memcmp(one.table, other.table, one.numbers * sizeof *one.table) == 0;
+}
+
 static uz_part find_part(recording from, uint32_t part, lent to) {
-    uz_part said = uz_find_part(from.bytes, from.length, part, to.table, to.numbers);
+    uz_part said = uz_find_part(from.bytes, from.length, part, to.table, to.numbers, mode);
     check_part(from, part, to, said);
     check_rows(from, said.rows, to);
+    if (mode == UZ_LIVE && from.length <= UZ_MOST_BYTES && !may_differ(from)) {
+        lent plain = plain_table(to);
+        check(is_part(
+                  uz_find_part(from.bytes, from.length, part, plain.table, plain.numbers, UZ_PLAIN),
+                  said),
+              "without unknown sizes both modes find the same");
+        check(same_table(plain, to), "and the same rows");
+    }
     return said;
 }
 
 // Both calls for the owner of a byte. The chain is lent in `to`.
 static uz_owned owner(recording from, pointed asked, lent to) {
-    uz_owned said =
-        uz_owner(from.bytes, from.length, asked.start, asked.size, asked.parent, asked.address);
+    uz_owned said = uz_owner(from.bytes, from.length, asked.start, asked.size, asked.parent,
+                             asked.address, mode);
     uz_owned chained = uz_owner_chain(from.bytes, from.length, asked.start, asked.size,
-                                      asked.parent, asked.address, to.table, to.numbers);
+                                      asked.parent, asked.address, to.table, to.numbers, mode);
     way down;
     uz_owned due = due_owner(from, asked, &down);
     check_owned(from, asked, said);
     check(same_owned(said, due), "the owner by the rule");
     check_chain(to, chained, due, &down);
+    if (mode == UZ_LIVE && said.refused != UZ_UNKNOWN_SIZE)
+        check(same_owned(uz_owner(from.bytes, from.length, asked.start, asked.size, asked.parent,
+                                  asked.address, UZ_PLAIN),
+                         said),
+              "an owner is 17 in live mode, or the same in both");
     return said;
 }
 
@@ -125,10 +150,18 @@ static uz_owned any_owner(recording from, pointed asked) {
 
 static uz_place whose_byte(recording from, uint64_t start, uint64_t size, uint32_t parent,
                            uint64_t address, lent to) {
-    uz_place said =
-        uz_whose_byte(from.bytes, from.length, start, size, parent, address, to.table, to.numbers);
+    uz_place said = uz_whose_byte(from.bytes, from.length, start, size, parent, address, to.table,
+                                  to.numbers, mode);
     check_place(from, start, size, address, to, said);
     check_rows(from, said.rows, to);
+    if (mode == UZ_LIVE && said.refused != UZ_UNKNOWN_SIZE) {
+        lent plain = plain_table(to);
+        check(same_place(uz_whose_byte(from.bytes, from.length, start, size, parent, address,
+                                       plain.table, plain.numbers, UZ_PLAIN),
+                         said),
+              "a payload is 17 in live mode, or the same in both");
+        check(same_table(plain, to), "and its rows too");
+    }
     pointed asked = {start, size, parent, address};
     lent chain = lend(chains, UZ_MOST_LINKS, address % 2 != 0);
     uz_owned owned = owner(from, asked, chain);
@@ -1180,7 +1213,7 @@ static void test_longest(void) {
     lent table = lend(small_tables, 2 * UZ_WIDTH, false);
     uz_part due = {0, 0, 0, 1, length - 7, 7, 2, 0};
     about = "the longest recording: Tags at its end";
-    uz_part said = uz_find_part(from.bytes, from.length, UZ_TAGS, table.table, table.numbers);
+    uz_part said = uz_find_part(from.bytes, from.length, UZ_TAGS, table.table, table.numbers, mode);
     check(is_part(said, due), "the reply");
     check(are_rows(from, said.at, said.size, said.rows, table), "the rows");
     check(lead_past(table, said.rows), "each row leads past what it holds");
@@ -1313,13 +1346,231 @@ static void test_file(const char *name) {
     test_damage(about, bytes, length, DAMAGED_FILE);
 }
 
-int main(int count, char **words) {
-    // What was told stays told if a call ends the program.
-    setvbuf(stdout, NULL, _IOLBF, 0);
-    recordings = make_arena(MOST_FILE);
-    large_tables = make_arena((UZ_MOST_NUMBERS + UZ_WIDTH) * sizeof(uint64_t));
-    small_tables = make_arena(PAGE);
-    chains = make_arena(PAGE);
+// ---- Modes ----
+
+typedef struct {
+    const char *bytes;
+    uint32_t part;
+    size_t rows; // of the table that is lent
+    uz_part plain, live;
+} mode_case;
+
+// clang-format off
+static const mode_case mode_cases[] = {
+    // A header that is cut off in a Segment of unknown size; what ends it; what may not stand before it.
+    {"18538067FFEC", UZ_TAGS, 1, {1, 0, 5, 0, 0, 0, 0, 0}, {1, 0, 5, 0, 0, 0, 0, 0}},
+    {"18538067FF1A45DFA3", UZ_TAGS, 1, {1, 0, 5, 0, 0, 0, 0, 0}, {1, 0, 5, 0, 0, 0, 0, 0}},
+    {"18538067FF", UZ_TAGS, 1, {1, 0, 5, 0, 0, 0, 0, 0}, {0, 0, 0, 0, 0, 0, 0, 0}},
+    {"18538067FF1A45DFA3FF", UZ_TAGS, 1, {3, 0, 5, 0, 0, 0, 0, 0}, {0, 0, 0, 0, 0, 0, 0, 0}},
+    {"18538067FF1853806780", UZ_TAGS, 1, {1, 0, 10, 0, 0, 0, 0, 0}, {0, 0, 0, 0, 0, 0, 0, 0}},
+    {"1A45DFA3FF1853806780", UZ_TAGS, 1, {1, 0, 132, 0, 0, 0, 0, 0}, {17, 0, 0, 0, 0, 0, 0, 0}},
+    // Tags behind Clusters of unknown size; sizes of each width; all ones in another width is a number.
+    {"18538067FF1F43B675FFA381001254C36782EC80", UZ_TAGS, 1,
+     {3, 0, 5, 0, 0, 0, 0, 0}, {0, 0, 0, 1, 18, 2, 1, 0}},
+    {"1853806701FFFFFFFFFFFFFF1F43B6757FFFA381001F43B6753FFFFFE780EC801254C36780", UZ_TAGS, 0,
+     {1, 0, 16401, 0, 0, 0, 0, 0}, {0, 0, 0, 1, 37, 0, 0, 0}},
+    {"18538067FFEC407F", UZ_TAGS, 0, {3, 0, 5, 0, 0, 0, 0, 0}, {0, 0, 0, 0, 0, 0, 0, 0}},
+    {"18538067FFECFF", UZ_TAGS, 0, {3, 0, 5, 0, 0, 0, 0, 0}, {17, 0, 5, 0, 0, 0, 0, 0}},
+    // The end of the Segment before that of the recording; a Segment that goes on; a block past the end.
+    {"185380678B1F43B675FFA38400", UZ_TAGS, 0, {3, 0, 5, 0, 0, 0, 0, 0}, {0, 0, 0, 0, 0, 0, 0, 0}},
+    {"18538067901F43B675FFA38400", UZ_TAGS, 0, {3, 0, 5, 0, 0, 0, 0, 0}, {1, 0, 13, 0, 0, 0, 0, 0}},
+    {"18538067881F43B675FFA38400000000", UZ_TAGS, 0, {3, 0, 5, 0, 0, 0, 0, 0}, {0, 0, 0, 0, 0, 0, 0, 0}},
+    {"18538067871F43B675FFA38412345612", UZ_TAGS, 0, {3, 0, 5, 0, 0, 0, 0, 0}, {0, 0, 0, 0, 0, 0, 0, 0}},
+    // The same with a Void before the block, which ends no Cluster; and without a Cluster.
+    {"185380678A1F43B675FFEC80A38400000000", UZ_TAGS, 0, {3, 0, 5, 0, 0, 0, 0, 0}, {0, 0, 0, 0, 0, 0, 0, 0}},
+    {"185380678ABF841234567EEC80A3840000", UZ_TAGS, 0, {3, 0, 13, 0, 0, 0, 0, 0}, {3, 0, 13, 0, 0, 0, 0, 0}},
+    // An unknown size in a Cluster; a Cluster and a Segment in a Segment of known size; before the Segment.
+    {"18538067FF1F43B675FFA0FF", UZ_TAGS, 0, {3, 0, 5, 0, 0, 0, 0, 0}, {17, 0, 10, 0, 0, 0, 0, 0}},
+    {"1F43B675FFA381001853806780", UZ_TAGS, 0, {1, 0, 132, 0, 0, 0, 0, 0}, {0, 0, 0, 0, 0, 0, 0, 0}},
+    {"185380678518538067FFEC80", UZ_TAGS, 0, {3, 0, 5, 0, 0, 0, 0, 0}, {0, 0, 0, 0, 0, 0, 0, 0}},
+    {"185380678E18538067FF1F43B675FFA38100A0FF", UZ_TAGS, 0, {3, 0, 5, 0, 0, 0, 0, 0}, {17, 0, 18, 0, 0, 0, 0, 0}},
+    {"185380679118538067FF1254C367801A45DFA3801254C36780", UZ_TAGS, 0,
+     {3, 0, 5, 0, 0, 0, 0, 0}, {0, 0, 0, 1, 25, 0, 0, 0}},
+    // A Cluster in a Cluster ends it; a Tags of unknown size behind it is 17.
+    {"18538067FF1F43B675FF1F43B675FF1254C367FF", UZ_TAGS, 0, {3, 0, 5, 0, 0, 0, 0, 0}, {17, 0, 15, 0, 0, 0, 0, 0}},
+    // Larger than the recording, in a Segment of unknown size: its end is that of the recording.
+    {"18538067FFECC0", UZ_TAGS, 0, {1, 0, 71, 0, 0, 0, 0, 0}, {0, 0, 0, 0, 0, 0, 0, 0}},
+    // In a part and in a seek head: 17 before 12 and 13, and for a Cluster too.
+    {"18538067871254C36782ECFF", UZ_TAGS, 0, {13, 0, 10, 0, 0, 0, 0, 0}, {17, 0, 10, 0, 0, 0, 0, 0}},
+    {"185380678A1254C367851F43B675FF", UZ_TAGS, 1, {1, 0, 15, 0, 0, 0, 0, 0}, {17, 0, 10, 0, 0, 0, 0, 0}},
+    {"1853806787114D9B7482ECFF", UZ_TAGS, 0, {1, 0, 10, 0, 0, 0, 0, 0}, {17, 0, 10, 0, 0, 0, 0, 0}},
+    {"18538067A7114D9B74A2AEA0AE9EAE9CAE9AAE98AE96AE94AE92AE90AE8EAE8CAE8AAE88AE86AE84AE82AEFF",
+     UZ_TAGS, 0, {12, 0, 42, 0, 0, 0, 0, 0}, {17, 0, 42, 0, 0, 0, 0, 0}},
+    // At the address of an entry: 17 before 9, but a Cluster or a Segment there is 9.
+    {"1853806797114D9B748E4DBB8B53AB841654AE6B53AC8115EC82ECFF", UZ_TRACKS, 0,
+     {9, 0, 26, 0, 0, 0, 0, 0}, {17, 0, 26, 0, 0, 0, 0, 0}},
+    {"1853806798114D9B748E4DBB8B53AB841654AE6B53AC81131F43B675FF", UZ_TRACKS, 0,
+     {9, 0, 24, 0, 0, 0, 0, 0}, {9, 0, 24, 0, 0, 0, 0, 0}},
+    {"1853806798114D9B748E4DBB8B53AB841654AE6B53AC811318538067FF", UZ_TRACKS, 0,
+     {9, 0, 24, 0, 0, 0, 0, 0}, {9, 0, 24, 0, 0, 0, 0, 0}},
+    {"1853806798114D9B748E4DBB8B53AB841654AE6B53AC81131654AE6BFF", UZ_TRACKS, 0,
+     {1, 0, 29, 0, 0, 0, 0, 0}, {17, 0, 24, 0, 0, 0, 0, 0}},
+};
+
+static const struct {
+    const char *bytes;
+    pointed asked;
+    size_t rows;
+    uz_place plain, live;
+    uz_owned plain_owner, live_owner;
+} mode_places[] = {
+    // A Cluster is 17 before 13, and 17 comes before what was left.
+    {"1F43B675FF", {0, 5, 0, 0}, 0, {13, 0, 0, 0, 0}, {17, 0, 0, 0, 0}, {3, 0, 0, 0, 0}, {17, 0, 0, 0, 0}},
+    {"ECFF", {0, 2, 0, 0}, 1, {1, 0, 0, 0, 0}, {17, 0, 0, 0, 0}, {3, 0, 0, 0, 0}, {17, 0, 0, 0, 0}},
+    {"EC80ECFF", {0, 4, 0, 0}, 2, {1, 2, 0, 0, 0}, {17, 2, 0, 0, 0}, {0, 0, 0, 0, 0}, {0, 0, 0, 0, 0}},
+    {"EC407F", {0, 3, 0, 0}, 1, {1, 0, 0, 0, 0}, {1, 0, 0, 0, 0}, {3, 0, 0, 0, 0}, {3, 0, 0, 0, 0}},
+    // 17 before 12, and 15 before both.
+    {"AEA0AE9EAE9CAE9AAE98AE96AE94AE92AE90AE8EAE8CAE8AAE88AE86AE84AE82ECFF", {0, 34, 0, 33}, 17,
+     {12, 32, 0, 0, 0}, {17, 32, 0, 0, 0}, {12, 32, 0, 0, 0}, {17, 32, 0, 0, 0}},
+    {"ECFF", {0, 2, 0, 2}, 1, {15, 0, 0, 0, 0}, {15, 0, 0, 0, 0}, {15, 0, 0, 0, 0}, {15, 0, 0, 0, 0}},
+    // By the order of the file a Segment of unknown size is 17 too.
+    {"18538067FFEC80", {0, UINT64_MAX, 0, 5}, 2,
+     {1, 7, 0, 0, 0}, {17, 0, 0, 0, 0}, {0, 0, 5, 0, 1}, {17, 0, 0, 0, 0}},
+};
+// clang-format on
+
+static void test_mode_cases(void) {
+    static const uint32_t both[] = {UZ_PLAIN, UZ_LIVE};
+    for (unsigned n = 0; n < 4; n++) {
+        mode = both[n / 2];
+        for (size_t i = 0; i < sizeof mode_cases / sizeof *mode_cases; i++) {
+            const mode_case *asked = &mode_cases[i];
+            about = asked->bytes;
+            recording from = hex(asked->bytes, n % 2 != 0);
+            lent to = lend(large_tables, asked->rows * UZ_WIDTH, n % 2 != 0);
+            check(is_part(find_part(from, asked->part, to),
+                          mode == UZ_LIVE ? asked->live : asked->plain),
+                  "the worked reply of a mode");
+        }
+        for (size_t i = 0; i < sizeof mode_places / sizeof *mode_places; i++) {
+            about = mode_places[i].bytes;
+            pointed asked = mode_places[i].asked;
+            recording from = hex(about, n % 2 != 0);
+            lent to = lend(small_tables, mode_places[i].rows * UZ_WIDTH, n % 2 != 0);
+            uz_place said =
+                whose_byte(from, asked.start, asked.size, asked.parent, asked.address, to);
+            check(same_place(said, mode == UZ_LIVE ? mode_places[i].live : mode_places[i].plain),
+                  "the worked place of a mode");
+            check(same_owned(any_owner(from, asked), mode == UZ_LIVE ? mode_places[i].live_owner
+                                                                     : mode_places[i].plain_owner),
+                  "the worked owner of a mode");
+        }
+    }
+}
+
+// A number that is no mode is 14 before all else, and leaves zeros.
+static void test_other_modes(void) {
+    about = "a mode that is none";
+    static const uint32_t others[] = {2, 3, 17, 0x100, 0x10000, 0x80000000, 0x80000001, UINT32_MAX};
+    written *made = clean();
+    put_sample(made);
+    recording from = placed(made->bytes, made->length, false);
+    for (size_t i = 0; i < sizeof others / sizeof *others; i++) {
+        mode = others[i];
+        for (size_t k = 0; k < 4; k++)
+            check(find_part(from, parts[k], lend(small_tables, 800, k % 2 != 0)).refused ==
+                      UZ_BAD_ARGUMENT,
+                  "find_part");
+        // The second address is outside, which would be 15.
+        for (uint64_t address = 0; address < 2; address++) {
+            pointed asked = {0, 1, 0, address};
+            check(whose_byte(from, 0, 1, 0, address, lend(small_tables, 800, false)).refused ==
+                      UZ_BAD_ARGUMENT,
+                  "whose_byte");
+            check(any_owner(from, asked).refused == UZ_BAD_ARGUMENT, "owner");
+        }
+    }
+    mode = UZ_PLAIN;
+}
+
+// A live recording like the bench kit's: sizes of all ones, blocks, a Void among them, tags between
+// two Clusters, and chapters behind the last.
+static void put_live(written *to) {
+    static const char cluster[] = "1F43B67501FFFFFFFFFFFFFF";
+    size_t ebml = open_master(to, EBML);
+    put_text(to, 0x4282, "matroska");
+    close_master(to, ebml);
+    put_hex(to, "1853806701FFFFFFFFFFFFFF");
+    size_t tracks = open_master(to, UZ_TRACKS);
+    size_t entry = open_master(to, 0xAE);
+    put_unsigned(to, 0xD7, 1, 1);
+    close_master(to, entry);
+    close_master(to, tracks);
+    for (unsigned n = 0; n < 2; n++) {
+        put_hex(to, cluster);
+        put_unsigned(to, 0xE7, n, 1);
+        put_hex(to, "A3868100008000FFEC80A08BA1868200000041429B8105");
+        if (n == 0)
+            put_tags(to);
+    }
+    size_t chapters = open_master(to, UZ_CHAPTERS);
+    size_t edition = open_master(to, 0x45B9);
+    put_chapter(to, "SPL", 0, 0);
+    close_master(to, edition);
+    close_master(to, chapters);
+}
+
+// A live recording, cut at every byte: a part that stands whole before the cut is found in live
+// mode, and another is absent or 1 there.
+static void test_cuts(void) {
+    about = "a live recording, cut";
+    written *made = clean();
+    put_live(made);
+    static uint8_t whole[4096];
+    size_t length = made->length;
+    if (length > sizeof whole)
+        give_up("a live recording is too long for a test");
+    memcpy(whole, made->bytes, length);
+    mode = UZ_LIVE;
+    uz_part due[4];
+    for (size_t i = 0; i < 4; i++) {
+        due[i] = find_part(placed(whole, length, false), parts[i], lend(small_tables, 800, false));
+        check(due[i].found == (parts[i] != UZ_ATTACHMENTS), "what a live recording has is found");
+    }
+    for (size_t cut = 0; cut < length; cut++) {
+        recording from = placed(whole, cut, cut % 2 != 0);
+        for (size_t i = 0; i < 4; i++) {
+            uz_part said = find_part(from, parts[i], lend(small_tables, 800, cut % 2 != 0));
+            bool whole_part = due[i].found == 1 && due[i].at + due[i].size <= cut;
+            check(whole_part ? is_part(said, due[i])
+                             : said.refused == UZ_PAST_END ||
+                                   (said.refused == UZ_ACCEPTED && said.found == 0),
+                  "a part before the cut is found, another absent or 1");
+        }
+    }
+    mode = UZ_PLAIN;
+}
+
+// Only the first and the last page can be read: in live mode too a block that is passed over is not
+// touched.
+static void test_live_blocks(void) {
+    about = "a block of two gigabytes in a live Cluster";
+    size_t length = (size_t)1 << 31;
+    arena all = make_arena(length);
+    allow(all, PROT_NONE);
+    arena front = {all.first, PAGE};
+    arena back = {all.first + all.size - PAGE, PAGE};
+    allow(front, PROT_READ | PROT_WRITE);
+    allow(back, PROT_READ | PROT_WRITE);
+    written *to = clean();
+    put_hex(to, "18538067FF1F43B675FFA3");
+    put_number(to, UINT64_C(0x0100000000000000) | (length - 19 - 7), 8);
+    memcpy(all.first, to->bytes, to->length);
+    to = clean();
+    put_hex(to, "1254C36782EC80");
+    memcpy(all.first + length - to->length, to->bytes, to->length);
+    allow(front, PROT_READ);
+    allow(back, PROT_READ);
+    lent table = lend(small_tables, UZ_WIDTH, false);
+    uz_part due = {0, 0, 0, 1, length - 2, 2, 1, 0};
+    check(
+        is_part(uz_find_part(all.first, length, UZ_TAGS, table.table, table.numbers, UZ_LIVE), due),
+        "Tags behind it");
+    munmap(all.first - PAGE, all.size + 2 * (size_t)PAGE);
+}
+
+// What holds in both modes alike.
+static void test_both(void) {
     test_example();
     test_after();
     test_parts();
@@ -1327,22 +1578,41 @@ int main(int count, char **words) {
     test_chain(UZ_MOST_HEADS + 1, UZ_TOO_MANY_HEADS);
     test_lengths();
     test_tables();
-    test_payload();
-    test_texts();
-    test_alone();
     test_places();
-    test_owners();
     test_links();
-    test_unread();
     test_passed_over();
     test_masters();
     test_sample();
     test_longest();
-    static written sample;
+}
+
+int main(int count, char **words) {
+    // What was told stays told if a call ends the program.
+    setvbuf(stdout, NULL, _IOLBF, 0);
+    recordings = make_arena(MOST_FILE);
+    large_tables = make_arena((UZ_MOST_NUMBERS + UZ_WIDTH) * sizeof(uint64_t));
+    plain_tables = make_arena((UZ_MOST_NUMBERS + UZ_WIDTH) * sizeof(uint64_t));
+    small_tables = make_arena(PAGE);
+    chains = make_arena(PAGE);
+    test_payload();
+    test_texts();
+    test_alone();
+    test_owners();
+    test_unread();
+    test_mode_cases();
+    test_other_modes();
+    test_cuts();
+    test_live_blocks();
+    static written sample, live;
     put_sample(&sample);
-    test_damage("the sample", sample.bytes, sample.length, DAMAGED);
-    for (int i = 1; i < count; i++)
-        test_file(words[i]);
+    put_live(&live);
+    for (mode = UZ_PLAIN; mode <= UZ_LIVE; mode++) {
+        test_both();
+        test_damage("the sample", sample.bytes, sample.length, DAMAGED);
+        test_damage("a live recording", live.bytes, live.length, DAMAGED);
+        for (int i = 1; i < count; i++)
+            test_file(words[i]);
+    }
     printf("faces: %" PRIu64 " checks, %" PRIu64 " wrong\n", checks, wrong);
     return wrong != 0 || fflush(stdout) != 0;
 }

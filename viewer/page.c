@@ -15,12 +15,14 @@ int main(void) {
          "The address is that of the header of the element that was being read; where the header itself is at fault,\n"
          "the address where it begins; for 8 the last seek head that was read, for 10 and 11 the one that was not. It\n"
          "may lie past the end of the file, as where a seek entry leads there. 0 is the address of the first byte\n"
-         "too. The line `refused 14` of `rows` has none.\n\n"
+         "too. The line `refused 14` of `rows` has none. There is no 16.\n\n"
          "| Number | Name | Given when | In plain words | Where the address points | What to do |\n"
          "|---|---|---|---|---|---|");
     // clang-format on
-    for (uint64_t number = UZ_PAST_END; number <= UZ_OUTSIDE; number++) {
+    for (uint64_t number = UZ_PAST_END; number <= UZ_UNKNOWN_SIZE; number++) {
         uz_words words = uz_refusal_words(number);
+        if (words.name[0] == '\0')
+            continue;
         printf("| %" PRIu64 " | %s | %s | %s | %s | %s |\n", number, words.name, words.rule,
                words.meaning, words.where, words.next);
     }

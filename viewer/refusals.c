@@ -3,6 +3,8 @@
 // not proved.
 #include "uzrafmed.h"
 
+#include <stdbool.h>
+
 #define REMUX "write the recording anew: mkvmerge -o NEW.mkv FILE"
 #define REWRITE                                                                                    \
     "the program that wrote this part is at fault: take the other parts over, and write this one " \
@@ -27,7 +29,7 @@ static const uz_words table[] = {
          "a size has more than eight bytes, or an element is larger than what holds it",
          "where the header with that size begins: of the element that is too large, not of what "
          "holds it",
-         "the bytes are damaged there, or the recording is live: " REMUX},
+         "the bytes are damaged there, or the recording is live: read it with --live, or " REMUX},
     [UZ_INVALID_INTEGER] = {"INVALID_INTEGER", "an integer body has more than eight bytes",
                             "an integer has more than eight bytes", "the header of that integer",
                             REWRITE},
@@ -75,9 +77,9 @@ static const uz_words table[] = {
         {"BAD_ARGUMENT",
          "the recording is longer than 4,294,967,295 bytes, a place is past its end, a table has "
          "no whole rows or more than 4,096, a chain has more than 16 addresses, the part is none "
-         "of the four, or a row is not in the table or its range not in the recording; where a "
-         "text is asked for, also if the row is no text row",
-         "a length, part, start or row that was given is out of bounds, or the row is no text",
+         "of the four, the mode none of the two, or a row is not in the table or its range not in "
+         "the recording; where a text is asked for, also if the row is no text row",
+         "a length, part, mode, start or row that was given is none, or the row is no text",
          "nowhere: it is 0, since the fault is in what was asked",
          "the program that asked is at fault: hold its numbers to uzrafmed.h"},
     [UZ_OUTSIDE] = {"OUTSIDE",
@@ -85,11 +87,20 @@ static const uz_words table[] = {
                     "the address is outside the payload",
                     "nowhere: it is 0, since the fault is in what was asked",
                     "ask for an address inside the payload"},
+    [UZ_UNKNOWN_SIZE] =
+        {"UNKNOWN_SIZE",
+         "live mode: a size is unknown, that is all ones in its own width, on an element that the "
+         "search meets and that is no Segment or Cluster, or on any element of a payload",
+         "live mode: the size of an element other than a Segment or Cluster is not known",
+         "the header with that size",
+         "read the recording without --live, or write it anew: mkvmerge -o NEW.mkv FILE"},
 };
 
+// 16 is the number of no refusal, and has no name.
 uz_words uz_refusal_words(uint64_t refused) {
-    static const uz_words unknown = {"", "no rule: the number is none of 0 to 15",
+    static const uz_words unknown = {"", "no rule: the number is none of 0 to 15 and 17",
                                      "an unknown number", "nowhere",
-                                     "ask with a number of 0 to 15"};
-    return refused < sizeof table / sizeof *table ? table[refused] : unknown;
+                                     "ask with a number of 0 to 15, or 17"};
+    bool known = refused < sizeof table / sizeof *table && table[refused].name != NULL;
+    return known ? table[refused] : unknown;
 }

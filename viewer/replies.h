@@ -21,6 +21,8 @@
 #define SEEK UINT32_C(0x4DBB)
 #define SEEK_ID UINT32_C(0x53AB)
 #define SEEK_POSITION UINT32_C(0x53AC)
+#define CLUSTER UINT32_C(0x1F43B675)
+#define EBML UINT32_C(0x1A45DFA3)
 #define VOID UINT32_C(0xEC)
 #define DATE UINT32_C(0x4461) // the one id of its kind
 
@@ -30,6 +32,9 @@ static const uint32_t parents[] = {UZ_UNDER_TRACKS, UZ_UNDER_ATTACHMENTS, UZ_UND
 
 static void check(bool good, const char *what);
 static void give_up(const char *what);
+
+// The mode of the calls that are made and checked now; any number.
+static uint32_t mode = UZ_PLAIN;
 
 // ---- Memory between inaccessible pages ----
 
@@ -125,6 +130,22 @@ static unsigned header(recording from, uint64_t at, uint64_t *id, uint64_t *size
     return second != 0 ? first + second : 0;
 }
 
+// Whether a header with a size of all ones, in its own width, is at an address.
+static bool is_unknown(recording from, uint64_t at) {
+    uint64_t id, size = 0;
+    unsigned first = vint(from, at, 4, true, &id);
+    unsigned second = first != 0 ? vint(from, at + first, 8, false, &size) : 0;
+    return second != 0 && size + 1 == UINT64_C(1) << 7 * second;
+}
+
+// Whether live mode may give another reply than plain mode: such a header is at some address.
+static bool may_differ(recording from) {
+    for (uint64_t at = 0; at < from.length; at++)
+        if (is_unknown(from, at))
+            return true;
+    return false;
+}
+
 // Why no id or size of at most `most` bytes is at an address: bytes are missing, or it is longer,
 // which is the refusal `longer`; 0 if one is there.
 static uint64_t vint_fault(recording from, uint64_t at, unsigned most, uint64_t longer) {
@@ -211,6 +232,8 @@ static bool are_rows(recording from, uint64_t at, uint64_t size, uint64_t rows, 
         unsigned length = header(from, at, &id, &payload);
         if (length == 0 || cell(in, row, UZ_ID) != id || cell(in, row, UZ_PARENT) != masters[open])
             return false;
+        if (mode == UZ_LIVE && is_unknown(from, at))
+            return false;
         if (cell(in, row, UZ_ADDRESS) != at || cell(in, row, UZ_HEADER) != length)
             return false;
         if (cell(in, row, UZ_PAYLOAD) != payload || cell(in, row, UZ_DEPTH) != open)
@@ -269,7 +292,7 @@ static bool follows_header(recording from, uint64_t at, uint64_t wanted, uint64_
 // Whether the fault that a refusal names is at its address, as far as the bytes there tell: not
 // what a master had left, how deep it lies, how many rows there are, or what a seek entry says.
 static bool is_broken(recording from, uint64_t refused, uint64_t at) {
-    if (refused >= UZ_BAD_ARGUMENT)
+    if (refused == UZ_BAD_ARGUMENT || refused == UZ_OUTSIDE)
         return at == 0;
     // A 65th head is not looked at.
     if (refused == UZ_TOO_MANY_HEADS)
@@ -299,15 +322,118 @@ static bool is_broken(recording from, uint64_t refused, uint64_t at) {
     case UZ_INVALID_SEEK_HEAD:
     case UZ_HEAD_AGAIN:
         return id == SEEK_HEAD;
+    case UZ_UNKNOWN_SIZE:
+        return mode == UZ_LIVE && is_unknown(from, at);
     }
     return true;
 }
 
+// ---- The way of a search ----
+
+// What the way leads to: the end of the segment, a seek head or the part at an address, or a
+// refusal there.
+typedef struct {
+    enum { TO_NOTHING, TO_A_HEAD, TO_THE_PART, TO_A_REFUSAL } leads;
+    uint64_t at, refused;
+} search_way;
+
+// Whether an element ends one of unknown size, a Segment or a Cluster, that it follows.
+static bool ends(uint64_t open, uint64_t next) {
+    static const uint32_t children[] = {SEEK_HEAD, 0x1549A966, UZ_TRACKS,      UZ_CHAPTERS,
+                                        CLUSTER,   0x1C53BB6B, UZ_ATTACHMENTS, UZ_TAGS};
+    if (next == SEGMENT || next == EBML)
+        return true;
+    for (size_t i = 0; open == CLUSTER && i < sizeof children / sizeof *children; i++)
+        if (next == children[i])
+            return true;
+    return false;
+}
+
+// The way over the file's elements and the segment's children, in one loop. `passed` is the id of
+// the element of unknown size that is passed over, 0 if none is. What is in it is passed over too:
+// an unknown Cluster in an unknown Segment is gone into, since what ends the one ends the other.
+static search_way due_way(recording from, uint64_t part) {
+    bool in_segment = false, endless = false;
+    uint64_t at = 0, end = 0, passed = 0;
+    for (;;) {
+        uint64_t id = 0, size = 0;
+        uint64_t limit = in_segment && !endless ? end : from.length;
+        if (passed != 0 && (at >= limit || at >= from.length)) {
+            at = at >= limit ? limit : from.length;
+            passed = 0;
+        }
+        if (in_segment && at >= limit)
+            return (search_way){TO_NOTHING, 0, 0};
+        uint64_t fault = header_fault(from, at);
+        if (fault != UZ_ACCEPTED)
+            return (search_way){TO_A_REFUSAL, at, fault};
+        uint64_t payload = at + header(from, at, &id, &size);
+        bool unknown = mode == UZ_LIVE && is_unknown(from, at);
+        if (passed != 0 && ends(passed, id))
+            passed = 0;
+        if (in_segment && endless && ends(SEGMENT, id))
+            return (search_way){TO_NOTHING, 0, 0};
+        if (unknown && id != CLUSTER && (id != SEGMENT || passed != 0))
+            return (search_way){TO_A_REFUSAL, at, UZ_UNKNOWN_SIZE};
+        if (passed == 0 && in_segment && id == SEEK_HEAD)
+            return (search_way){TO_A_HEAD, at, 0};
+        if (passed == 0 && in_segment && id == part)
+            return (search_way){TO_THE_PART, at, 0};
+        if (passed == 0 && !in_segment && id == SEGMENT) {
+            in_segment = true;
+            endless = unknown;
+            end = payload + size;
+            at = payload;
+        } else if (unknown) {
+            passed = passed != 0 ? passed : id;
+            at = payload;
+        } else if (passed == 0 && in_segment && !endless && payload + size > end) {
+            return (search_way){TO_A_REFUSAL, at, UZ_INVALID_SIZE};
+        } else {
+            at = payload + size;
+        }
+    }
+}
+
+// Whether a reply is one that the way allows: behind a seek head, any but a part without heads.
+static bool is_on_the_way(recording from, uint32_t part, uz_part said) {
+    search_way way = due_way(from, part);
+    uint64_t id, size = 0;
+    bool refused = said.refused != UZ_ACCEPTED;
+    switch (way.leads) {
+    case TO_NOTHING:
+        return !refused && said.found == 0 && said.heads == 0;
+    case TO_A_REFUSAL:
+        return said.refused == way.refused && said.refused_at == way.at;
+    case TO_A_HEAD:
+        return refused || said.heads > 0;
+    case TO_THE_PART:
+        way.at += header(from, way.at, &id, &size);
+        return refused
+                   ? said.refused_at >= way.at
+                   : said.found == 1 && said.at == way.at && said.size == size && said.heads == 0;
+    }
+    return false;
+}
+
+// Whether a call may take these arguments.
+static bool is_taken(uint64_t length, uint64_t numbers) {
+    return length <= UZ_MOST_BYTES && numbers % UZ_WIDTH == 0 && numbers <= UZ_MOST_NUMBERS &&
+           (mode == UZ_PLAIN || mode == UZ_LIVE);
+}
+
 // What holds of every reply of uz_find_part, and of the table after it.
 static void check_part(recording from, uint32_t part, lent to, uz_part said) {
+    bool taken =
+        is_taken(from.length, to.numbers) &&
+        (part == UZ_TRACKS || part == UZ_ATTACHMENTS || part == UZ_CHAPTERS || part == UZ_TAGS);
     check(only_table(to), "find_part writes the table alone");
+    check((said.refused == UZ_BAD_ARGUMENT) == !taken, "find_part gives 14 for its arguments");
+    if (taken)
+        check(is_on_the_way(from, part, said), "the way of a search");
     if (said.refused != UZ_ACCEPTED) {
-        check(said.refused <= UZ_BAD_ARGUMENT, "find_part gives 1 to 14");
+        check(said.refused <= UZ_BAD_ARGUMENT || said.refused == UZ_UNKNOWN_SIZE,
+              "find_part gives 1 to 14 and 17");
         bool named = said.refused == UZ_INVALID_SEEK_HEAD;
         check(named ? said.id == part || said.id == SEEK_HEAD : said.id == 0,
               "the id comes with 8 alone");
@@ -364,15 +490,18 @@ static bool same_place(uz_place one, uz_place other) {
 // What holds of every reply of uz_whose_byte, and of the table after it.
 static void check_place(recording from, uint64_t start, uint64_t size, uint64_t address, lent to,
                         uz_place said) {
+    bool taken = is_taken(from.length, to.numbers) && start <= from.length;
     check(only_table(to), "whose_byte writes the table alone");
+    check((said.refused == UZ_BAD_ARGUMENT) == !taken, "whose_byte gives 14 for its arguments");
     if (said.refused != UZ_ACCEPTED) {
-        check(said.refused <= UZ_NOT_UTF8 ||
+        check(said.refused <= UZ_NOT_UTF8 || said.refused == UZ_UNKNOWN_SIZE ||
                   (said.refused >= UZ_TOO_DEEP && said.refused <= UZ_OUTSIDE),
-              "whose_byte gives 1 to 7 and 12 to 15");
+              "whose_byte gives 1 to 7, 12 to 15 and 17");
         check((said.row | said.in_payload | said.rows) == 0, "a refused place is zeros");
         check(zeros_from(to, 0), "the table of a refused place is zeros");
         check(is_broken(from, said.refused, said.refused_at), "a payload is broken where it says");
-        check(said.refused >= UZ_BAD_ARGUMENT || said.refused_at >= start,
+        check(said.refused == UZ_BAD_ARGUMENT || said.refused == UZ_OUTSIDE ||
+                  said.refused_at >= start,
               "a payload is not broken before its start");
         return;
     }
@@ -450,6 +579,8 @@ static uz_owned owner_among(recording from, uint64_t at, uint64_t left, uint32_t
         }
         unsigned length = header(from, at, &id, &size);
         down->looked_at += length;
+        if (mode == UZ_LIVE && is_unknown(from, at))
+            return no_owner(UZ_UNKNOWN_SIZE, at);
         if (depth > UZ_MOST_DEPTH)
             return no_owner(UZ_TOO_DEEP, at);
         if (length > left || size > left - length)
@@ -469,7 +600,7 @@ static uz_owned owner_among(recording from, uint64_t at, uint64_t left, uint32_t
 // The reply of uz_owner that is due, and the way.
 static uz_owned due_owner(recording from, pointed asked, way *down) {
     *down = (way){{0}, 0};
-    if (from.length > UZ_MOST_BYTES || asked.start > from.length)
+    if (!is_taken(from.length, 0) || asked.start > from.length)
         return no_owner(UZ_BAD_ARGUMENT, 0);
     if (asked.address < asked.start || asked.address - asked.start >= asked.size)
         return no_owner(UZ_OUTSIDE, 0);
@@ -488,9 +619,10 @@ static bool same_owned(uz_owned one, uz_owned other) {
 // What holds of every reply of uz_owner, by its own numbers and the header that they name.
 static void check_owned(recording from, pointed asked, uz_owned said) {
     if (said.refused != UZ_ACCEPTED) {
-        bool header_met = said.refused <= UZ_INVALID_SIZE || said.refused == UZ_TOO_DEEP;
+        bool header_met = said.refused <= UZ_INVALID_SIZE || said.refused == UZ_TOO_DEEP ||
+                          said.refused == UZ_UNKNOWN_SIZE;
         check(header_met || said.refused == UZ_BAD_ARGUMENT || said.refused == UZ_OUTSIDE,
-              "owner gives 1, 2, 3, 12, 14 and 15");
+              "owner gives 1, 2, 3, 12, 14, 15 and 17");
         check((said.at | said.in_payload | said.depth) == 0, "a refused owner is zeros");
         check(header_met ? said.refused_at >= asked.start : said.refused_at == 0,
               "an owner is not broken before the start");

@@ -39,6 +39,8 @@ int read_arguments(char **words, arguments *to) {
             to->json = true;
         else if (option && strcmp(*words, "--hex") == 0)
             addresses_in_hex = true;
+        else if (option && strcmp(*words, "--live") == 0)
+            to->live = true;
         else if (option && strcmp(*words, "--help") == 0)
             to->help = true;
         else if (option || to->count == 2) {

@@ -10,6 +10,7 @@ typedef struct {
     const char *words[2];
     int count;
     bool json;
+    bool live;
     bool help;
     uint64_t address;
 } arguments;

@@ -4,7 +4,7 @@
 
 // clang-format off
 const char help_text[] =
-    "usage: stages [--hex] FILE [ADDRESS], or stages --json FILE\n"
+    "usage: stages [--live] [--hex] FILE [ADDRESS], or stages [--live] --json FILE\n"
     "\n"
     "Shows the boot stages, bench settings, tracks and attached files of a Matroska recording,\n"
     "each with its address: the number of bytes before it in the file.\n"
@@ -12,6 +12,8 @@ const char help_text[] =
     "  stages FILE           editions and their stages by time, then tags, tracks and attachments\n"
     "  stages --json FILE    the same as JSON, in file order, with every address\n"
     "  stages FILE ADDRESS   whose byte that is; decimal, or hexadecimal after 0x\n"
+    "  --live                for a recording that was streamed, or whose recorder was stopped:\n"
+    "                        a size of all ones is not known, and a Cluster ends where the next begins\n"
     "  --hex                 each address in hexadecimal too, as 683/0x2AB\n"
     "  --help                this text\n"
     "  --                    ends the options\n"

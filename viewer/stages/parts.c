@@ -21,13 +21,13 @@ void find_parts(const recording *from, part all[PARTS]) {
                         .from = from,
                         .table = tables[i]};
         all[i].reply = uz_find_part(from->bytes, (size_t)from->length, all[i].id, all[i].table,
-                                    UZ_MOST_NUMBERS);
+                                    UZ_MOST_NUMBERS, from->mode);
     }
 }
 
 uz_owned owner_in(const part *in, uint64_t address, uint64_t chain[UZ_MOST_LINKS]) {
     return uz_owner_chain(in->from->bytes, (size_t)in->from->length, in->reply.at, in->reply.size,
-                          in->parent, address, chain, UZ_MOST_LINKS);
+                          in->parent, address, chain, UZ_MOST_LINKS, in->from->mode);
 }
 
 uint64_t cell(const part *in, uint64_t row, unsigned column) {

@@ -41,6 +41,7 @@ int recording_open(const char *name, recording *to) {
     to->name = name;
     to->bytes = bytes;
     to->length = (uint64_t)about.st_size;
+    to->mode = UZ_PLAIN;
     return 0;
 }
 

@@ -12,6 +12,7 @@
 #include <string.h>
 
 static const char remux[] = "write the recording anew: mkvmerge -o NEW.mkv FILE";
+static const char read_live[] = "read it in live mode: stages --live FILE";
 static const char remux_live[] =
     "mkvmerge -o NEW.mkv FILE writes it anew; tags behind the Clusters may be lost, and "
     "mkvinfo -a FILE shows them";
@@ -58,14 +59,30 @@ static void on_no_segment(const recording *from, uint64_t end, remarks *to) {
             "this is no Matroska file: it begins neither with an EBML header nor with a segment");
 }
 
-static void on_segment(const recording *from, const header *segment, bool astray, remarks *to) {
+// A segment of unknown size: plain mode goes astray there, and live mode comes to the end of the
+// file.
+static void on_endless(const recording *from, const part all[PARTS], bool astray, remarks *to) {
+    bool cut = false;
+    for (unsigned i = 0; i < PARTS; i++)
+        cut = cut || all[i].reply.refused == UZ_PAST_END;
+    if (!(from->mode == UZ_LIVE ? cut : astray))
+        return;
+    if (from->mode == UZ_LIVE)
+        add(to, uz_refusal_words(UZ_PAST_END).next,
+            "the size of the segment is not known, and the file ends at %" PRIu64
+            ": the recorder was stopped there, or the file was cut off",
+            from->length);
+    else
+        add(to, read_live,
+            "the size of the segment is not known: a live recording, or its recorder was stopped");
+    to->explained[UZ_PAST_END] = true;
+}
+
+static void on_segment(const recording *from, const header *segment, const part all[PARTS],
+                       bool astray, remarks *to) {
     uint64_t end = segment->payload + segment->size;
     if (segment->unknown) {
-        if (!astray)
-            return;
-        add(to, remux_live,
-            "the size of the segment is not known: a live recording, or its recorder was stopped");
-        to->explained[UZ_PAST_END] = true;
+        on_endless(from, all, astray, to);
     } else if (segment->size == 0 && segment->payload < from->length) {
         add(to,
             "ffmpeg -i FILE -map 0 -c copy NEW.mkv saves film and attached files; chapters and "
@@ -86,19 +103,21 @@ static void on_segment(const recording *from, const header *segment, bool astray
 // A child of the segment whose size is not known: the search takes that as a number, and either
 // goes astray or comes out among the child's own bytes.
 static void on_open_end(const part all[PARTS], const header *child, bool astray, remarks *to) {
-    const char *what = child->id == CLUSTER ? "Cluster" : "element";
+    bool cluster = child->id == CLUSTER;
+    const char *what = cluster ? "Cluster" : "element";
+    const char *next = cluster ? read_live : remux_live;
     if (astray) {
-        add(to, remux_live,
+        add(to, next,
             "the size of the %s at %" PRIu64
-            " is not known: a live recording; what stands behind it can't be told",
-            what, child->at);
+            " is not known: a live recording; what stands behind it %s",
+            what, child->at, cluster ? "is told in live mode alone" : "can't be told");
         to->explained[UZ_PAST_END] = true;
         to->explained[UZ_INVALID_ID] = true;
         to->explained[UZ_INVALID_SIZE] = true;
     }
     for (unsigned i = 0; i < PARTS; i++)
         if (all[i].reply.found != 0 && all[i].reply.heads == 0 && all[i].reply.at > child->payload)
-            add(to, remux_live,
+            add(to, next,
                 "%s at %" PRIu64 " was found behind the start of the %s at %" PRIu64
                 ", whose size is not known: it may be bytes of a frame",
                 all[i].name, all[i].reply.at, what, child->at);
@@ -118,9 +137,10 @@ typedef struct {
     uint64_t shown;
 } standing;
 
-// Goes over the children of the segment, up to one whose size is not known.
+// Goes over the children of the segment, in plain mode up to one whose size is not known; `endless`
+// is set if that is a Cluster.
 static void walk(const recording *from, const header *segment, const part all[PARTS], bool astray,
-                 standing stand[PARTS], remarks *to) {
+                 standing stand[PARTS], bool *endless, remarks *to) {
     header child = {0, 0, 0, 0, false};
     while (next_in_segment(from, segment, &child)) {
         for (unsigned i = 0; i < PARTS; i++) {
@@ -132,8 +152,11 @@ static void walk(const recording *from, const header *segment, const part all[PA
             else if (stand[i].hidden == 0 && !(found && is_copy(from, &all[i], &child)))
                 stand[i].hidden = child.at;
         }
-        if (child.unknown)
+        if (child.unknown && from->mode == UZ_PLAIN) {
             on_open_end(all, &child, astray, to);
+            if (child.id == CLUSTER)
+                *endless = true;
+        }
     }
 }
 
@@ -153,6 +176,44 @@ static void on_unfilled(const recording *from, const header *segment, const part
             ids[i] == of->id ? of->name : "the next seek head");
         to->explained[number] = true;
     }
+}
+
+// A seek entry that leads past the end of the file, in live mode: what it names was not written
+// yet, or was cut off.
+static void on_cut_entry(const recording *from, const header *segment, const part *of,
+                         remarks *to) {
+    seek_entry entry;
+    if (from->mode != UZ_LIVE || !segment->unknown || of->reply.refused != UZ_PAST_END ||
+        of->reply.refused_at < from->length || to->explained[UZ_INVALID_SEEK_HEAD])
+        return;
+    if (find_entry(from, segment, of->id, &entry) && !is_unfilled(&entry) &&
+        entry.position == of->reply.refused_at - segment->payload)
+        add(to, NULL,
+            "the seek entry for %s leads to %" PRIu64
+            ", past the end of the file: the recorder was stopped before it wrote the part, or the "
+            "file was cut off",
+            of->name, of->reply.refused_at);
+}
+
+// Parts that are absent, and nothing is wrong: that live mode may find them, or that it was a seek
+// head that said so.
+static void note_absent(const recording *from, const part all[PARTS], bool endless, remarks *to) {
+    bool by_walk = false, by_head = false;
+    for (unsigned i = 0; i < PARTS; i++) {
+        bool absent = all[i].reply.refused == UZ_ACCEPTED && all[i].reply.found == 0;
+        by_walk = by_walk || (absent && all[i].reply.heads == 0);
+        by_head = by_head || (absent && all[i].reply.heads > 0 && to->stands[i] == 0);
+    }
+    if (!endless || to->unfinished)
+        return;
+    if (from->mode == UZ_PLAIN && by_walk)
+        snprintf(to->note, sizeof to->note,
+                 "sizes in it are not known: stages --live FILE may find more");
+    if (from->mode == UZ_LIVE && by_head)
+        snprintf(
+            to->note, sizeof to->note,
+            "the size of the segment is not known, and its seek head names no more: a recorder "
+            "that was stopped may not have written the rest");
 }
 
 // A part that stands in the segment beside the one that is shown.
@@ -201,20 +262,27 @@ void find_remarks(const recording *from, const part all[PARTS], remarks *to) {
     standing stand[PARTS] = {{0, 0}, {0, 0}, {0, 0}, {0, 0}};
     memset(to, 0, sizeof *to);
     to->segment = find_segment(from, &segment);
+    // On the way to a segment an unknown size says by itself what is wrong.
+    if (!to->segment && all->reply.refused == UZ_UNKNOWN_SIZE) {
+        to->segment = true;
+        return;
+    }
     if (!to->segment) {
         on_no_segment(from, all->reply.refused_at, to);
         return;
     }
     bool astray = false;
+    bool endless = segment.unknown;
     for (unsigned i = 0; i < PARTS; i++)
         astray = astray || is_astray(&all[i]);
-    on_segment(from, &segment, astray, to);
+    on_segment(from, &segment, all, astray, to);
     // A segment that was never given its size is gone over up to the end of the file.
     if (to->unfinished)
         segment.size = from->length - segment.payload;
-    walk(from, &segment, all, astray, stand, to);
+    walk(from, &segment, all, astray, stand, &endless, to);
     for (unsigned i = 0; i < PARTS; i++) {
         on_unfilled(from, &segment, &all[i], to);
+        on_cut_entry(from, &segment, &all[i], to);
         if (stand[i].hidden != 0 && all[i].reply.found != 0)
             on_another(&all[i], &stand[i], to);
         else if (stand[i].hidden != 0)
@@ -222,4 +290,5 @@ void find_remarks(const recording *from, const part all[PARTS], remarks *to) {
         if (all[i].reply.found == 0)
             to->stands[i] = stand[i].hidden;
     }
+    note_absent(from, all, endless, to);
 }

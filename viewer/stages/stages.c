@@ -10,6 +10,7 @@
 #include "remarks.h"
 #include "show.h"
 #include "tags.h"
+#include "tell.h"
 #include "tracks.h"
 #include "unproved.h"
 #include "whose.h"
@@ -17,7 +18,8 @@
 #include <inttypes.h>
 #include <string.h>
 
-// The parts that are not there, in one line on standard error. That is no fault.
+// The parts that are not there, in one line on standard error, and what is worth a note. That is no
+// fault.
 static void tell_absent(const part all[PARTS], const remarks *odd) {
     char words[80] = "not in the recording:";
     size_t length = strlen(words);
@@ -28,6 +30,8 @@ static void tell_absent(const part all[PARTS], const remarks *odd) {
                                        length > before ? "," : "", all[i].name);
     if (length > before && !odd->unfinished)
         fault(all->from->name, words);
+    if (odd->note[0] != '\0')
+        fault(all->from->name, odd->note);
 }
 
 static int list(const recording *from) {
@@ -51,8 +55,7 @@ static void json_id(const char *key, uint64_t id) {
     json_word(key, digits);
 }
 
-// The number, where it broke, the id of the element that stands there, and the words. 14 and 15 are
-// about what was asked, and have no address.
+// The number, where it broke, the id of the element that stands there, and the words.
 static void json_refusal(const part *of) {
     uint64_t number = of->reply.refused;
     uz_words words = uz_refusal_words(number);
@@ -60,12 +63,11 @@ static void json_refusal(const part *of) {
     json_number("refused", number);
     if (number == UZ_INVALID_SEEK_HEAD)
         json_id("entry", of->reply.id);
-    if (number < UZ_BAD_ARGUMENT)
+    if (has_address(number))
         json_number("refused_at", of->reply.refused_at);
     else
         json_null("refused_at");
-    if (number < UZ_BAD_ARGUMENT &&
-        read_header(of->from, of->reply.refused_at, &there) == UZ_ACCEPTED)
+    if (has_address(number) && read_header(of->from, of->reply.refused_at, &there) == UZ_ACCEPTED)
         json_id("there", there.id);
     else
         json_null("there");
@@ -104,6 +106,7 @@ static int list_json(const recording *from) {
     find_remarks(from, all, &odd);
     json_open(NULL, '{', false);
     json_number("length", from->length);
+    json_word("mode", from->mode == UZ_LIVE ? "live" : "plain");
     json_open("parts", '[', true);
     for (unsigned i = 0; i < PARTS; i++)
         json_part(&all[i], odd.stands[i]);
@@ -116,6 +119,10 @@ static int list_json(const recording *from) {
         json_close('}');
     }
     json_close(']');
+    if (odd.note[0] != '\0')
+        json_word("note", odd.note);
+    else
+        json_null("note");
     json_chapters(&all[CHAPTERS_PART]);
     json_tags(&all[TAGS_PART]);
     json_tracks(&all[TRACKS_PART]);
@@ -130,6 +137,7 @@ static int answer(const arguments *asked) {
     int status = recording_open(asked->words[0], &from);
     if (status != 0)
         return status;
+    from.mode = asked->live ? UZ_LIVE : UZ_PLAIN;
     if (asked->json)
         status = list_json(&from);
     else if (asked->count == 1)
@@ -143,7 +151,7 @@ static int answer(const arguments *asked) {
 }
 
 int main(int count, char **words) {
-    arguments asked = {{NULL, NULL}, 0, false, false, 0};
+    arguments asked = {{NULL, NULL}, 0, false, false, false, 0};
     int status = count > 0 ? read_arguments(words, &asked) : 2;
     if (status != 0)
         return status;

@@ -66,13 +66,17 @@ static void tell_broken(const recording *from, uint64_t at) {
         fprintf(stderr, ", where %" PRIX64 " %s stands", there.id, element_name(there.id));
 }
 
+bool has_address(uint64_t number) {
+    return number != UZ_BAD_ARGUMENT && number != UZ_OUTSIDE;
+}
+
 int tell_refused(const part *of, uint64_t number, uint64_t id, uint64_t at) {
     fputs("stages: ", stderr);
     show_word(stderr, of->from->name);
     fprintf(stderr, ": %s: refused %" PRIu64, of->name, number);
     if (number == UZ_INVALID_SEEK_HEAD)
         fprintf(stderr, " %" PRIX64, id);
-    if (number < UZ_BAD_ARGUMENT)
+    if (has_address(number))
         tell_broken(of->from, at);
     fprintf(stderr, ": %s\n", uz_refusal_words(number).meaning);
     return 1;

@@ -137,27 +137,99 @@ uint64_t read_header(const recording *from, uint64_t at, header *to) {
     return UZ_ACCEPTED;
 }
 
+// Whether an element ends one of unknown size that it follows: a Segment or a Cluster.
+static bool ends(uint64_t open, uint64_t next) {
+    static const uint64_t children[] = {SEEK_HEAD, INFO, UZ_TRACKS,      UZ_CHAPTERS,
+                                        CLUSTER,   CUES, UZ_ATTACHMENTS, UZ_TAGS};
+    bool found = next == SEGMENT || next == EBML;
+    for (unsigned i = 0; open == CLUSTER && i < sizeof children / sizeof *children; i++)
+        found = found || next == children[i];
+    return found;
+}
+
+// Where an element ends; `limit` is the end of the segment around it, or of the file. One of
+// unknown size ends in live mode where another begins that ends it, or at the limit, or with the
+// file. False if that can't be told. What ends a Segment ends the Cluster in it, so that one is
+// gone into.
+static bool find_end(const recording *from, const header *of, uint64_t limit, uint64_t *end) {
+    *end = of->payload + of->size;
+    if (from->mode != UZ_LIVE || !of->unknown)
+        return true;
+    header next;
+    uint64_t at = of->payload;
+    while (at < limit && at < from->length) {
+        if (read_header(from, at, &next) != UZ_ACCEPTED)
+            return false;
+        if (ends(of->id, next.id))
+            break;
+        if (next.unknown && (of->id != SEGMENT || next.id != CLUSTER))
+            return false;
+        at = next.unknown ? next.payload : next.payload + next.size;
+    }
+    if (at > from->length)
+        at = from->length;
+    *end = at < limit ? at : limit;
+    return of->id == SEGMENT || of->id == CLUSTER;
+}
+
 bool find_segment(const recording *from, header *segment) {
-    for (uint64_t at = 0; read_header(from, at, segment) == UZ_ACCEPTED;
-         at = segment->payload + segment->size)
+    uint64_t at = 0;
+    while (read_header(from, at, segment) == UZ_ACCEPTED) {
         if (segment->id == SEGMENT)
             return true;
+        if (!find_end(from, segment, from->length, &at))
+            return false;
+    }
     return false;
 }
 
 bool next_in_segment(const recording *from, const header *segment, header *child) {
-    bool first = child->payload == 0;
-    if (!first && child->unknown)
-        return false;
-    uint64_t at = first ? segment->payload : child->payload + child->size;
-    return at < segment->payload + segment->size && read_header(from, at, child) == UZ_ACCEPTED;
+    bool endless = from->mode == UZ_LIVE && segment->unknown;
+    uint64_t end = endless ? from->length : segment->payload + segment->size;
+    uint64_t at = segment->payload;
+    if (child->payload != 0) {
+        if (child->unknown && from->mode != UZ_LIVE)
+            return false;
+        if (!find_end(from, child, end, &at))
+            return false;
+    }
+    return at < end && read_header(from, at, child) == UZ_ACCEPTED &&
+           !(endless && ends(SEGMENT, child->id));
+}
+
+void find_around(const recording *from, uint64_t address, surroundings *to) {
+    uint64_t end = 0;
+    uint64_t limit = from->length;
+    header of;
+    to->count = 0;
+    to->start = 0;
+    to->in_header = false;
+    if (from->mode != UZ_LIVE)
+        return;
+    while (to->count < MOST_AROUND && read_header(from, to->start, &of) == UZ_ACCEPTED) {
+        bool master = of.id == SEGMENT || (of.id == CLUSTER && of.unknown);
+        bool told = find_end(from, &of, limit, &end);
+        if (told && address >= end) {
+            to->start = end;
+            continue;
+        }
+        // A header of known size is the question's own matter.
+        to->in_header = master && of.unknown && address < of.payload;
+        if (!told || !master || (address < of.payload && !to->in_header))
+            return;
+        to->masters[to->count++] = of;
+        to->start = of.payload;
+        limit = end < limit ? end : limit;
+        if (to->in_header)
+            return;
+    }
 }
 
 // The rows are those of the address question, which is put for the first byte.
 bool read_head(const recording *from, const header *head, part *to) {
     static uint64_t table[UZ_MOST_NUMBERS];
     uz_place place = uz_whose_byte(from->bytes, (size_t)from->length, head->payload, head->size,
-                                   SEGMENT, head->payload, table, UZ_MOST_NUMBERS);
+                                   SEGMENT, head->payload, table, UZ_MOST_NUMBERS, from->mode);
     *to = (part){.name = "SeekHead",
                  .id = SEEK_HEAD,
                  .parent = SEGMENT,

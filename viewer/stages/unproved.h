@@ -1,8 +1,8 @@
 // What the viewer works out itself because the C face has no call for it yet: the children of a
 // row, the row of an owner, the number in a row, a chapter's first display, whether a text is a
-// label, a tag's value, a track's type, a header, the walk over the segment's children, and the
-// entries of seek heads. None of this is proved. The reader has a proved form of each, and this
-// file goes when the C face has it too.
+// label, a tag's value, a track's type, a header, the walk over the segment's children with the
+// endings of live mode, and the entries of seek heads. None of this is proved. The reader has a
+// proved form of each, and this file goes when the C face has it too.
 #ifndef UNPROVED_H
 #define UNPROVED_H
 
@@ -73,8 +73,23 @@ uint64_t read_header(const recording *from, uint64_t at, header *to);
 bool find_segment(const recording *from, header *segment);
 
 // Steps over the segment's children. Begin with `child` all zeros. False at the segment's end, at a
-// header that can't be read, and behind a child of unknown size.
+// header that can't be read, and behind a child of unknown size; in live mode a Cluster of unknown
+// size is passed over up to its ending.
 bool next_in_segment(const recording *from, const header *segment, header *child);
+
+// The masters around a byte that the owner question does not go into in live mode: the Segment, and
+// a Cluster of unknown size, from the outside in. Where the question is then to begin, in the last
+// of them, and whether it is that one's own header that holds the byte.
+#define MOST_AROUND 4
+typedef struct {
+    header masters[MOST_AROUND];
+    unsigned count;
+    uint64_t start;
+    bool in_header;
+} surroundings;
+
+// Finds them. There are none in plain mode.
+void find_around(const recording *from, uint64_t address, surroundings *to);
 
 // An entry of a seek head: the address of its header, the id that it names, and its position in so
 // many bytes.

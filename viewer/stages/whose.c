@@ -37,21 +37,36 @@ static void tell_element(const recording *from, uint64_t at) {
     putchar('\n');
 }
 
+static void tell_master(const recording *from, uint64_t at) {
+    fputs("  in", stdout);
+    tell_element(from, at);
+}
+
 // The element that holds the byte by the order of the file, and the masters around it from the
-// outside in. A refusal is left in the reply of `file`.
+// outside in. In live mode the question begins behind the headers of unknown size. A refusal is
+// left in the reply of `file`.
 static bool tell_in_file(part *file, uint64_t address) {
     uint64_t chain[UZ_MOST_LINKS];
-    uz_owned owned = owner_in(file, address, chain);
+    surroundings around;
+    uz_owned owned = {UZ_ACCEPTED, 0, 0, 0, 0};
+    find_around(file->from, address, &around);
+    if (around.in_header) {
+        owned.at = around.masters[--around.count].at;
+    } else {
+        file->reply.at = around.start;
+        file->parent = around.count > 0 ? (uint32_t)around.masters[around.count - 1].id : 0;
+        owned = owner_in(file, address, chain);
+    }
     file->reply.refused = owned.refused;
     file->reply.refused_at = owned.refused_at;
     if (owned.refused != UZ_ACCEPTED)
         return false;
     printf("file %s", owned.in_payload ? "payload" : "header");
     tell_element(file->from, owned.at);
-    for (uint64_t i = 0; i < owned.depth; i++) {
-        fputs("  in", stdout);
-        tell_element(file->from, chain[i]);
-    }
+    for (unsigned i = 0; i < around.count; i++)
+        tell_master(file->from, around.masters[i].at);
+    for (uint64_t i = 0; i < owned.depth; i++)
+        tell_master(file->from, chain[i]);
     return true;
 }
 
