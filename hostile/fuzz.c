@@ -39,12 +39,17 @@ static void give_up(const char *what) {
 
 // ---- What guides the fuzzer besides the edges of the code ----
 
-// libFuzzer keeps an input that sets a counter here which none set before: a refusal of a call, a
-// count of heads or rows, a kind at a depth, the length of a text, an owner at a depth, or more
-// steps for each byte.
-#define REFUSALS 0
-#define OWNERS (REFUSALS + 64)
-#define HEADS (OWNERS + 16 + 2 * 16)
+// libFuzzer keeps an input that sets a counter here which none set before: a refusal of a call in a
+// mode, a count of heads or rows, a kind at a depth, the length of a text, an owner at a depth, or
+// more steps for each byte.
+#define CAUSES (UZ_UNKNOWN_SIZE + 1)
+#define FIND_REFUSED 0
+#define WHOSE_REFUSED (FIND_REFUSED + 2 * CAUSES)
+#define OWNER_REFUSED (WHOSE_REFUSED + 2 * CAUSES)
+#define RANGE_REFUSED (OWNER_REFUSED + 2 * CAUSES)
+#define OUTCOMES (RANGE_REFUSED + CAUSES)
+#define OWNERS (OUTCOMES + 2 * 8)
+#define HEADS (OWNERS + 2 * 16)
 #define ROWS (HEADS + 65)
 #define KINDS (ROWS + 16)
 #define TEXTS (KINDS + 8 * 16)
@@ -74,6 +79,15 @@ static slowest of_calls[7];
 static const char *const names[] = {"find",    "whose",    "owner", "chain",
                                     "payload", "too long", "text"};
 
+static void told_mode(void) {
+}
+
+// In which of the two modes a call was made; false for one that is none.
+static bool is_told(unsigned *now_) {
+    *now_ = mode == UZ_LIVE;
+    return mode <= UZ_LIVE;
+}
+
 static void told(cost of) {
     unsigned call = 0;
     while (strcmp(names[call], of.call) != 0)
@@ -98,22 +112,28 @@ static void told(cost of) {
 }
 
 static void told_part(uint32_t part, uz_part said, lent in) {
+    unsigned live;
     (void)part;
-    features[REFUSALS + said.refused] = 1;
-    features[REFUSALS + 48 + (said.id == SEEK_HEAD ? 1 : said.found != 0 ? 2 : 0)] = 1;
+    if (!is_told(&live))
+        return;
+    features[FIND_REFUSED + live * CAUSES + said.refused] = 1;
+    features[OUTCOMES + live * 8 + (said.id == SEEK_HEAD ? 1 : said.found != 0 ? 2 : 0)] = 1;
     features[HEADS + said.heads] = 1;
     rows_seen(said.rows, in);
 }
 
 static void told_place(uz_place said, lent in) {
-    features[REFUSALS + 16 + said.refused] = 1;
-    features[REFUSALS + 52 + said.in_payload] = 1;
+    unsigned live;
+    if (!is_told(&live))
+        return;
+    features[WHOSE_REFUSED + live * CAUSES + said.refused] = 1;
+    features[OUTCOMES + live * 8 + 3 + said.in_payload] = 1;
     rows_seen(said.rows, in);
 }
 
 static void told_range(uint64_t row, uz_range said) {
     (void)row;
-    features[REFUSALS + 32 + said.refused] = 1;
+    features[RANGE_REFUSED + said.refused] = 1;
 }
 
 // Whether it is a text, an empty one, and how long by powers of two.
@@ -122,16 +142,19 @@ static void told_text(uint64_t row, uz_range said) {
     unsigned bits = 0;
     while (said.length >> bits != 0)
         bits++;
-    features[REFUSALS + 54 + (said.refused == UZ_ACCEPTED ? 1 : 0)] = 1;
+    features[OUTCOMES + 5 + (said.refused == UZ_ACCEPTED ? 1 : 0)] = 1;
     features[TEXTS + bits] = 1;
 }
 
 static void told_owner(uz_owned said, uz_owned chained, lent chain) {
+    unsigned live;
     (void)chained;
     (void)chain;
-    features[OWNERS + said.refused] = 1;
+    if (!is_told(&live))
+        return;
+    features[OWNER_REFUSED + live * CAUSES + said.refused] = 1;
     if (said.refused == UZ_ACCEPTED)
-        features[OWNERS + 16 + said.depth * 2 + said.in_payload] = 1;
+        features[OWNERS + said.depth * 2 + said.in_payload] = 1;
 }
 
 static void at_end(void) {

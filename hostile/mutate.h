@@ -172,12 +172,23 @@ static int new_element(unsigned depth) {
     return made;
 }
 
-// A recording: a segment with heads, parts and other elements. Answers its first element.
+// The size of an element becomes unknown: all ones in so many bytes.
+static void open_end(int which, unsigned width) {
+    nodes[which].damaged = true;
+    nodes[which].width = width;
+    nodes[which].claimed = (UINT64_C(1) << 7 * width) - 1;
+}
+
+// A recording: a segment with heads, parts and other elements, at times a live one. Answers its
+// first element.
 static int new_recording(void) {
     int segment = new_node(SEGMENT);
+    bool live = any(2) == 0;
     if (segment < 0)
         return -1;
     nodes[segment].holds = true;
+    if (live && any(3) != 0)
+        open_end(segment, any(2) == 0 ? 1 : 8);
     for (uint64_t n = 1 + any(8); n > 0; n--) {
         int child;
         uint64_t kind = any(4);
@@ -199,6 +210,10 @@ static int new_recording(void) {
         }
         if (child < 0)
             break;
+        if (live && any(2) == 0 && nodes[child].holds) {
+            nodes[child].id = CLUSTER;
+            open_end(child, any(2) == 0 ? 1 : 8);
+        }
         nodes[child].next = nodes[segment].first;
         nodes[segment].first = child;
     }
@@ -233,9 +248,15 @@ static int copied(int from) {
 static void change(int *root, int which) {
     node *it = &nodes[which];
     int made;
-    switch (any(14)) {
+    switch (any(16)) {
     case 0:
         it->id = any_id();
+        break;
+    case 14: // An unknown size, mostly on a Segment or Cluster.
+    case 15:
+        if (any(2) == 0)
+            it->id = any(3) == 0 ? SEGMENT : CLUSTER;
+        open_end(which, 1 + (unsigned)any(8));
         break;
     case 1:
         it->damaged = true;

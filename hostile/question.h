@@ -18,10 +18,13 @@
 // first recording, nothing behind the header of the owner is there.
 //
 // Each call is made twice: on a recording and a table that end at an inaccessible page, then on
-// ones that begin behind such a page. For text these pages are right behind and right before the
-// bytes that may be looked at. The recording can only be read. Both replies and tables have
-// to be the same, and all that the header says of replies has to hold. Each call is timed by the
-// processor's time of this thread, and held to a bound that is linear in what it may look at.
+// ones that begin behind such a page. Each question is put in plain mode and in live mode, and in a
+// mode that is none, which has to be 14. What live mode says has to be what plain mode says where
+// no header of unknown size is in the recording; of a payload and of an owner it is 17, or the
+// same. For text these pages are right behind and right before the bytes that may be looked at. The
+// recording can only be read. Both replies and tables have to be the same, and all that the header
+// says of replies has to hold. Each call is timed by the processor's time of this thread, and held
+// to a bound that is linear in what it may look at.
 #ifndef HOSTILE_QUESTION_H
 #define HOSTILE_QUESTION_H
 
@@ -79,6 +82,8 @@ typedef struct {
     uint64_t numbers, bytes, time, steps;
 } cost;
 
+// Told before the answers of a mode come; those of a mode that is none are not told.
+static void told_mode(void);
 static void told(cost of);
 static void told_part(uint32_t part, uz_part said, lent in);
 static void told_place(uz_place said, lent in);
@@ -193,6 +198,26 @@ static uint64_t most_heads(recording from) {
 
 static uint64_t kept[1 << 16];
 
+// What plain mode says to a question that was put in live mode, in a table of its own.
+static uint64_t plain_table[1 << 16];
+
+static void check_part_alike(recording from, uint32_t part, lent to, uz_part said) {
+    if (mode != UZ_LIVE || may_differ(from))
+        return;
+    uz_part plain = uz_find_part(from.bytes, from.length, part, plain_table, to.numbers, UZ_PLAIN);
+    check(is_part(plain, said), "without unknown sizes both modes find the same");
+    check(memcmp(plain_table, to.table, to.numbers * sizeof *to.table) == 0, "and the same rows");
+}
+
+static void check_place_alike(recording from, pointed byte, lent to, uz_place said) {
+    if (mode != UZ_LIVE || said.refused == UZ_UNKNOWN_SIZE)
+        return;
+    uz_place plain = uz_whose_byte(from.bytes, from.length, byte.start, byte.size, byte.parent,
+                                   byte.address, plain_table, to.numbers, UZ_PLAIN);
+    check(same_place(plain, said), "a payload is 17 in live mode, or the same in both");
+    check(memcmp(plain_table, to.table, to.numbers * sizeof *to.table) == 0, "and its rows too");
+}
+
 static uz_part ask_part(const question *asked, uint32_t part, size_t numbers) {
     uz_part first = {0, 0, 0, 0, 0, 0, 0, 0};
     for (unsigned front = 0; front < 2; front++) {
@@ -201,8 +226,9 @@ static uz_part ask_part(const question *asked, uint32_t part, size_t numbers) {
         uint64_t heads = most_heads(from);
         cost of = {"find", numbers, (1 + heads) * from.length, 0, 0};
         uz_part said;
-        TIMED(of, said, uz_find_part(from.bytes, from.length, part, to.table, to.numbers));
+        TIMED(of, said, uz_find_part(from.bytes, from.length, part, to.table, to.numbers, mode));
         check_part(from, part, to, said);
+        check_part_alike(from, part, to, said);
         check(said.heads <= heads, "no more heads than there are ids of one");
         if (front == 0) {
             first = said;
@@ -227,8 +253,9 @@ static uz_place ask_place(const question *asked, uint64_t start, uint64_t size, 
         uz_place said;
         TIMED(of, said,
               uz_whose_byte(from.bytes, from.length, start, size, parent, address, to.table,
-                            to.numbers));
+                            to.numbers, mode));
         check_place(from, start, size, address, to, said);
+        check_place_alike(from, (pointed){start, size, parent, address}, to, said);
         if (front == 0) {
             first = said;
             memcpy(kept, to.table, numbers * sizeof *kept);
@@ -357,15 +384,21 @@ static uz_owned ask_owner(const question *asked, pointed byte, size_t links, len
             front == 0 ? before_body(asked, due) : placed(asked->bytes, asked->length, true);
         cost of = {"owner", 0, down.looked_at, 0, 0};
         TIMED(of, said,
-              uz_owner(from.bytes, from.length, byte.start, byte.size, byte.parent, byte.address));
+              uz_owner(from.bytes, from.length, byte.start, byte.size, byte.parent, byte.address,
+                       mode));
         lent to = lend_for(links, front != 0);
         of = (cost){"chain", links, down.looked_at, 0, 0};
         TIMED(of, chained,
               uz_owner_chain(from.bytes, from.length, byte.start, byte.size, byte.parent,
-                             byte.address, to.table, to.numbers));
+                             byte.address, to.table, to.numbers, mode));
         check_owned(all, byte, said);
         check(same_owned(said, due), "the owner by the rule");
         check_chain(to, chained, due, &down);
+        if (mode == UZ_LIVE && said.refused != UZ_UNKNOWN_SIZE)
+            check(same_owned(uz_owner(from.bytes, from.length, byte.start, byte.size, byte.parent,
+                                      byte.address, UZ_PLAIN),
+                             said),
+                  "an owner is 17 in live mode, or the same in both");
         *chain = to;
     }
     told_owner(said, chained, *chain);
@@ -427,7 +460,7 @@ static void ask_too_long(const question *asked) {
     lent to = lend_for(asked->numbers, false);
     cost of = {"too long", asked->numbers, 0, 0, 0};
     uz_part part;
-    TIMED(of, part, uz_find_part(none.bytes, none.length, asked->id, to.table, to.numbers));
+    TIMED(of, part, uz_find_part(none.bytes, none.length, asked->id, to.table, to.numbers, mode));
     check(part.refused == UZ_BAD_ARGUMENT, "too long a recording is refused");
     check_part(none, asked->id, to, part);
     told_part(asked->id, part, to);
@@ -435,17 +468,18 @@ static void ask_too_long(const question *asked) {
     uz_place place;
     TIMED(of, place,
           uz_whose_byte(none.bytes, none.length, asked->start, asked->size, asked->id,
-                        asked->address, to.table, to.numbers));
+                        asked->address, to.table, to.numbers, mode));
     check(place.refused == UZ_BAD_ARGUMENT, "too long a recording is refused");
     check_place(none, asked->start, asked->size, asked->address, to, place);
     told_place(place, to);
     lent chain = lend_for(asked->header, true);
     uz_owned owner, chained;
     TIMED(of, owner,
-          uz_owner(none.bytes, none.length, asked->start, asked->size, asked->id, asked->address));
+          uz_owner(none.bytes, none.length, asked->start, asked->size, asked->id, asked->address,
+                   mode));
     TIMED(of, chained,
           uz_owner_chain(none.bytes, none.length, asked->start, asked->size, asked->id,
-                         asked->address, chain.table, chain.numbers));
+                         asked->address, chain.table, chain.numbers, mode));
     way down = {{0}, 0};
     check(same_owned(owner, no_owner(UZ_BAD_ARGUMENT, 0)), "too long a recording has no owner");
     check_chain(chain, chained, owner, &down);
@@ -457,7 +491,7 @@ static void ask_too_long(const question *asked) {
     ask_text(NULL, 0, longer, to.table, to.numbers, 0, (uz_range){UZ_BAD_ARGUMENT, 0, 0});
 }
 
-static void ask(const question *asked) {
+static void ask_now(const question *asked) {
     lent chain;
     switch (asked->call) {
     case FIND:
@@ -482,6 +516,22 @@ static void ask(const question *asked) {
     default:
         ask_too_long(asked);
     }
+}
+
+// In both modes, and in one that is none. What has no mode is asked once.
+static void ask(const question *asked) {
+    bool once = asked->call == PAYLOAD || asked->call == TEXT;
+    for (mode = UZ_PLAIN; mode <= UZ_LIVE; mode++) {
+        told_mode();
+        ask_now(asked);
+        if (once)
+            break;
+    }
+    if (!once) {
+        mode = (uint32_t)(asked->address ^ asked->size ^ asked->length) | 2;
+        ask_now(asked);
+    }
+    mode = UZ_PLAIN;
 }
 
 #endif

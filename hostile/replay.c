@@ -1,6 +1,8 @@
 // Asks kept questions again, of the archive as it is shipped or of one that counts its steps.
 //
-//   replay FILE..          prints what each question gives; FILE is laid out as question.h says
+//   replay FILE..          prints what each question gives, in both modes where they differ; FILE
+//   is
+//                          laid out as question.h says
 //   replay --cost FILE..   prints the dearest call of each: nanoseconds and steps, in all and a
 //   byte replay --sizes FILE..  prints how the time grows with the size, for shapes made here and
 //   for each
@@ -44,6 +46,42 @@ static void give_up(const char *what) {
 static cost dearest;
 static uint64_t calls;
 
+// What is told of the mode that is asked now, plain or live, is gathered: what live mode says is
+// printed where it is something else.
+static char *said_in[2];
+static size_t said_length[2];
+static FILE *sayings;
+
+static void end_saying(void) {
+    if (sayings != NULL && fclose(sayings) != 0)
+        give_up("there is no memory for an answer");
+    sayings = NULL;
+}
+
+static void told_mode(void) {
+    end_saying();
+    free(said_in[mode]);
+    said_in[mode] = NULL;
+    sayings = open_memstream(&said_in[mode], &said_length[mode]);
+    if (sayings == NULL)
+        give_up("there is no memory for an answer");
+}
+
+static void print_said(void) {
+    end_saying();
+    printf("%s", said_in[UZ_PLAIN]);
+    if (said_in[UZ_LIVE] != NULL && strcmp(said_in[UZ_PLAIN], said_in[UZ_LIVE]) == 0)
+        printf("live: the same\n");
+    else if (said_in[UZ_LIVE] != NULL)
+        printf("live:\n%s", said_in[UZ_LIVE]);
+    free(said_in[UZ_LIVE]);
+    said_in[UZ_LIVE] = NULL;
+}
+
+static bool is_telling(void) {
+    return telling && mode <= UZ_LIVE;
+}
+
 static double each(uint64_t all, uint64_t bytes) {
     return (double)all / (double)(bytes + 1);
 }
@@ -66,52 +104,56 @@ static uint64_t digest(lent in) {
 
 // Some rows by their numbers, all by the digest.
 static void tell_rows(uint64_t rows, lent in) {
-    printf(" rows %" PRIu64 " table %016" PRIX64 "\n", rows, digest(in));
+    fprintf(sayings, " rows %" PRIu64 " table %016" PRIX64 "\n", rows, digest(in));
     for (uint64_t row = 0; row < rows && row < 6; row++)
-        printf("  %" PRIX64 " %" PRIu64 " %" PRIu64 " %" PRIu64 " %" PRIu64 " %" PRIu64 " %" PRIu64
-               " %" PRIu64 "\n",
-               cell(in, row, UZ_ID), cell(in, row, UZ_PARENT), cell(in, row, UZ_ADDRESS),
-               cell(in, row, UZ_HEADER), cell(in, row, UZ_PAYLOAD), cell(in, row, UZ_KIND),
-               cell(in, row, UZ_DEPTH), cell(in, row, UZ_AFTER));
+        fprintf(sayings,
+                "  %" PRIX64 " %" PRIu64 " %" PRIu64 " %" PRIu64 " %" PRIu64 " %" PRIu64 " %" PRIu64
+                " %" PRIu64 "\n",
+                cell(in, row, UZ_ID), cell(in, row, UZ_PARENT), cell(in, row, UZ_ADDRESS),
+                cell(in, row, UZ_HEADER), cell(in, row, UZ_PAYLOAD), cell(in, row, UZ_KIND),
+                cell(in, row, UZ_DEPTH), cell(in, row, UZ_AFTER));
     if (rows > 6)
-        printf("  ...\n");
+        fprintf(sayings, "  ...\n");
 }
 
 static void told_part(uint32_t part, uz_part said, lent in) {
-    if (!telling)
+    if (!is_telling())
         return;
-    printf("find %" PRIX32 ":", part);
+    fprintf(sayings, "find %" PRIX32 ":", part);
     if (said.refused == UZ_INVALID_SEEK_HEAD)
-        printf(" refused 8 id %" PRIX64 " at %" PRIu64 "\n", said.id, said.refused_at);
+        fprintf(sayings, " refused 8 id %" PRIX64 " at %" PRIu64 "\n", said.id, said.refused_at);
     else if (said.refused != UZ_ACCEPTED)
-        printf(" refused %" PRIu64 " at %" PRIu64 "\n", said.refused, said.refused_at);
+        fprintf(sayings, " refused %" PRIu64 " at %" PRIu64 "\n", said.refused, said.refused_at);
     else if (said.found == 0)
-        printf(" absent heads %" PRIu64 "\n", said.heads);
+        fprintf(sayings, " absent heads %" PRIu64 "\n", said.heads);
     else {
-        printf(" at %" PRIu64 " size %" PRIu64 " heads %" PRIu64, said.at, said.size, said.heads);
+        fprintf(sayings, " at %" PRIu64 " size %" PRIu64 " heads %" PRIu64, said.at, said.size,
+                said.heads);
         tell_rows(said.rows, in);
     }
 }
 
 static void told_place(uz_place said, lent in) {
-    if (!telling)
+    if (!is_telling())
         return;
     if (said.refused != UZ_ACCEPTED) {
-        printf("whose: refused %" PRIu64 " at %" PRIu64 "\n", said.refused, said.refused_at);
+        fprintf(sayings, "whose: refused %" PRIu64 " at %" PRIu64 "\n", said.refused,
+                said.refused_at);
         return;
     }
-    printf("whose: row %" PRIu64 " %s", said.row, said.in_payload != 0 ? "payload" : "header");
+    fprintf(sayings, "whose: row %" PRIu64 " %s", said.row,
+            said.in_payload != 0 ? "payload" : "header");
     tell_rows(said.rows, in);
 }
 
 static void tell_range(const char *call, uint64_t row, uz_range said) {
-    if (!telling)
+    if (!is_telling())
         return;
     if (said.refused != UZ_ACCEPTED)
-        printf("%s %" PRIu64 ": refused %" PRIu64 "\n", call, row, said.refused);
+        fprintf(sayings, "%s %" PRIu64 ": refused %" PRIu64 "\n", call, row, said.refused);
     else
-        printf("%s %" PRIu64 ": at %" PRIu64 " length %" PRIu64 "\n", call, row, said.at,
-               said.length);
+        fprintf(sayings, "%s %" PRIu64 ": at %" PRIu64 " length %" PRIu64 "\n", call, row, said.at,
+                said.length);
 }
 
 static void told_range(uint64_t row, uz_range said) {
@@ -123,26 +165,26 @@ static void told_text(uint64_t row, uz_range said) {
 }
 
 static void tell_broken(uz_owned said) {
-    printf(" refused %" PRIu64 " at %" PRIu64 "\n", said.refused, said.refused_at);
+    fprintf(sayings, " refused %" PRIu64 " at %" PRIu64 "\n", said.refused, said.refused_at);
 }
 
 static void told_owner(uz_owned said, uz_owned chained, lent chain) {
-    if (!telling)
+    if (!is_telling())
         return;
-    printf("owner:");
+    fprintf(sayings, "owner:");
     if (said.refused != UZ_ACCEPTED)
         tell_broken(said);
     else
-        printf(" %s %" PRIu64 " depth %" PRIu64 "\n", said.in_payload != 0 ? "payload" : "header",
-               said.at, said.depth);
-    printf("chain of %zu:", chain.numbers);
+        fprintf(sayings, " %s %" PRIu64 " depth %" PRIu64 "\n",
+                said.in_payload != 0 ? "payload" : "header", said.at, said.depth);
+    fprintf(sayings, "chain of %zu:", chain.numbers);
     if (chained.refused != UZ_ACCEPTED) {
         tell_broken(chained);
         return;
     }
     for (size_t i = 0; i < chain.numbers; i++)
-        printf(" %" PRIu64, chain.table[i]);
-    printf("\n");
+        fprintf(sayings, " %" PRIu64, chain.table[i]);
+    fprintf(sayings, "\n");
 }
 
 // ---- Files ----
@@ -251,6 +293,12 @@ static void heads_over_one_another(output *to, size_t fill) {
     }
 }
 
+// The header of an element of unknown size.
+static void put_open(output *to, uint32_t id) {
+    put_big(to, id, 4);
+    put_big(to, 0xFF, 1);
+}
+
 // So many tiny elements, and behind them a master with as many, down to the deepest.
 static void tiny_in_masters(output *to, size_t tiny) {
     static const uint8_t element[] = {0xEC, 0x80};
@@ -276,6 +324,9 @@ typedef enum {
     TINY_IN_PART,
     TINY_WHOSE,
     ASCII_WHOSE,
+    LIVE_BLOCKS,
+    LIVE_CLUSTERS,
+    LIVE_BEFORE_SEGMENT,
     SHOWN,
     TINY_OWNER,
     DEEP_OWNER,
@@ -294,6 +345,9 @@ static const char *const shapes[] = {
     "tiny elements in the part (13 from 4,097 on)",
     "tiny elements, address question",
     "a text in ASCII, address question",
+    "tiny blocks in a live Cluster",
+    "live Clusters of no bytes",
+    "tiny blocks in a live Cluster before the segment",
     "a text in ASCII, shown",
     "tiny elements, owner",
     "tiny elements in each of 15 masters, owner",
@@ -322,6 +376,18 @@ static void write_shape(shape of, size_t size, output *to) {
             write_tree(to, inner);
         if (of == TINY_BEFORE_SEGMENT)
             write_tree(to, master_of(SEGMENT, -1));
+        break;
+    case LIVE_BLOCKS:
+    case LIVE_CLUSTERS:
+    case LIVE_BEFORE_SEGMENT:
+        if (of != LIVE_BEFORE_SEGMENT)
+            put_open(to, SEGMENT);
+        do {
+            put_open(to, CLUSTER);
+            for (size_t n = 0; of != LIVE_CLUSTERS && n < tiny; n++)
+                put(to, (const uint8_t *)"\xA3\x80", 2);
+        } while (to->length < size);
+        write_tree(to, master_of(of == LIVE_BEFORE_SEGMENT ? SEGMENT : UZ_TAGS, -1));
         break;
     case DEEP_OWNER:
         tiny_in_masters(to, tiny / (UZ_MOST_DEPTH + 1));
@@ -463,6 +529,8 @@ int main(int count, char **words) {
         }
         dearest.call = NULL;
         ask(&asked);
+        if (telling)
+            print_said();
         if (costs && dearest.call != NULL)
             printf("%.2f %.2f %" PRIu64 " %" PRIu64 " %" PRIu64 " %" PRIu64 " %s %s\n",
                    each(dearest.steps, dearest.bytes), each(dearest.time, dearest.bytes),
