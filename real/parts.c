@@ -1,18 +1,22 @@
-// The parts of a large recording, by the C face: parts FILE prints for each of the four parts one line,
+// The parts of a large recording, by the C face: parts [--live] FILE prints for each of the four parts one line,
 //
 //   part ID refused N at A | part ID absent heads H rows 0 | part ID at A size S heads H rows N / row / row ..
 //
 // with each row's numbers (id in hexadecimal digits, the rest decimal) as `ask` tells them (docs/ASK.md), and
 // behind them where uz_row_payload says that the row's payload is and uz_shown_text that its shown text is, each as
 // ADDRESS+LENGTH or 'refused N'.
-// parts FILE ID ADDRESS.. prints for each address of that part what uz_whose_byte says: 'whose ADDRESS row R header',
-// 'whose ADDRESS row R payload' or 'whose ADDRESS refused N at A'.
+// parts [--live] --cuts FILE prints for each length from 0 to the file's, of its first bytes alone, 'cut LENGTH' and
+// these four lines without rows.
+// parts [--live] FILE ID ADDRESS.. prints for each address of that part what uz_whose_byte says: 'whose ADDRESS row R
+// header', 'whose ADDRESS row R payload' or 'whose ADDRESS refused N at A'.
 // Status 0: answered. Status 1: the file can't be read. Status 2: wrong arguments.
 #include "uzrafmed.h"
 
 #include <inttypes.h>
+#include <stdbool.h>
 #include <stdio.h>
 #include <stdlib.h>
+#include <string.h>
 
 typedef struct {
     uint32_t id;
@@ -30,6 +34,8 @@ static const part parts[] = {
 static uint64_t table[UZ_MOST_NUMBERS];
 static uint8_t *recording;
 static size_t length;
+static uint32_t mode = UZ_PLAIN;
+static bool cutting;
 
 static uint64_t cell(uint64_t row, unsigned column) {
     return table[row * UZ_WIDTH + column];
@@ -53,7 +59,7 @@ static void tell_rows(uint64_t rows) {
 }
 
 static void tell_part(const part *of) {
-    uz_part reply = uz_find_part(recording, length, of->id, table, UZ_MOST_NUMBERS);
+    uz_part reply = uz_find_part(recording, length, of->id, table, UZ_MOST_NUMBERS, mode);
     printf("part %" PRIX32, of->id);
     if (reply.refused != UZ_ACCEPTED)
         printf(" refused %" PRIu64 " at %" PRIu64, reply.refused, reply.refused_at);
@@ -62,15 +68,16 @@ static void tell_part(const part *of) {
     else {
         printf(" at %" PRIu64 " size %" PRIu64 " heads %" PRIu64 " rows %" PRIu64, reply.at, reply.size,
                reply.heads, reply.rows);
-        tell_rows(reply.rows);
+        if (!cutting)
+            tell_rows(reply.rows);
     }
     putchar('\n');
 }
 
 static void tell_address(const part *of, uint64_t address) {
-    uz_part reply = uz_find_part(recording, length, of->id, table, UZ_MOST_NUMBERS);
+    uz_part reply = uz_find_part(recording, length, of->id, table, UZ_MOST_NUMBERS, mode);
     uz_place place =
-        uz_whose_byte(recording, length, reply.at, reply.size, of->parent, address, table, UZ_MOST_NUMBERS);
+        uz_whose_byte(recording, length, reply.at, reply.size, of->parent, address, table, UZ_MOST_NUMBERS, mode);
     if (place.refused != UZ_ACCEPTED)
         printf("whose %" PRIu64 " refused %" PRIu64 " at %" PRIu64 "\n", address, place.refused, place.refused_at);
     else
@@ -91,14 +98,36 @@ static int load(const char *name) {
     return failed;
 }
 
+// Every length of the recording. What is behind a cut is not there for the reader: it has the length alone.
+static void tell_cuts(void) {
+    size_t whole = length;
+    for (length = 0; length <= whole; length++) {
+        printf("cut %zu\n", length);
+        for (size_t i = 0; i < PARTS; i++)
+            tell_part(&parts[i]);
+    }
+}
+
 int main(int count, char **words) {
-    if (count < 2) {
-        fputs("usage: parts FILE [ID ADDRESS..]\n", stderr);
+    for (; count > 1 && words[1][0] == '-'; count--, words++) {
+        if (strcmp(words[1], "--live") == 0)
+            mode = UZ_LIVE;
+        else if (strcmp(words[1], "--cuts") == 0)
+            cutting = true;
+        else
+            count = 1;
+    }
+    if (count < 2 || (cutting && count > 2)) {
+        fputs("usage: parts [--live] FILE [ID ADDRESS..], or parts [--live] --cuts FILE\n", stderr);
         return 2;
     }
     if (load(words[1])) {
         fputs("parts: the file can't be read\n", stderr);
         return 1;
+    }
+    if (cutting) {
+        tell_cuts();
+        return ferror(stdout) || fflush(stdout) != 0;
     }
     for (size_t i = 0; i < PARTS; i++) {
         if (count == 2)

@@ -24,6 +24,8 @@ UIDS = [('tracks', 'track', 'TrackUID', 'Track UID'), ('editions', 'edition', 'E
         ('chapters', 'chapter', 'ChapterUID', 'Chapter UID'),
         ('attachments', 'attachment', 'AttachmentUID', 'Attachment UID')]
 TYPES = {1: 'video', 2: 'audio', 3: 'complex', 16: 'logo', 17: 'subtitle', 18: 'buttons', 32: 'control'}
+# What it says where live mode may find more.
+NOTE = 'sizes in it are not known: stages --live FILE may find more'
 # What the viewer remarks on a file, and the refusals that each explains better than their own words.
 REMARKS = [
     ('endless', r'the size of the segment is not known: .*', {1}),
@@ -408,11 +410,19 @@ class Viewed(Against):
             part.name, part.refused, ' ' + part.entry if part.entry else '', part.refused_at, part.refused_at, there,
             part.meaning)
 
+    def note(self, parts):
+        """That live mode may find more: a size is unknown, and a part is absent though no seek head says so."""
+        info = self.tools.info
+        endless = info.segment.size is None or any(e.label == 'Cluster' and e.size is None for e in info.level1())
+        walked = any(part.state == 'absent' and not info.heads() for part, _, _ in parts)
+        return NOTE if endless and walked and info.segment.data != 0 else None
+
     def errors(self, told, parts, explained, plain):
         """The lines on standard error: absent parts in the plain form, refused parts, remarks, and each advice once."""
         absent = [part.name for part, _, _ in parts if part.state == 'absent' and part.stands is None]
         out = ['not in the recording: ' + ', '.join(absent)] if plain and absent and \
             self.tools.info.segment.data != 0 else []
+        out += [told['note']] if plain and told['note'] else []
         out += [self.refusal(part) for part, _, _ in parts if part.refused is not None]
         out += [one['remark'] for one in told['remarks']]
         advice = [one['next'] for one in told['remarks'] if one['next']]
@@ -780,10 +790,13 @@ class Viewed(Against):
         except ValueError as fault:
             self.fail('status %d, and the JSON can\'t be read: %s' % (status, fault))
             return self
-        self.keys('the JSON', told, 'length', 'parts', 'remarks', 'editions', 'tags', 'tracks', 'attachments')
+        self.keys('the JSON', told, 'length', 'mode', 'parts', 'remarks', 'note', 'editions', 'tags', 'tracks',
+                  'attachments')
         self.same('length', told['length'], len(self.bytes))
+        self.same('mode', told['mode'], 'plain')
         self.texts(told)
         parts = self.parts(told)
+        self.same('note', told['note'], self.note(parts))
         odd = bool(told['remarks']) or any(part.refused is not None for part, _, _ in parts)
         explained = self.remarks(told, parts)
         # The same lines for each way of asking, but that the plain one tells absent parts too.
