@@ -4,11 +4,11 @@
   It implements the rules of docs/01-scope.md, which comments here call document 01, as later requests change them
   (docs/DECISIONS.md: a row has eight numbers where document 01 has seven, a refusal has an address, a shown text ends
   before its first zero byte, the address question can be put without a table, and a live mode knows sizes that are
-  unknown). Those rules rest on RFC 8794 (sizes, integers, floats, dates, the end of a text), RFC 9559 (the ids) and
-  RFC 3629 (UTF-8). It is proved that every call
-  ends and answers, on all bytes and all numbers, as the definitions in crates/NAME/specs say, which are written from
-  document 01 and these requests. docs/TRUSTED.md lists what has to be believed; this header, which is written by hand,
-  is in it. What is asked of the caller is in "What every call asks and promises" below.
+  unknown). Those rules rest on RFC 8794 (sizes, integers, floats, dates, the end of a text), RFC 9559 (the ids) and RFC
+  3629 (UTF-8). It is proved that every call ends and answers, on all bytes and all numbers, as the definitions in
+  crates/NAME/specs say, which are written from document 01 and these requests. docs/TRUSTED.md lists what has to be
+  believed; this header, which is written by hand, is in it. What is asked of the caller is in "What every call asks and
+  promises" below.
 
   The library is for x86-64 programs under System V's calling convention. Of the C library it needs memset and its
   like (memcpy, memmove, memcmp) and nothing else. `tools/install PREFIX` installs it as libuzrafmed.a and
@@ -223,7 +223,7 @@ extern "C" {
 #define UZ_TOO_MANY_HEADS 11   /* 64 linked seek heads were read, and the last names one more */
 #define UZ_TOO_DEEP 12         /* elements are nested more than 16 deep */
 #define UZ_NO_FREE_ROW 13      /* the part has more elements than the table has rows, 4096 at most */
-#define UZ_BAD_ARGUMENT 14     /* a length, part, mode, start or row that was given is none, or the row is no text */
+#define UZ_BAD_ARGUMENT 14     /* a length, part, mode, start or row given is out of bounds, or the row is no text */
 #define UZ_OUTSIDE 15          /* the address is outside the payload */
 #define UZ_UNKNOWN_SIZE 17     /* live mode: the size of an element other than a Segment or Cluster is not known */
 

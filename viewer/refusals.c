@@ -79,7 +79,7 @@ static const uz_words table[] = {
          "no whole rows or more than 4,096, a chain has more than 16 addresses, the part is none "
          "of the four, the mode none of the two, or a row is not in the table or its range not in "
          "the recording; where a text is asked for, also if the row is no text row",
-         "a length, part, mode, start or row that was given is none, or the row is no text",
+         "a length, part, mode, start or row given is out of bounds, or the row is no text",
          "nowhere: it is 0, since the fault is in what was asked",
          "the program that asked is at fault: hold its numbers to uzrafmed.h"},
     [UZ_OUTSIDE] = {"OUTSIDE",

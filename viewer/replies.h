@@ -303,8 +303,8 @@ static bool is_broken(recording from, uint64_t refused, uint64_t at) {
     uint64_t id = 0, size = 0;
     uint64_t payload = at + header(from, at, &id, &size);
     bool whole = size <= from.length - payload;
-    // In live mode an unknown size comes before all else that is said of a header, but for a Segment
-    // or Cluster where a seek entry leads.
+    // In live mode an unknown size comes before all else that is said of a header, but for a
+    // Segment or Cluster where a seek entry leads.
     if (mode == UZ_LIVE && is_unknown(from, at))
         return refused == UZ_UNKNOWN_SIZE ||
                (refused == UZ_STALE_ENTRY && (id == SEGMENT || id == CLUSTER));
@@ -629,8 +629,7 @@ static void check_owned(recording from, pointed asked, uz_owned said) {
         check(header_met || said.refused == UZ_BAD_ARGUMENT || said.refused == UZ_OUTSIDE,
               "owner gives 1, 2, 3, 12, 14, 15 and 17");
         check((said.at | said.in_payload | said.depth) == 0, "a refused owner is zeros");
-        check(!header_met || is_broken(from, said.refused, said.refused_at) ||
-                  said.refused == UZ_PAST_END,
+        check(!header_met || is_broken(from, said.refused, said.refused_at),
               "an owner is broken where it says");
         check(header_met ? said.refused_at >= asked.start : said.refused_at == 0,
               "an owner is not broken before the start");
