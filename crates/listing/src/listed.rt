@@ -38,14 +38,21 @@ fn place_text(page: &mut [u8], held: usize, at: u64, size: u64, rows: u64) -> us
 }
 
 // A part's line, and its rows directly under it.
-fn part_lines(page: &mut [u8], held: usize, recording: &[u8], part: u32, table: &mut [u64]) -> usize
+fn part_lines(
+    page: &mut [u8],
+    held: usize,
+    recording: &[u8],
+    live: bool,
+    part: u32,
+    table: &mut [u64],
+) -> usize
     requires { ⌜ length (now table) ≡ tableNumbers ⌝ }
     requires { ⌜ held + partRoom ≤ length (now page) ⌝ }
-    ensures { λ r. ⌜ Wrote (now (page .entry)) held (partLines (now (recording .entry)) part) r (now (page .exit)) ⌝ }
+    ensures { λ r. ⌜ Wrote (now (page .entry)) held (partLines live (now (recording .entry)) part) r (now (page .exit)) ⌝ }
     ensures { λ r. ⌜ r ≤ held + partRoom ⌝ }
 {
     let named = put_hexadecimal(page, held, b"part ", part as u64);
-    match find_part(recording, part, table) {
+    match find_part(recording, live, part, table) {
         PartReply::Absent { heads } => put(page, named, b" absent\n"),
         PartReply::Refused(refusal) => {
             let cause = refusal.cause;
@@ -66,22 +73,28 @@ fn part_lines(page: &mut [u8], held: usize, recording: &[u8], part: u32, table: 
 }
 
 // The lines of the four parts, each read into the same table.
-fn all_parts(page: &mut [u8], held: usize, recording: &[u8], table: &mut [u64]) -> usize
+fn all_parts(
+    page: &mut [u8],
+    held: usize,
+    recording: &[u8],
+    live: bool,
+    table: &mut [u64],
+) -> usize
     requires { ⌜ length (now table) ≡ tableNumbers ⌝ }
     requires { ⌜ held + 4 * partRoom ≤ length (now page) ⌝ }
-    ensures { λ r. ⌜ Wrote (now (page .entry)) held (allParts (now (recording .entry))) r (now (page .exit)) ⌝ }
+    ensures { λ r. ⌜ Wrote (now (page .entry)) held (allParts live (now (recording .entry))) r (now (page .exit)) ⌝ }
     ensures { λ r. ⌜ r ≤ held + 4 * partRoom ⌝ }
 {
-    let tracks = part_lines(page, held, recording, ids::TRACKS, table);
-    let attachments = part_lines(page, tracks, recording, ids::ATTACHMENTS, table);
-    let chapters = part_lines(page, attachments, recording, ids::CHAPTERS, table);
-    part_lines(page, chapters, recording, ids::TAGS, table)
+    let tracks = part_lines(page, held, recording, live, ids::TRACKS, table);
+    let attachments = part_lines(page, tracks, recording, live, ids::ATTACHMENTS, table);
+    let chapters = part_lines(page, attachments, recording, live, ids::CHAPTERS, table);
+    part_lines(page, chapters, recording, live, ids::TAGS, table)
 }
 
-// Writes the listing at the start of the page, and answers how many bytes it has. A recording of more than 65,536 bytes
+// Writes the listing, in live mode or in old mode, at the start of the page, and answers how many bytes it has. A recording of more than 65,536 bytes
 // is refused with 14.
-pub fn listing(recording: &[u8], page: &mut [u8; PAGE]) -> usize
-    ensures { λ r. ⌜ ListingPromise (now (recording .entry)) (now (page .entry)) r (now (page .exit)) ⌝ }
+pub fn listing(recording: &[u8], live: bool, page: &mut [u8; PAGE]) -> usize
+    ensures { λ r. ⌜ ListingPromise live (now (recording .entry)) (now (page .entry)) r (now (page .exit)) ⌝ }
 {
     if MOST_LISTED < recording.len() {
         return put(page, 0, b"refused 14\n");
@@ -89,5 +102,5 @@ pub fn listing(recording: &[u8], page: &mut [u8; PAGE]) -> usize
     let counted = put_decimal(page, 0, b"recording ", recording.len() as u64);
     let ended = put(page, counted, b"\n");
     let mut table = [0u64; TABLE];
-    all_parts(page, ended, recording, &mut table)
+    all_parts(page, ended, recording, live, &mut table)
 }

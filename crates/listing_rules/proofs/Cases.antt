@@ -16,9 +16,11 @@ use Rattle.seekhead_rules.specs.Seeks.{lastFour, withMembers, entryOf, entries}
 use Rattle.seekhead_rules.specs.Table.{later, latestFrom}
 use Rattle.seekchain_rules.specs.Heads.{sought, lastHead, nextHead, chain}
 use Rattle.seekchain_rules.specs.Lookup.{partAt, byHeads}
-use Rattle.seekchain_rules.specs.Step.{childAt}
-use Rattle.segments_rules.specs.Walk.{walk}
-use Rattle.segments_rules.specs.Segment.{segmentOf, visit, segmentChildren, lookupOf}
+use Rattle.sizes.specs.Unknown.{unknown}
+use Rattle.walks_rules.specs.Step.{isPast, endedBy, barredStep, childAt}
+use Rattle.walks_rules.specs.Walk.{walk}
+use Rattle.walks_rules.specs.Endings.{passOver}
+use Rattle.segments_rules.specs.Segment.{segmentOf, stretchOf, overruns, visit, segmentChildren, lookupOf}
 use Rattle.search_rules.specs.Part.{parentOf, searchOf}
 use Rattle.pages.specs.Text.{glyph, numeral}
 use Rattle.rowtext.specs.Lines.{kindWord, rowPlace, rowLine, rowLines}
@@ -31,6 +33,6 @@ unfolding octetBits bits oneMore widthOf bigEndianFrom bigEndian ofWidth vintOf 
     elements kindIn keeps demoted kindUnder utf8Char behind anyOf goesOn utf8 bodyOf
     span count join refuseIf full siblings element masterBody rows isTable allowed filled
     lastFour withMembers entryOf entries later latestFrom member sought lastHead nextHead chain partAt byHeads
-    childAt walk segmentOf visit segmentChildren lookupOf parentOf searchOf
+    unknown isPast endedBy barredStep childAt walk passOver segmentOf stretchOf overruns visit segmentChildren lookupOf parentOf searchOf
     glyph numeral kindWord rowPlace rowLine rowLines placeText searchText partLines allParts listingOf
 cases-hold = (refl, (refl, (refl, tt)))

@@ -2,6 +2,7 @@
 use Prim.Native.Nat.{ℕ, _≤_, _<_}
 use mathlib.Core.Path.{_≡_, refl, sym, ap, _∙_}
 use mathlib.Core.List.{List, _++_}
+use mathlib.Core.Bool.{Bool}
 use native.Mathlib.Omega.{arith}
 use native.Mathlib.Nat.{zero-add}
 use borrow.Author.Tests.{lt-ltb, le-ltb}
@@ -39,47 +40,47 @@ told-refused r (refused r′) e =
     let n : r′ ≡ r = cc in
     ap refusedText n
 
-module _ (s : List ℕ) (part : ℕ) (t t′ : List ℕ) (l : length t ≡ tableNumbers) where
+module _ (live : Bool) (s : List ℕ) (part : ℕ) (t t′ : List ℕ) (l : length t ≡ tableNumbers) where
   pub absent-text :
-      (heads : ℕ) → PartPromise s part t (Absent heads) t′
-      → searchText (searchOf s part tableNumbers) ≡ ascii " absent\n"
-  absent-text heads p = told-absent heads (searchOf s part tableNumbers) (rw l at (p .reply))
+      (heads : ℕ) → PartPromise live s part t (Absent heads) t′
+      → searchText (searchOf live s part tableNumbers) ≡ ascii " absent\n"
+  absent-text heads p = told-absent heads (searchOf live s part tableNumbers) (rw l at (p .reply))
 
   pub refused-text :
-      (r : Refusal) → PartPromise s part t (Refused r) t′
-      → searchText (searchOf s part tableNumbers) ≡ refusedText r
-  refused-text r p = told-refused r (searchOf s part tableNumbers) (rw l at (p .reply))
+      (r : Refusal) → PartPromise live s part t (Refused r) t′
+      → searchText (searchOf live s part tableNumbers) ≡ refusedText r
+  refused-text r p = told-refused r (searchOf live s part tableNumbers) (rw l at (p .reply))
 
-  module _ (at size n heads : ℕ) (p : PartPromise s part t (Found at size n heads) t′) where
+  module _ (at size n heads : ℕ) (p : PartPromise live s part t (Found at size n heads) t′) where
     pub found-few : n ≤ 1024
-    found-few = let h = found-holds s part t at size n heads t′ p .fits in omega arith
+    found-few = let h = found-holds live s part t at size n heads t′ p .fits in omega arith
 
-    pub found-text : searchText (searchOf s part tableNumbers) ≡ placeText at size n ++ rowLines (rowsOf t′ n)
+    pub found-text : searchText (searchOf live s part tableNumbers) ≡ placeText at size n ++ rowLines (rowsOf t′ n)
     unfolding searchText
     found-text =
-        let h = found-holds s part t at size n heads t′ p in
+        let h = found-holds live s part t at size n heads t′ p in
         let f = h .forest in
-        ap (λ (x : ℕ). searchText (searchOf s part x)) (sym l) ∙ ap searchText (h .searched)
+        ap (λ (x : ℕ). searchText (searchOf live s part x)) (sym l) ∙ ap searchText (h .searched)
         ∙ ap (λ (x : ℕ). placeText at size x ++ rowLines (rows 0 0 at 0 f)) (sym (h .counted))
         ∙ ap (λ (x : List Row). placeText at size n ++ rowLines x) (sym (h .rows-are))
 
 -- The part's id, and what the search comes to.
 pub part-text :
-    (s : List ℕ) (part : ℕ) (text page : List ℕ) (held r : ℕ) (page′ : List ℕ) (r′ : ℕ) (page″ : List ℕ)
-    → searchText (searchOf s part tableNumbers) ≡ text → r′ ≤ length page
+    (live : Bool) (s : List ℕ) (part : ℕ) (text page : List ℕ) (held r : ℕ) (page′ : List ℕ) (r′ : ℕ) (page″ : List ℕ)
+    → searchText (searchOf live s part tableNumbers) ≡ text → r′ ≤ length page
     → Wrote page held (ascii "part " ++ hexadecimal part) r page′ → Wrote page′ r text r′ page″
-    → Wrote page held (partLines s part) r′ page″
+    → Wrote page held (partLines live s part) r′ page″
 unfolding partLines
-part-text s part text page held r page′ r′ page″ e room v w =
+part-text live s part text page held r page′ r′ page″ e room v w =
     rw e (then page held (ascii "part " ++ hexadecimal part) r page′ text r′ page″ v w room)
 
 -- ---- the whole listing
 
 pub listing-is :
-    (s text page : List ℕ) (r : ℕ) (page′ : List ℕ) → listingOf s ≡ text → r ≤ length page → Wrote page 0 text
+    (live : Bool) (s text page : List ℕ) (r : ℕ) (page′ : List ℕ) → listingOf live s ≡ text → r ≤ length page → Wrote page 0 text
     r page′
-    → ListingPromise s page r page′
-listing-is s text page r page′ e l w =
+    → ListingPromise live s page r page′
+listing-is live s text page r page′ e l w =
     let f = sym e in
     record {
       reply = w .ends ∙ zero-add (length text) ∙ ap length f;
@@ -88,12 +89,12 @@ listing-is s text page r page′ e l w =
       long = w .long;
     }
 
-pub too-long : (s : List ℕ) → mostListed < length s → listingOf s ≡ ascii "refused 14\n"
+pub too-long : (live : Bool) (s : List ℕ) → mostListed < length s → listingOf live s ≡ ascii "refused 14\n"
 unfolding listingOf
-too-long s l = rw (lt-ltb mostListed (length s) l)
+too-long live s l = rw (lt-ltb mostListed (length s) l)
 
 pub not-too-long :
-    (s : List ℕ) → length s ≤ mostListed
-    → listingOf s ≡ ascii "recording " ++ decimal (length s) ++ ascii "\n" ++ allParts s
+    (live : Bool) (s : List ℕ) → length s ≤ mostListed
+    → listingOf live s ≡ ascii "recording " ++ decimal (length s) ++ ascii "\n" ++ allParts live s
 unfolding listingOf
-not-too-long s l = rw (le-ltb mostListed (length s) l)
+not-too-long live s l = rw (le-ltb mostListed (length s) l)

@@ -3,4 +3,4 @@ use mathlib.Core.Path.{sym, _∙_}
 use Rattle.listing_rules.specs.Theorems.{OneListing}
 
 pub listing-unique : OneListing
-listing-unique s page r r′ page′ page″ p q = (p .reply ∙ sym (q .reply), p .text ∙ sym (q .text))
+listing-unique live s page r r′ page′ page″ p q = (p .reply ∙ sym (q .reply), p .text ∙ sym (q .text))

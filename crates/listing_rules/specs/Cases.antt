@@ -1,6 +1,7 @@
 -- Worked listings as one table: the bytes of a recording, and its listing.
 use Prim.Native.Nat.{ℕ}
 use mathlib.Core.Path.{_≡_}
+use mathlib.Core.Bool.{false}
 use mathlib.Core.List.{List, [], _∷_, _++_}
 use Rattle.pages.specs.Text.{ascii}
 use Rattle.listing_rules.specs.Listing.{listingOf}
@@ -50,7 +51,7 @@ tooFarListing =
     ++ ascii "part 1254C367 refused 8 5\n"
 
 abbrev pub Holds : Case → Type 0
-Holds (lists s text) = listingOf s ≡ text
+Holds (lists s text) = listingOf false s ≡ text
 
 abbrev pub Hold : List Case → Type 0
 Hold [] = Unit

@@ -1,6 +1,6 @@
 -- The listing of a recording (document 01, 'Program `rows`').
 use Prim.Native.Nat.{ℕ, _*_}
-use mathlib.Core.Bool.{cond}
+use mathlib.Core.Bool.{Bool, cond}
 use mathlib.Core.List.{List, _++_}
 use lib.ListN.{length}
 use lib.Dec.{ltb}
@@ -35,17 +35,17 @@ searchText (absent heads) = ascii " absent\n"
 searchText (refused e) = refusedText e
 searchText (found at size heads f) = placeText at size (count f) ++ rowLines (rowsAt at f)
 
-unfoldable pub partLines : List ℕ → ℕ → List ℕ
-partLines s part = ascii "part " ++ hexadecimal part ++ searchText (searchOf s part tableNumbers)
+unfoldable pub partLines : (live : Bool) → List ℕ → ℕ → List ℕ
+partLines live s part = ascii "part " ++ hexadecimal part ++ searchText (searchOf live s part tableNumbers)
 
 -- The four parts in their order: Tracks, Attachments, Chapters, Tags.
-unfoldable pub allParts : List ℕ → List ℕ
-allParts s =
-    partLines s 0x1654AE6B ++ partLines s 0x1941A469 ++ partLines s 0x1043A770 ++ partLines s 0x1254C367
+unfoldable pub allParts : (live : Bool) → List ℕ → List ℕ
+allParts live s =
+    partLines live s 0x1654AE6B ++ partLines live s 0x1941A469 ++ partLines live s 0x1043A770 ++ partLines live s 0x1254C367
 
 -- The listing; a longer recording is refused with 14.
-unfoldable pub listingOf : List ℕ → List ℕ
-listingOf s =
+unfoldable pub listingOf : (live : Bool) → List ℕ → List ℕ
+listingOf live s =
     cond (ltb mostListed (length s))
     (ascii "refused 14\n")
-    (ascii "recording " ++ decimal (length s) ++ ascii "\n" ++ allParts s)
+    (ascii "recording " ++ decimal (length s) ++ ascii "\n" ++ allParts live s)

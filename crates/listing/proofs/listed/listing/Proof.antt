@@ -10,7 +10,7 @@ returns c =
     let p1 = c .before .before .before in
     let w = c .put .ensures in
     let e = w .ends in
-    listing-is _ _ _ _ _ (too-long _ (p1 .if1 .taken)) (search needs) w
+    listing-is _ _ _ _ _ _ (too-long _ _ (p1 .if1 .taken)) (search needs) w
 
 returns-2 : tie.Need-returns-2
 returns-2 c =
@@ -23,7 +23,7 @@ returns-2 c =
     let (parts, b) = c .before .all-parts .ensures in
     let line = then _ _ _ _ _ _ _ _ first end (search needs) in
     let whole = then _ _ _ _ _ _ _ _ line parts (search needs) in
-    listing-is _ _ _ _ _ (not-too-long _ (p4 .if1 .left)) (search needs) whole
+    listing-is _ _ _ _ _ _ (not-too-long _ _ (p4 .if1 .left)) (search needs) whole
 
 pub listing-spec : {M : Type 1} → statement M
 listing-spec =

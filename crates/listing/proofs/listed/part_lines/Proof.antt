@@ -16,8 +16,8 @@ row-lines-requires c κs =
     let p5 = p4 .before .before .before .before .before .before in
     let (l, p) = p5 .pre in
     let f = rw (p2 .at .given .1) at (p3 .find-part .ensures) in
-    let k = found-few _ _ _ _ l _ _ _ _ f in
-    let t = p3 .find-part .kept .1 .1 .0 in
+    let k = found-few _ _ _ _ _ l _ _ _ _ f in
+    let t = p3 .find-part .kept .1 .1 .1 .0 in
     let (a, x) = p4 .put-hexadecimal .ensures in
     let (b, y) = p1 .place-text .ensures in
     let m = a .long in
@@ -51,7 +51,7 @@ returns c =
     let (a, x) = p4 .put-hexadecimal .ensures in
     let b = c .before .before .put .ensures in
     let e = b .ends in
-    (part-text _ _ _ _ _ _ _ _ _ (absent-text _ _ _ _ l _ f) (omega arith) a b, omega arith)
+    (part-text _ _ _ _ _ _ _ _ _ _ (absent-text _ _ _ _ _ l _ f) (omega arith) a b, omega arith)
 
 returns-2 : tie.Need-returns-2
 returns-2 c =
@@ -72,7 +72,7 @@ returns-2 c =
     let n = b .long in
     let v = then-labelled _ _ _ _ _ (ascii " ") _ _ _ b g (omega arith) in
     let w = then _ _ _ _ _ _ _ _ v d (omega arith) in
-    (part-text _ _ _ _ _ _ _ _ _ (refused-text _ _ _ _ l _ f) (omega arith) a w, omega arith)
+    (part-text _ _ _ _ _ _ _ _ _ _ (refused-text _ _ _ _ _ l _ f) (omega arith) a w, omega arith)
 
 returns-3 : tie.Need-returns-3
 returns-3 c =
@@ -83,13 +83,13 @@ returns-3 c =
     let p6 = p5 .before .before .before .before .before .before in
     let (l, p) = p6 .pre in
     let f = rw (p3 .at .given .1) at (p4 .find-part .ensures) in
-    let k = found-few _ _ _ _ l _ _ _ _ f in
+    let k = found-few _ _ _ _ _ l _ _ _ _ f in
     let (a, x) = p5 .put-hexadecimal .ensures in
     let (b, y) = p2 .place-text .ensures in
     let (d, z) = c .before .before .row-lines .ensures in
     let m = a .long in
     let w = then _ _ _ _ _ _ _ _ b d (omega arith) in
-    (part-text _ _ _ _ _ _ _ _ _ (found-text _ _ _ _ l _ _ _ _ f) (omega arith) a w, omega arith)
+    (part-text _ _ _ _ _ _ _ _ _ _ (found-text _ _ _ _ _ l _ _ _ _ f) (omega arith) a w, omega arith)
 
 pub part-lines-spec : {M : Type 1} → statement M
 part-lines-spec =
