@@ -8,7 +8,7 @@ use Rattle.rows.proofs.list.Tie as tie
 slice-aggregate-write-all : tie.Need-slice-aggregate-write-all
 slice-aggregate-write-all c =
     let l = c .before .before .before .listing in
-    sym (length-take-le (l .result) (l .last .1 .0) (l .ensures .fits))
+    sym (length-take-le (l .result) (l .last .1 .1 .0) (l .ensures .fits))
 
 pub list-spec : {M : Type 1} → statement M
 list-spec =
