@@ -2,6 +2,7 @@
 // without, for the kit's viewer in C.
 //
 // A slice crosses as a pointer and a count, an answer as a struct of numbers. include/uzrafmed.h is the C side.
+mod mode;
 mod owned;
 mod part;
 mod payload;

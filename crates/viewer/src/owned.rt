@@ -1,10 +1,17 @@
 // `uz_owner` and `uz_owner_chain`: the element that holds an address of a payload, by headers alone.
 ghost use mathlib.Core.Path.{_≡_};
+ghost use Rattle.refusals.specs.Refusals.{badArgument};
+ghost use Rattle.owner_rules.specs.declared.owner.OwnerReply.the-variants.{Refused as NoOwner};
 ghost use Rattle.viewer_rules.specs.Faces.{ownedFace};
 ghost use Rattle.viewer_rules.specs.Promise.{UzOwnerPromise, UzChainPromise};
+use crate::mode::chosen_mode;
 use owner::owner;
 use owner::owner_chain;
 use owner_rules::OwnerReply;
+use refusals::Cause;
+use refusals::Refusal;
+use rowstore::clear;
+use viewer_rules::Chosen;
 use viewer_rules::UzOwned;
 
 // How the reply crosses to C.
@@ -40,6 +47,16 @@ fn owned_face(reply: OwnerReply) -> UzOwned
     }
 }
 
+// What is told where no mode is named.
+fn no_mode() -> OwnerReply
+    ensures { λ r. ⌜ r ≡ NoOwner badArgument ⌝ }
+{
+    OwnerReply::Refused(Refusal {
+        address: 0,
+        cause: Cause::BadArgument,
+    })
+}
+
 #[no_mangle]
 pub extern "C" fn uz_owner(
     recording: &[u8],
@@ -47,10 +64,14 @@ pub extern "C" fn uz_owner(
     size: u64,
     parent: u32,
     address: u64,
+    mode: u32,
 ) -> UzOwned
-    ensures { λ r. ⌜ UzOwnerPromise (now (recording .entry)) start size parent address r ⌝ }
+    ensures { λ r. ⌜ UzOwnerPromise mode (now (recording .entry)) start size parent address r ⌝ }
 {
-    owned_face(owner(recording, start, size, parent, address))
+    match chosen_mode(mode) {
+        Chosen::Mode(live) => owned_face(owner(recording, live, start, size, parent, address)),
+        Chosen::NoMode => owned_face(no_mode()),
+    }
 }
 
 #[no_mangle]
@@ -61,9 +82,18 @@ pub extern "C" fn uz_owner_chain(
     parent: u32,
     address: u64,
     chain: &mut [u64],
+    mode: u32,
 ) -> UzOwned
-    ensures { λ r. ⌜ UzChainPromise (now (recording .entry)) start size parent address
+    ensures { λ r. ⌜ UzChainPromise mode (now (recording .entry)) start size parent address
         (now (chain .entry)) r (now (chain .exit)) ⌝ }
 {
-    owned_face(owner_chain(recording, start, size, parent, address, chain))
+    match chosen_mode(mode) {
+        Chosen::Mode(live) => owned_face(owner_chain(
+            recording, live, start, size, parent, address, chain,
+        )),
+        Chosen::NoMode => {
+            clear(chain);
+            owned_face(no_mode())
+        }
+    }
 }

@@ -10,11 +10,12 @@ use Rattle.refusals.proofs.Listed.{listed}
 use Rattle.bodies_rules.specs.declared.body.Range.{Range}
 use Rattle.places_rules.specs.Payload.{payloadRange}
 use Rattle.places_rules.specs.Promise.{valuesOf}
-use Rattle.places_rules.specs.Whose.{Whose, byHeader, byPayload, askedOf, whoseOf}
-use Rattle.owner_rules.specs.Owner.{Side, header, payload, Owned, ownerOf, chainOf}
+use Rattle.places_rules.specs.Whose.{Whose, byHeader, byPayload, whoseOf}
+use Rattle.owner_rules.specs.Owner.{Side, header, payload, Owned}
 use Rattle.owner_rules.specs.Promise.{ownerIs, ownerReply}
-use Rattle.search_rules.specs.Part.{PartTold, foundPart, absentPart, searchOf, replyOf}
+use Rattle.search_rules.specs.Part.{PartTold, foundPart, absentPart, replyOf}
 use Rattle.shown_rules.specs.Shown.{textRange}
+use Rattle.viewer_rules.specs.Modes.{searchIn, askedIn, ownerIn, chainIn}
 use Rattle.viewer_rules.specs.Faces.{partFace, rangeFace, placeFace, ownedFace}
 use Rattle.viewer_rules.specs.Theorems.{Tells, PartTells, RangeTells, TextTells, PlaceTells, OwnerTells}
 use Rattle.viewer_rules.specs.Theorems.{ChainTells, IdAlone}
@@ -49,8 +50,8 @@ place-crossed (accepted (byPayload row rows)) = refl
 place-crossed (refusal e) = refl
 
 pub part-tells : PartTells
-part-tells s part t r t′ p =
-    let reply = replyOf (searchOf s part (length t)) in
+part-tells mode s part t r t′ p =
+    let reply = replyOf (searchIn mode s part (length t)) in
     subst (Tells reply) (part-crossed reply ∙ ap (λ (x : UzPart). x .refused) (sym (p .reply))) (tells reply)
 
 -- Of a range, whichever call it is of.
@@ -65,8 +66,8 @@ pub text-tells : TextTells
 text-tells s t row r p = range-said (valuesOf (textRange s t row)) r (p .reply)
 
 pub place-tells : PlaceTells
-place-tells s start size parent x t r t′ p =
-    let reply = whoseOf start x (askedOf s start size parent x (length t)) in
+place-tells mode s start size parent x t r t′ p =
+    let reply = whoseOf start x (askedIn mode s start size parent x (length t)) in
     subst (Tells reply) (place-crossed reply ∙ ap (λ (y : UzPlace). y .refused) (sym (p .reply))) (tells reply)
 
 -- Of an owner, with the chain or without.
@@ -83,11 +84,11 @@ owned-said reply r e =
     subst (Tells reply) (owned-crossed reply ∙ ap (λ (y : UzOwned). y .refused) (sym e)) (tells reply)
 
 pub owner-tells : OwnerTells
-owner-tells s start size parent x r p = owned-said (ownerOf s start size parent x) r (p .reply)
+owner-tells mode s start size parent x r p = owned-said (ownerIn mode s start size parent x) r (p .reply)
 
 pub chain-tells : ChainTells
-chain-tells s start size parent x t r t′ p =
-    owned-said (chainOf s start size parent x (length t)) r (p .reply)
+chain-tells mode s start size parent x t r t′ p =
+    owned-said (chainIn mode s start size parent x (length t)) r (p .reply)
 
 face-id : (reply : Reply PartTold) → (partFace reply .id ≡ 0 → ⊥) → partFace reply .refused ≡ 8
 face-id (accepted (foundPart at size rows heads)) some = absurd (some refl)
@@ -95,7 +96,7 @@ face-id (accepted (absentPart heads)) some = absurd (some refl)
 face-id (refusal e) some = listed e .alone some
 
 pub id-alone : IdAlone
-id-alone s part t r t′ p some =
+id-alone mode s part t r t′ p some =
     let same = p .reply in
     ap (λ (x : UzPart). x .refused) same
-    ∙ face-id (replyOf (searchOf s part (length t))) (λ z. some (ap (λ (x : UzPart). x .id) same ∙ z))
+    ∙ face-id (replyOf (searchIn mode s part (length t))) (λ z. some (ap (λ (x : UzPart). x .id) same ∙ z))

@@ -3,17 +3,17 @@
 use Prim.Native.Nat.{ℕ}
 use mathlib.Core.Path.{sym, ap, _∙_}
 use Rattle.elements_rules.specs.Promise.{tableOf as readTable}
-use Rattle.places_rules.specs.Whose.{askedOf, whoseOf}
-use Rattle.owner_rules.specs.Owner.{chainOf}
+use Rattle.places_rules.specs.Whose.{whoseOf}
 use Rattle.owner_rules.specs.Promise.{ownerReply, linksOf}
-use Rattle.search_rules.specs.Part.{searchOf, replyOf, tableOf}
+use Rattle.search_rules.specs.Part.{replyOf, tableOf}
+use Rattle.viewer_rules.specs.Modes.{searchIn, askedIn, chainIn}
 use Rattle.viewer_rules.specs.Faces.{partFace, placeFace, ownedFace}
 use Rattle.viewer_rules.specs.Theorems.{OneUzPart, OneUzRange, OneUzText, OneUzPlace, OneUzOwner, OneUzChain}
 
 pub part-unique : OneUzPart
-part-unique s part t u r r′ t′ u′ l p q = (
-  p .reply ∙ ap (λ (n : ℕ). partFace (replyOf (searchOf s part n))) l ∙ sym (q .reply),
-  p .table ∙ ap (λ (n : ℕ). tableOf n (searchOf s part n)) l ∙ sym (q .table),
+part-unique mode s part t u r r′ t′ u′ l p q = (
+  p .reply ∙ ap (λ (n : ℕ). partFace (replyOf (searchIn mode s part n))) l ∙ sym (q .reply),
+  p .table ∙ ap (λ (n : ℕ). tableOf n (searchIn mode s part n)) l ∙ sym (q .table),
 )
 
 pub range-unique : OneUzRange
@@ -23,16 +23,16 @@ pub text-unique : OneUzText
 text-unique s t row r r′ p q = p .reply ∙ sym (q .reply)
 
 pub place-unique : OneUzPlace
-place-unique s start size parent x t u r r′ t′ u′ l p q = (
-  p .reply ∙ ap (λ (n : ℕ). placeFace (whoseOf start x (askedOf s start size parent x n))) l ∙ sym (q .reply),
-  p .table ∙ ap (λ (n : ℕ). readTable start n (askedOf s start size parent x n)) l ∙ sym (q .table),
+place-unique mode s start size parent x t u r r′ t′ u′ l p q = (
+  p .reply ∙ ap (λ (n : ℕ). placeFace (whoseOf start x (askedIn mode s start size parent x n))) l ∙ sym (q .reply),
+  p .table ∙ ap (λ (n : ℕ). readTable start n (askedIn mode s start size parent x n)) l ∙ sym (q .table),
 )
 
 pub owner-unique : OneUzOwner
-owner-unique s start size parent x r r′ p q = p .reply ∙ sym (q .reply)
+owner-unique mode s start size parent x r r′ p q = p .reply ∙ sym (q .reply)
 
 pub chain-unique : OneUzChain
-chain-unique s start size parent x t u r r′ t′ u′ l p q = (
-  p .reply ∙ ap (λ (n : ℕ). ownedFace (ownerReply (chainOf s start size parent x n))) l ∙ sym (q .reply),
-  p .links ∙ ap (λ (n : ℕ). linksOf n (chainOf s start size parent x n)) l ∙ sym (q .links),
+chain-unique mode s start size parent x t u r r′ t′ u′ l p q = (
+  p .reply ∙ ap (λ (n : ℕ). ownedFace (ownerReply (chainIn mode s start size parent x n))) l ∙ sym (q .reply),
+  p .links ∙ ap (λ (n : ℕ). linksOf n (chainIn mode s start size parent x n)) l ∙ sym (q .links),
 )

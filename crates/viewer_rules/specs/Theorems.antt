@@ -1,34 +1,38 @@
 -- What is proved of the C face beside the contracts: the statements of the theorems.
-use Prim.Native.Nat.{ℕ, _/_, _≤_}
+use Prim.Native.Nat.{ℕ, _+_, _/_, _≤_}
 use mathlib.Core.Path.{_≡_}
 use mathlib.Core.List.{List}
+use mathlib.Core.Bool.{Bool, true, false}
 use lib.ListN.{length}
 use Rattle.refusals.specs.Causes.{causeNumber, causeId}
+use Rattle.refusals.specs.Refusals.{badArgument}
 use Rattle.refusals.specs.Reply.{Reply, accepted, refusal}
 use Rattle.refusals.specs.declared.refusal.Refusal.{Refusal}
 use Rattle.elements_rules.specs.Rows.{width}
-use Rattle.elements_rules.specs.Promise.{keeping}
+use Rattle.elements_rules.specs.Promise.{keeping, zeros}
 use Rattle.elements_rules.specs.Faults.{Errand, Honest, Comes}
 use Rattle.places_rules.specs.Payload.{payloadRange}
 use Rattle.places_rules.specs.Promise.{valuesOf, RangePromise, WhosePromise}
-use Rattle.places_rules.specs.Whose.{askedOf, whoseOf}
+use Rattle.places_rules.specs.Whose.{whoseOf}
 use Rattle.places_rules.specs.declared.payload.RangeReply.{RangeReply}
 use Rattle.places_rules.specs.declared.payload.RangeReply.the-variants.{Range, Refused as NoRange}
 use Rattle.places_rules.specs.declared.whose.WhoseReply.{WhoseReply}
 use Rattle.places_rules.specs.declared.whose.WhoseReply.the-variants.{Header, Payload, Refused as NoRow}
-use Rattle.owner_rules.specs.Owner.{ownerOf, chainOf}
 use Rattle.owner_rules.specs.Promise.{OwnerPromise, ChainPromise}
 use Rattle.owner_rules.specs.Way.{OwnerComes}
 use Rattle.owner_rules.specs.declared.owner.OwnerReply.{OwnerReply}
-use Rattle.search_rules.specs.Part.{searchOf, replyOf, PartPromise}
+use Rattle.owner_rules.specs.declared.owner.OwnerReply.the-variants.{Refused as NoOwner}
+use Rattle.search_rules.specs.Part.{replyOf, PartPromise}
 use Rattle.search_rules.specs.Faults.{SearchComes}
 use Rattle.search_rules.specs.declared.part.PartReply.{PartReply}
 use Rattle.search_rules.specs.declared.part.PartReply.the-variants.{Found, Absent, Refused as NoPart}
 use Rattle.shown_rules.specs.Shown.{textRange}
 use Rattle.shown_rules.specs.Promise.{TextPromise}
-use Rattle.viewer_rules.specs.Faces.{ownedFace}
+use Rattle.viewer_rules.specs.Modes.{chosenMode, searchIn, askedIn, ownerIn, chainIn, ComesIn}
+use Rattle.viewer_rules.specs.Faces.{partFace, placeFace, ownedFace}
 use Rattle.viewer_rules.specs.Promise.{UzPartPromise, UzRangePromise, UzTextPromise, UzPlacePromise}
 use Rattle.viewer_rules.specs.Promise.{UzOwnerPromise, UzChainPromise}
+use Rattle.viewer_rules.specs.declared.mode.Chosen.the-variants.{Mode, NoMode}
 use Rattle.viewer_rules.specs.declared.owned.UzOwned.{UzOwned}
 use Rattle.viewer_rules.specs.declared.part.UzPart.{UzPart}
 use Rattle.viewer_rules.specs.declared.range.UzRange.{UzRange}
@@ -38,8 +42,8 @@ use Rattle.viewer_rules.specs.declared.whose.UzPlace.{UzPlace}
 -- The numbers that stood in the lent table do not matter, only how many there are.
 abbrev pub OneUzPart : Type 0
 OneUzPart =
-    (s : List ℕ) (part : ℕ) (t u : List ℕ) (r r′ : UzPart) (t′ u′ : List ℕ) → length t ≡ length u
-    → UzPartPromise s part t r t′ → UzPartPromise s part u r′ u′ → (r ≡ r′) × (t′ ≡ u′)
+    (mode : ℕ) (s : List ℕ) (part : ℕ) (t u : List ℕ) (r r′ : UzPart) (t′ u′ : List ℕ) → length t ≡ length u
+    → UzPartPromise mode s part t r t′ → UzPartPromise mode s part u r′ u′ → (r ≡ r′) × (t′ ≡ u′)
 
 abbrev pub OneUzRange : Type 0
 OneUzRange =
@@ -51,19 +55,19 @@ OneUzText =
 
 abbrev pub OneUzPlace : Type 0
 OneUzPlace =
-    (s : List ℕ) (start size parent x : ℕ) (t u : List ℕ) (r r′ : UzPlace) (t′ u′ : List ℕ) → length t ≡ length u
-    → UzPlacePromise s start size parent x t r t′ → UzPlacePromise s start size parent x u r′ u′
+    (mode : ℕ) (s : List ℕ) (start size parent x : ℕ) (t u : List ℕ) (r r′ : UzPlace) (t′ u′ : List ℕ) → length t ≡ length u
+    → UzPlacePromise mode s start size parent x t r t′ → UzPlacePromise mode s start size parent x u r′ u′
     → (r ≡ r′) × (t′ ≡ u′)
 
 abbrev pub OneUzOwner : Type 0
 OneUzOwner =
-    (s : List ℕ) (start size parent x : ℕ) (r r′ : UzOwned)
-    → UzOwnerPromise s start size parent x r → UzOwnerPromise s start size parent x r′ → r ≡ r′
+    (mode : ℕ) (s : List ℕ) (start size parent x : ℕ) (r r′ : UzOwned)
+    → UzOwnerPromise mode s start size parent x r → UzOwnerPromise mode s start size parent x r′ → r ≡ r′
 
 abbrev pub OneUzChain : Type 0
 OneUzChain =
-    (s : List ℕ) (start size parent x : ℕ) (t u : List ℕ) (r r′ : UzOwned) (t′ u′ : List ℕ) → length t ≡ length u
-    → UzChainPromise s start size parent x t r t′ → UzChainPromise s start size parent x u r′ u′
+    (mode : ℕ) (s : List ℕ) (start size parent x : ℕ) (t u : List ℕ) (r r′ : UzOwned) (t′ u′ : List ℕ) → length t ≡ length u
+    → UzChainPromise mode s start size parent x t r t′ → UzChainPromise mode s start size parent x u r′ u′
     → (r ≡ r′) × (t′ ≡ u′)
 
 -- ---- `refused` tells a refusal
@@ -75,14 +79,14 @@ Accepts (refusal e) = ⊥
 -- What crosses as `refused` is 0 exactly if the reply accepts, and else one of document 01's numbers: no refusal has
 -- the number 0, so that a C caller who tests `refused` misses none.
 pub record Tells {A : Type 0} (reply : Reply A) (refused : ℕ) : Type 0 where
-  pub listed : refused ≤ 15
+  pub listed : refused ≤ 17
   pub accepts : refused ≡ 0 → Accepts reply
   pub zero : Accepts reply → refused ≡ 0
 
 abbrev pub PartTells : Type 0
 PartTells =
-    (s : List ℕ) (part : ℕ) (t : List ℕ) (r : UzPart) (t′ : List ℕ)
-    → UzPartPromise s part t r t′ → Tells (replyOf (searchOf s part (length t))) (r .refused)
+    (mode : ℕ) (s : List ℕ) (part : ℕ) (t : List ℕ) (r : UzPart) (t′ : List ℕ)
+    → UzPartPromise mode s part t r t′ → Tells (replyOf (searchIn mode s part (length t))) (r .refused)
 
 abbrev pub RangeTells : Type 0
 RangeTells =
@@ -96,25 +100,25 @@ TextTells =
 
 abbrev pub PlaceTells : Type 0
 PlaceTells =
-    (s : List ℕ) (start size parent x : ℕ) (t : List ℕ) (r : UzPlace) (t′ : List ℕ)
-    → UzPlacePromise s start size parent x t r t′
-    → Tells (whoseOf start x (askedOf s start size parent x (length t))) (r .refused)
+    (mode : ℕ) (s : List ℕ) (start size parent x : ℕ) (t : List ℕ) (r : UzPlace) (t′ : List ℕ)
+    → UzPlacePromise mode s start size parent x t r t′
+    → Tells (whoseOf start x (askedIn mode s start size parent x (length t))) (r .refused)
 
 abbrev pub OwnerTells : Type 0
 OwnerTells =
-    (s : List ℕ) (start size parent x : ℕ) (r : UzOwned)
-    → UzOwnerPromise s start size parent x r → Tells (ownerOf s start size parent x) (r .refused)
+    (mode : ℕ) (s : List ℕ) (start size parent x : ℕ) (r : UzOwned)
+    → UzOwnerPromise mode s start size parent x r → Tells (ownerIn mode s start size parent x) (r .refused)
 
 abbrev pub ChainTells : Type 0
 ChainTells =
-    (s : List ℕ) (start size parent x : ℕ) (t : List ℕ) (r : UzOwned) (t′ : List ℕ)
-    → UzChainPromise s start size parent x t r t′ → Tells (chainOf s start size parent x (length t)) (r .refused)
+    (mode : ℕ) (s : List ℕ) (start size parent x : ℕ) (t : List ℕ) (r : UzOwned) (t′ : List ℕ)
+    → UzChainPromise mode s start size parent x t r t′ → Tells (chainIn mode s start size parent x (length t)) (r .refused)
 
 -- An id crosses with 8 alone: what a C caller finds in `id` beside another number, or beside none, is 0.
 abbrev pub IdAlone : Type 0
 IdAlone =
-    (s : List ℕ) (part : ℕ) (t : List ℕ) (r : UzPart) (t′ : List ℕ)
-    → UzPartPromise s part t r t′ → (r .id ≡ 0 → ⊥) → r .refused ≡ 8
+    (mode : ℕ) (s : List ℕ) (part : ℕ) (t : List ℕ) (r : UzPart) (t′ : List ℕ)
+    → UzPartPromise mode s part t r t′ → (r .id ≡ 0 → ⊥) → r .refused ≡ 8
 
 -- ---- where it broke (document 02, C-12)
 
@@ -134,26 +138,27 @@ pub record TellsWhere (s : List ℕ) (Reached : ℕ → Errand → Type 0) (refu
 
 abbrev pub PartTellsWhere : Type 0
 PartTellsWhere =
-    (s : List ℕ) (part : ℕ) (t : List ℕ) (r : UzPart) (t′ : List ℕ)
-    → UzPartPromise s part t r t′ → TellsWhere s (SearchComes s part (length t)) (r .refused) (r .«refused_at»)
+    (mode : ℕ) (s : List ℕ) (part : ℕ) (t : List ℕ) (r : UzPart) (t′ : List ℕ)
+    → UzPartPromise mode s part t r t′ → TellsWhere s (ComesIn (chosenMode mode) (λ live. SearchComes live s part (length t))) (r .refused) (r .«refused_at»)
 
 abbrev pub PlaceTellsWhere : Type 0
 PlaceTellsWhere =
-    (s : List ℕ) (start size parent x : ℕ) (t : List ℕ) (r : UzPlace) (t′ : List ℕ)
-    → UzPlacePromise s start size parent x t r t′
-    → TellsWhere s (Comes s keeping (length t / width) 0 parent start size 0) (r .refused) (r .«refused_at»)
+    (mode : ℕ) (s : List ℕ) (start size parent x : ℕ) (t : List ℕ) (r : UzPlace) (t′ : List ℕ)
+    → UzPlacePromise mode s start size parent x t r t′
+    → TellsWhere s
+    (ComesIn (chosenMode mode) (λ live. Comes s (keeping live) (length t / width) 0 parent start size 0)) (r .refused) (r .«refused_at»)
 
 abbrev pub OwnerTellsWhere : Type 0
 OwnerTellsWhere =
-    (s : List ℕ) (start size parent x : ℕ) (r : UzOwned)
-    → UzOwnerPromise s start size parent x r
-    → TellsWhere s (OwnerComes s start size parent x) (r .refused) (r .«refused_at»)
+    (mode : ℕ) (s : List ℕ) (start size parent x : ℕ) (r : UzOwned)
+    → UzOwnerPromise mode s start size parent x r
+    → TellsWhere s (ComesIn (chosenMode mode) (λ live. OwnerComes live s start size parent x)) (r .refused) (r .«refused_at»)
 
 abbrev pub ChainTellsWhere : Type 0
 ChainTellsWhere =
-    (s : List ℕ) (start size parent x : ℕ) (t : List ℕ) (r : UzOwned) (t′ : List ℕ)
-    → UzChainPromise s start size parent x t r t′
-    → TellsWhere s (OwnerComes s start size parent x) (r .refused) (r .«refused_at»)
+    (mode : ℕ) (s : List ℕ) (start size parent x : ℕ) (t : List ℕ) (r : UzOwned) (t′ : List ℕ)
+    → UzChainPromise mode s start size parent x t r t′
+    → TellsWhere s (ComesIn (chosenMode mode) (λ live. OwnerComes live s start size parent x)) (r .refused) (r .«refused_at»)
 
 -- ---- each number crosses under its own name
 
@@ -187,8 +192,8 @@ placeNamed (NoRow e) =
 
 abbrev pub PartNamed : Type 0
 PartNamed =
-    (s : List ℕ) (part : ℕ) (t : List ℕ) (q : PartReply) (r : UzPart) (t′ u′ : List ℕ)
-    → PartPromise s part t q t′ → UzPartPromise s part t r u′ → r ≡ partNamed q
+    (mode : ℕ) (live : Bool) (s : List ℕ) (part : ℕ) (t : List ℕ) (q : PartReply) (r : UzPart) (t′ u′ : List ℕ)
+    → chosenMode mode ≡ Mode live → PartPromise live s part t q t′ → UzPartPromise mode s part t r u′ → r ≡ partNamed q
 
 abbrev pub RangeNamed : Type 0
 RangeNamed =
@@ -202,17 +207,42 @@ TextNamed =
 
 abbrev pub PlaceNamed : Type 0
 PlaceNamed =
-    (s : List ℕ) (start size parent x : ℕ) (t : List ℕ) (q : WhoseReply) (r : UzPlace) (t′ u′ : List ℕ)
-    → WhosePromise s start size parent x t q t′ → UzPlacePromise s start size parent x t r u′ → r ≡ placeNamed q
+    (mode : ℕ) (live : Bool) (s : List ℕ) (start size parent x : ℕ) (t : List ℕ) (q : WhoseReply) (r : UzPlace) (t′ u′ : List ℕ)
+    → chosenMode mode ≡ Mode live → WhosePromise live s start size parent x t q t′ → UzPlacePromise mode s start size parent x t r u′ → r ≡ placeNamed q
 
 abbrev pub OwnerNamed : Type 0
 OwnerNamed =
-    (s : List ℕ) (start size parent x : ℕ) (q : OwnerReply) (r : UzOwned)
-    → OwnerPromise s start size parent x q → UzOwnerPromise s start size parent x r → r ≡ ownedFace q
+    (mode : ℕ) (live : Bool) (s : List ℕ) (start size parent x : ℕ) (q : OwnerReply) (r : UzOwned)
+    → chosenMode mode ≡ Mode live → OwnerPromise live s start size parent x q → UzOwnerPromise mode s start size parent x r → r ≡ ownedFace q
 
 -- The chain is the very same too.
 abbrev pub ChainNamed : Type 0
 ChainNamed =
-    (s : List ℕ) (start size parent x : ℕ) (t : List ℕ) (q : OwnerReply) (r : UzOwned) (t′ u′ : List ℕ)
-    → ChainPromise s start size parent x t q t′ → UzChainPromise s start size parent x t r u′
+    (mode : ℕ) (live : Bool) (s : List ℕ) (start size parent x : ℕ) (t : List ℕ) (q : OwnerReply) (r : UzOwned) (t′ u′ : List ℕ)
+    → chosenMode mode ≡ Mode live → ChainPromise live s start size parent x t q t′ → UzChainPromise mode s start size parent x t r u′
     → (r ≡ ownedFace q) × (u′ ≡ t′)
+
+-- ---- a number that names no mode
+
+-- It is 14 at 0, and what the call was to write is filled with zeros. It shuts out a face that takes every number but 0
+-- as live mode.
+pub record NoModeRefused : Type 0 where
+  pub part :
+      (mode : ℕ) (s : List ℕ) (part : ℕ) (t : List ℕ) (r : UzPart) (t′ : List ℕ) → chosenMode mode ≡ NoMode
+      → UzPartPromise mode s part t r t′ → (r ≡ partFace (refusal badArgument)) × (t′ ≡ zeros (length t))
+  pub place :
+      (mode : ℕ) (s : List ℕ) (start size parent x : ℕ) (t : List ℕ) (r : UzPlace) (t′ : List ℕ)
+      → chosenMode mode ≡ NoMode → UzPlacePromise mode s start size parent x t r t′
+      → (r ≡ placeFace (refusal badArgument)) × (t′ ≡ zeros (length t))
+  pub owner :
+      (mode : ℕ) (s : List ℕ) (start size parent x : ℕ) (r : UzOwned) → chosenMode mode ≡ NoMode
+      → UzOwnerPromise mode s start size parent x r → r ≡ ownedFace (NoOwner badArgument)
+  pub chain :
+      (mode : ℕ) (s : List ℕ) (start size parent x : ℕ) (t : List ℕ) (r : UzOwned) (t′ : List ℕ)
+      → chosenMode mode ≡ NoMode → UzChainPromise mode s start size parent x t r t′
+      → (r ≡ ownedFace (NoOwner badArgument)) × (t′ ≡ zeros (length t))
+
+-- 0 and 1 name the two modes, and no other number names one.
+abbrev pub ModesNamed : Type 0
+ModesNamed =
+    (chosenMode 0 ≡ Mode false) × (chosenMode 1 ≡ Mode true) × ((m : ℕ) → chosenMode (m + 2) ≡ NoMode)
