@@ -5,3 +5,4 @@ pub mod Endings
 pub mod Walks
 pub mod Told
 pub mod Known
+pub mod Clusters
