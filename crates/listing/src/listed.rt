@@ -73,13 +73,7 @@ fn part_lines(
 }
 
 // The lines of the four parts, each read into the same table.
-fn all_parts(
-    page: &mut [u8],
-    held: usize,
-    recording: &[u8],
-    live: bool,
-    table: &mut [u64],
-) -> usize
+fn all_parts(page: &mut [u8], held: usize, recording: &[u8], live: bool, table: &mut [u64]) -> usize
     requires { ⌜ length (now table) ≡ tableNumbers ⌝ }
     requires { ⌜ held + 4 * partRoom ≤ length (now page) ⌝ }
     ensures { λ r. ⌜ Wrote (now (page .entry)) held (allParts live (now (recording .entry))) r (now (page .exit)) ⌝ }

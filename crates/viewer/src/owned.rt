@@ -89,7 +89,13 @@ pub extern "C" fn uz_owner_chain(
 {
     match chosen_mode(mode) {
         Chosen::Mode(live) => owned_face(owner_chain(
-            recording, live, start, size, parent, address, chain,
+            recording,
+            live,
+            start,
+            size,
+            parent,
+            address,
+            chain,
         )),
         Chosen::NoMode => {
             clear(chain);

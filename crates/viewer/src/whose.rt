@@ -60,7 +60,13 @@ pub extern "C" fn uz_whose_byte(
 {
     match chosen_mode(mode) {
         Chosen::Mode(live) => place_face(whose_byte(
-            recording, live, start, size, parent, address, table,
+            recording,
+            live,
+            start,
+            size,
+            parent,
+            address,
+            table,
         )),
         Chosen::NoMode => {
             clear(table);
