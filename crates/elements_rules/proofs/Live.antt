@@ -200,7 +200,7 @@ pub filled-or : (s : List ℕ) (start size parent numbers : ℕ)
 unfolding filled
 filled-or s start size parent numbers = body-live-or s true (numbers / width) 0 parent start size 0
 
-read-or : (s : List ℕ) (start size parent numbers : ℕ)
+pub read-or : (s : List ℕ) (start size parent numbers : ℕ)
     → LiveOr (readOf false s start size parent numbers) (readOf true s start size parent numbers)
 unfolding readOf
 read-or s start size parent numbers =

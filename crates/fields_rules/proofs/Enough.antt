@@ -272,15 +272,15 @@ enough start f (suc k) id kind l =
     ∙ sym (all-are k (rows 0 0 start 0 f) i id kind)
 
 pub subtree-is-enough : SubtreeIsEnough
-subtree-is-enough s start size under t n t′ p parent id kind l =
-    let a = reads-a-tree s start size under t n t′ p in
+subtree-is-enough live s start size under t n t′ p parent id kind l =
+    let a = reads-a-tree live s start size under t n t′ p in
     rw (a .preorder) (enough start (a .forest) parent id kind (omega (arith, a .number)))
 
 -- ---- each row jumps over the rows below it
 
 pub all-jump : AllJumpAfterRead
-all-jump s start size under t n t′ p k l =
-    let a = reads-a-tree s start size under t n t′ p in
+all-jump live s start size under t n t′ p k l =
+    let a = reads-a-tree live s start size under t n t′ p in
     let c = length-rows 0 0 start 0 (a .forest) in
     let i = subst (Parted 0 0 k) (sym (a .preorder))
     (parted 0 0 start 0 (a .forest) k (omega arith) (omega arith) (omega (arith, a .number))) in
@@ -290,6 +290,6 @@ all-jump s start size under t n t′ p k l =
     ∙ nth-seam (i .before) (i .master) (i .inner ++ i .after) in
     let b = below-is k (rowsOf t′ n) i in
     record {
-      jump = jumps-over s start size under t n t′ p .1 k l;
+      jump = jumps-over live s start size under t n t′ p .1 k l;
       below = ap (λ (x : Row). x .after) r ∙ (omega (arith, i .jump, ap length b));
     }

@@ -2,7 +2,7 @@
 use Prim.Native.Nat.{ℕ, _+_, _≤_, _<_}
 use mathlib.Core.Path.{_≡_}
 use mathlib.Core.List.{List}
-use mathlib.Core.Bool.{true, false}
+use mathlib.Core.Bool.{Bool, true, false}
 use lib.ListN.{length}
 use Rattle.kinds.specs.declared.kind.Kind.{Kind}
 use Rattle.elements_rules.specs.Rows.{rowsOf, nth}
@@ -34,13 +34,13 @@ LastIsLast =
 -- that need to be looked at.
 abbrev pub SubtreeIsEnough : Type 0
 SubtreeIsEnough =
-    (s : List ℕ) (start size under : ℕ) (t : List ℕ) (n : ℕ) (t′ : List ℕ)
-    → ReadPromise s start size under t (Rows n) t′
+    (live : Bool) (s : List ℕ) (start size under : ℕ) (t : List ℕ) (n : ℕ) (t′ : List ℕ)
+    → ReadPromise live s start size under t (Rows n) t′
     → (parent id : ℕ) (kind : Kind) → parent ≤ n
     → children parent id kind (subtree (rowsOf t′ n) parent) ≡ childrenFrom 0 parent id kind (rowsOf t′ n)
 
 -- After an accepted read each row jumps over the rows below it.
 abbrev pub AllJumpAfterRead : Type 0
 AllJumpAfterRead =
-    (s : List ℕ) (start size under : ℕ) (t : List ℕ) (n : ℕ) (t′ : List ℕ)
-    → ReadPromise s start size under t (Rows n) t′ → AllJump t′ n
+    (live : Bool) (s : List ℕ) (start size under : ℕ) (t : List ℕ) (n : ℕ) (t′ : List ℕ)
+    → ReadPromise live s start size under t (Rows n) t′ → AllJump t′ n

@@ -75,9 +75,11 @@ pub fn find(table: &[u64], rows: usize, way: Way) -> Found
     }
 }
 
-// Reads the payload of `size` bytes from `start` on into the table, and goes to the master. 15: there is none.
+// Reads the payload of `size` bytes from `start` on into the table, in live mode or in old mode, and goes to the master.
+// 15: there is none.
 pub fn locate(
     recording: &[u8],
+    live: bool,
     start: u64,
     size: u64,
     parent: u32,
@@ -85,10 +87,10 @@ pub fn locate(
     table: &mut [u64],
 ) -> Located
     ensures { λ r. ⌜ LocateMet (now (recording .entry))
-        (asked (now (recording .entry)) start size parent (length (now (table .entry))) way)
+        (asked live (now (recording .entry)) start size parent (length (now (table .entry))) way)
         (length (now (table .entry))) r (now (table .exit)) ⌝ }
 {
-    match read(recording, start, size, parent, table) {
+    match read(recording, live, start, size, parent, table) {
         ReadReply::Refused(refusal) => Located::Refused(refusal),
         ReadReply::Rows(count) => {
             let rows = count as usize;

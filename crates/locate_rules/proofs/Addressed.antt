@@ -178,9 +178,10 @@ settled-in : (rs : List Row) (to : Spot) → Known (length rs) to → Known-in (
 settled-in rs Absent k = tt
 settled-in rs (At parent) k = k
 
-pub asked-in : (s : List ℕ) (start size parent numbers : ℕ) (w : Way) → Known-in (asked s start size parent numbers w)
+pub asked-in : (live : Bool) (s : List ℕ) (start size parent numbers : ℕ) (w : Way)
+    → Known-in (asked live s start size parent numbers w)
 unfolding asked
-asked-in s start size parent numbers w = go (readOf s start size parent numbers)
+asked-in live s start size parent numbers w = go (readOf live s start size parent numbers)
   where
     go : (o : Outcome) → Known-in (sought start o (λ rs. reached rs w))
     go (refused e) = tt
@@ -209,18 +210,18 @@ addressed values (found rs parent) numbers vs n t′ f k p =
     subst (λ (x : List Row). AllPlaced x vs) (sym w) (subst (AllPlaced rs) (sym e) (f rs parent k))
 
 -- A question whose values are placed among any rows is addressed.
-module _ (values : List Row → ℕ → List FieldValue)
+module _ (live : Bool) (values : List Row → ℕ → List FieldValue)
     (f : (rs : List Row) (master : ℕ) → master ≤ length rs → AllPlaced rs (values rs master))
     (s : List ℕ) (start size parent : ℕ) (w : Way) where
   abbrev ask : ℕ → Asked
-  ask numbers = asked s start size parent numbers w
+  ask numbers = asked live s start size parent numbers w
 
   pub asked-addressed : Addressed values ask
   asked-addressed numbers vs n t′ =
-      addressed values (ask numbers) numbers vs n t′ f (asked-in s start size parent numbers w)
+      addressed values (ask numbers) numbers vs n t′ f (asked-in live s start size parent numbers w)
 
   -- The same of a member of one of its lists.
   pub listed-addressed : (member : List Row → ℕ → Child) → Addressed values (λ numbers. listed (ask numbers) member)
   listed-addressed member numbers vs n t′ =
       addressed values (listed (ask numbers) member) numbers vs n t′ f
-      (listed-in (ask numbers) member (asked-in s start size parent numbers w))
+      (listed-in (ask numbers) member (asked-in live s start size parent numbers w))

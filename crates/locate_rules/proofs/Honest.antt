@@ -3,6 +3,7 @@ use Prim.Native.Nat.{ℕ}
 use mathlib.Core.Path.{_≡_, refl, ap, _∙_, subst}
 use mathlib.Core.List.{List}
 use mathlib.Core.Logic.{inr}
+use mathlib.Core.Bool.{Bool}
 use native.Mathlib.Omega.{arith}
 use Rattle.refusals.specs.Refusals.{noRecord}
 use Rattle.refusals.specs.declared.refusal.Refusal.{Refusal}
@@ -30,45 +31,45 @@ of-answer : (values : List Row → ℕ → List FieldValue) (a : Asked) (e : Ref
 of-answer values (found rs parent) e q = let z : _≡_ {A = ℕ} 0 1 = cc in absurd (let y : ⊥ = omega arith in y)
 of-answer values (refusing e′) e q = cc
 
-module _ (s : List ℕ) (start size parent numbers : ℕ) where
+module _ (live : Bool) (s : List ℕ) (start size parent numbers : ℕ) where
   abbrev HonestHere : Refusal → Type 0
-  HonestHere e = HonestReading s start size parent numbers e
+  HonestHere e = HonestReading live s start size parent numbers e
 
   -- There is none: 15.
   none : (e : Refusal) → noRecord ≡ e → HonestHere e
   none e i = subst HonestHere i (callers (inr refl) refl)
 
-  asked-honest : (w : Way) (e : Refusal) → asked s start size parent numbers w ≡ refusing e → HonestHere e
+  asked-honest : (w : Way) (e : Refusal) → asked live s start size parent numbers w ≡ refusing e → HonestHere e
   unfolding asked
-  asked-honest w e q = by (readOf s start size parent numbers) refl q
+  asked-honest w e q = by (readOf live s start size parent numbers) refl q
     where
       by-spot : (rs : List Row) (p : Spot) → settled rs p ≡ refusing e → HonestHere e
       by-spot rs Absent r = none e (cc)
       by-spot rs (At x) r = let z : _≡_ {A = ℕ} 0 1 = cc in absurd (let y : ⊥ = omega arith in y)
 
-      by : (o : Outcome) → readOf s start size parent numbers ≡ o
+      by : (o : Outcome) → readOf live s start size parent numbers ≡ o
           → sought start o (λ rs. reached rs w) ≡ refusing e → HonestHere e
       by (done f) k r = by-spot (rowsAt start f) (reached (rowsAt start f) w) r
       by (refused e′) k r =
           let i : e′ ≡ e = cc in
-          reading-honest s start size parent numbers e (k ∙ ap refused i)
+          reading-honest live s start size parent numbers e (k ∙ ap refused i)
 
   listed-honest : (w : Way) (member : List Row → ℕ → Child) (e : Refusal)
-      → listed (asked s start size parent numbers w) member ≡ refusing e → HonestHere e
-  listed-honest w member e q = by (asked s start size parent numbers w) refl q
+      → listed (asked live s start size parent numbers w) member ≡ refusing e → HonestHere e
+  listed-honest w member e q = by (asked live s start size parent numbers w) refl q
     where
       by-child : (a : Asked) (c : Child) → hasMember a c ≡ refusing e → (a ≡ refusing e → HonestHere e) → HonestHere e
       by-child a NoChild r first = none e (cc)
       by-child a (ChildAt n x) r first = first r
 
-      by : (a : Asked) → asked s start size parent numbers w ≡ a → listed a member ≡ refusing e → HonestHere e
+      by : (a : Asked) → asked live s start size parent numbers w ≡ a → listed a member ≡ refusing e → HonestHere e
       by (found rs p) k r = by-child (found rs p) (member rs p) r (λ z. asked-honest w e (k ∙ z))
       by (refusing e′) k r = asked-honest w e (k ∙ r)
 
 pub answer-honest : AnswerHonest
 answer-honest = record {
-  of-record = λ values s start size parent numbers w e t′ p.
-      asked-honest s start size parent numbers w e (of-answer values _ e (p .reply));
-  of-member = λ values member s start size parent numbers w e t′ p.
-      listed-honest s start size parent numbers w member e (of-answer values _ e (p .reply));
+  of-record = λ live values s start size parent numbers w e t′ p.
+      asked-honest live s start size parent numbers w e (of-answer values _ e (p .reply));
+  of-member = λ live values member s start size parent numbers w e t′ p.
+      listed-honest live s start size parent numbers w member e (of-answer values _ e (p .reply));
 }

@@ -8,3 +8,4 @@ pub mod Unique
 pub mod Addressed
 pub mod IsRead
 pub mod Honest
+pub mod Live

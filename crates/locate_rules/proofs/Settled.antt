@@ -2,6 +2,7 @@
 use Prim.Native.Nat.{ℕ, _-_, _*_}
 use mathlib.Core.Path.{_≡_, refl, sym, ap, _∙_}
 use mathlib.Core.List.{List, _++_}
+use mathlib.Core.Bool.{Bool}
 use native.Mathlib.Omega.{arith}
 use lib.ListN.{length}
 use borrow.Author.Tests.{not-false}
@@ -54,14 +55,17 @@ told-refused e (done f) q = cc
 told-refused e (refused g) q = cc
 
 -- The table that an accepted read leaves, whichever reply tells of it.
-module _ {s : List ℕ} {start size parent : ℕ} {t t₁ : List ℕ} {r : ReadReply}
-    (p : ReadPromise s start size parent t r t₁) {n : ℕ} (q : r ≡ Rows n) where
-  accept : Accepted s start size parent (length t) n t₁
-  accept = accepted-read s start size parent t n t₁ (rw q at p)
+module _ {live : Bool} {s : List ℕ} {start size parent : ℕ} {t t₁ : List ℕ} {r : ReadReply}
+    (p : ReadPromise live s start size parent t r t₁) {n : ℕ} (q : r ≡ Rows n) where
+  accept : Accepted live s start size parent (length t) n t₁
+  accept = accepted-read live s start size parent t n t₁ (rw q at p)
 
   pub read-ordered : Ordered t₁ n
   read-ordered =
-      record { held = rw (accept .as-long) (accept .fits); jumps = all-jump s start size parent t n t₁ (rw q at p) }
+      record {
+        held = rw (accept .as-long) (accept .fits);
+        jumps = all-jump live s start size parent t n t₁ (rw q at p);
+      }
 
   pub read-filled : Filled s t₁ n
   unfolding readOf
@@ -69,7 +73,7 @@ module _ {s : List ℕ} {start size parent : ℕ} {t t₁ : List ℕ} {r : ReadR
       record {
         ordered = read-ordered;
         short = within s start (length t) (not-false _ (of-refuse _ _ _ (accept .outcome) .0)) .bytes;
-        sound = rows-sound s start size parent t n t₁ (rw q at p);
+        sound = rows-sound live s start size parent t n t₁ (rw q at p);
       }
 
   -- A master that was found in it, for the builders of records.
@@ -80,15 +84,15 @@ module _ {s : List ℕ} {start size parent : ℕ} {t t₁ : List ℕ} {r : ReadR
     pub found-readable : Readable s t₁ b
     found-readable = find-stands s t₁ n w b read-filled (rw a at m) .1
 
-module _ {s : List ℕ} {start size parent : ℕ} {t t₁ : List ℕ} {r : ReadReply}
-    (p : ReadPromise s start size parent t r t₁) (w : Way) where
+module _ {live : Bool} {s : List ℕ} {start size parent : ℕ} {t t₁ : List ℕ} {r : ReadReply}
+    (p : ReadPromise live s start size parent t r t₁) (w : Way) where
   abbrev question : Asked
-  question = asked s start size parent (length t) w
+  question = asked live s start size parent (length t) w
 
   pub read-refused : {e : Refusal} → r ≡ ReadRefused e → LocateMet s question (length t) (Refused e) t₁
   unfolding asked tableOf
   read-refused {e} q =
-      let o = told-refused e (readOf s start size parent (length t)) ((rw q at p) .reply) in
+      let o = told-refused e (readOf live s start size parent (length t)) ((rw q at p) .reply) in
       let a : question ≡ refusing e = ap (λ (x : Outcome). sought start x (λ rs. reached rs w)) o in
       record {
         reply = a;
@@ -131,7 +135,7 @@ module _ {s : List ℕ} {start size parent : ℕ} {t t₁ : List ℕ} {r : ReadR
           }
 
 pub filled-after-read : FilledAfterRead
-filled-after-read s start size parent t n t′ p = read-filled p refl
+filled-after-read live s start size parent t n t′ p = read-filled p refl
 
 -- ---- one level further: from a master that was found, the third step leads on
 
@@ -145,11 +149,11 @@ module _ (first second third : Step) where
       let m : p ≡ master = cc in
       ap (λ (x : List Row). settled x (stepped x p third)) e ∙ ap (λ (x : ℕ). settled rs (stepped rs x third)) m
 
-  pub further : (s : List ℕ) (start size parent numbers : ℕ) (rs : List Row) (master : ℕ)
-      → asked s start size parent numbers (way first second Here) ≡ found rs master
-      → asked s start size parent numbers (way first second third) ≡ settled rs (stepped rs master third)
+  pub further : (live : Bool) (s : List ℕ) (start size parent numbers : ℕ) (rs : List Row) (master : ℕ)
+      → asked live s start size parent numbers (way first second Here) ≡ found rs master
+      → asked live s start size parent numbers (way first second third) ≡ settled rs (stepped rs master third)
   unfolding asked reached
-  further s start size parent numbers rs master q = go (readOf s start size parent numbers) q
+  further live s start size parent numbers rs master q = go (readOf live s start size parent numbers) q
     where
       go : (o : Outcome) → sought start o (λ us. reached us (way first second Here)) ≡ found rs master
           → sought start o (λ us. reached us (way first second third)) ≡ settled rs (stepped rs master third)
@@ -166,12 +170,12 @@ settled-found rs (SpotAt to) us master q = let z : rs ≡ us = cc in sym z
 
 pub record-is-read : RecordIsRead
 unfolding asked tableOf
-record-is-read s start size parent t w rs master q =
-    go (readOf s start size parent (length t)) refl q
+record-is-read live s start size parent t w rs master q =
+    go (readOf live s start size parent (length t)) refl q
   where
-    go : (o : Outcome) → readOf s start size parent (length t) ≡ o
+    go : (o : Outcome) → readOf live s start size parent (length t) ≡ o
         → sought start o (λ us. reached us w) ≡ found rs master
-        → ReadPromise s start size parent t (Rows (length rs)) (tableAfter (length t) (found rs master))
+        → ReadPromise live s start size parent t (Rows (length rs)) (tableAfter (length t) (found rs master))
     go (refused e) h q = let z : _≡_ {A = ℕ} 0 1 = cc in absurd (omega arith)
     go (done f) h q =
         let us = rows 0 0 start 0 f in

@@ -2,6 +2,7 @@
 -- table that it leaves.
 use Prim.Native.Nat.{ℕ, _-_, _*_}
 use mathlib.Core.List.{List, _++_}
+use mathlib.Core.Bool.{Bool}
 use lib.ListN.{length}
 use Rattle.refusals.specs.Refusals.{noRecord}
 use Rattle.refusals.specs.declared.refusal.Refusal.{Refusal}
@@ -31,8 +32,8 @@ sought start (done f) way = settled (rowsAt start f) (way (rowsAt start f))
 sought start (refused e) way = refusing e
 
 -- The payload is read under a parent id into a table of so many numbers; then the way is gone.
-unfoldable pub asked : List ℕ → (start size parent numbers : ℕ) → Way → Asked
-asked s start size parent numbers w = sought start (readOf s start size parent numbers) (λ rs. reached rs w)
+unfoldable pub asked : (live : Bool) → List ℕ → (start size parent numbers : ℕ) → Way → Asked
+asked live s start size parent numbers w = sought start (readOf live s start size parent numbers) (λ rs. reached rs w)
 
 -- And 15 where the master has no such child.
 abbrev pub hasMember : Asked → Child → Asked

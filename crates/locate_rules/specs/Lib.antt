@@ -5,4 +5,5 @@ pub mod Told
 pub mod Contract
 pub mod Promise
 pub mod Theorems
+pub mod Live
 pub mod Cases

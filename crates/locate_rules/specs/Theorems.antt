@@ -2,6 +2,7 @@
 use Prim.Native.Nat.{ℕ, _+_, _<_}
 use mathlib.Core.Path.{_≡_}
 use mathlib.Core.List.{List, [], _∷_}
+use mathlib.Core.Bool.{Bool}
 use lib.ListN.{length}
 use Rattle.refusals.specs.Theorems.{Listed}
 use Rattle.refusals.specs.declared.refusal.Refusal.{Refusal}
@@ -41,23 +42,24 @@ OnlyListed refused Permits = (t : List ℕ) (e : Refusal) (t′ : List ℕ) → 
 -- Where it broke (document 02, C-12): a payload under that parent id is refused as the public read refuses it, at the
 -- first element with a fault; 14 and 15 have address 0.
 abbrev pub OnlyHonest :
-    {R : Type 0} → List ℕ → (start size parent : ℕ) → (Refusal → R) → (List ℕ → R → List ℕ → Type 0) → Type 0
-OnlyHonest s start size parent refused Permits =
+    {R : Type 0} → (live : Bool) → List ℕ → (start size parent : ℕ) → (Refusal → R)
+    → (List ℕ → R → List ℕ → Type 0) → Type 0
+OnlyHonest live s start size parent refused Permits =
     (t : List ℕ) (e : Refusal) (t′ : List ℕ) → Permits t (refused e) t′
-    → HonestReading s start size parent (length t) e
+    → HonestReading live s start size parent (length t) e
 
 -- The same of the answer to any record question, and to one for a list member.
 pub record AnswerHonest : Type 0 where
   pub of-record :
-      (values : List Row → ℕ → List FieldValue) (s : List ℕ) (start size parent numbers : ℕ) (w : Way)
+      (live : Bool) (values : List Row → ℕ → List FieldValue) (s : List ℕ) (start size parent numbers : ℕ) (w : Way)
       (e : Refusal) (t′ : List ℕ)
-      → RecordPromise values (asked s start size parent numbers w) numbers (refusal e) t′
-      → HonestReading s start size parent numbers e
+      → RecordPromise values (asked live s start size parent numbers w) numbers (refusal e) t′
+      → HonestReading live s start size parent numbers e
   pub of-member :
-      (values : List Row → ℕ → List FieldValue) (member : List Row → ℕ → Child) (s : List ℕ)
+      (live : Bool) (values : List Row → ℕ → List FieldValue) (member : List Row → ℕ → Child) (s : List ℕ)
       (start size parent numbers : ℕ) (w : Way) (e : Refusal) (t′ : List ℕ)
-      → RecordPromise values (listed (asked s start size parent numbers w) member) numbers (refusal e) t′
-      → HonestReading s start size parent numbers e
+      → RecordPromise values (listed (asked live s start size parent numbers w) member) numbers (refusal e) t′
+      → HonestReading live s start size parent numbers e
 
 -- ---- each thing that is named has its address
 
@@ -96,8 +98,8 @@ Addressed values ask =
 -- After an accepted read a table is filled, so that `find` and the builders of records may be asked.
 abbrev pub FilledAfterRead : Type 0
 FilledAfterRead =
-    (s : List ℕ) (start size parent : ℕ) (t : List ℕ) (n : ℕ) (t′ : List ℕ)
-    → ReadPromise s start size parent t (Rows n) t′ → Filled s t′ n
+    (live : Bool) (s : List ℕ) (start size parent : ℕ) (t : List ℕ) (n : ℕ) (t′ : List ℕ)
+    → ReadPromise live s start size parent t (Rows n) t′ → Filled s t′ n
 
 -- And a master that `find` gives in it stands there: the builders ask no more, those that need the other rows too ask
 -- `Stands`, the others `Readable`.
@@ -110,23 +112,23 @@ FoundStands =
 -- of an accepted read holds of it.
 abbrev pub RecordIsRead : Type 0
 RecordIsRead =
-    (s : List ℕ) (start size parent : ℕ) (t : List ℕ) (w : Way) (rs : List Row) (master : ℕ)
-    → asked s start size parent (length t) w ≡ found rs master
-    → ReadPromise s start size parent t (Rows (length rs)) (tableAfter (length t) (found rs master))
+    (live : Bool) (s : List ℕ) (start size parent : ℕ) (t : List ℕ) (w : Way) (rs : List Row) (master : ℕ)
+    → asked live s start size parent (length t) w ≡ found rs master
+    → ReadPromise live s start size parent t (Rows (length rs)) (tableAfter (length t) (found rs master))
 
 -- The same of the promise itself: a record that is told leaves the table that the public read leaves, and counts its
 -- rows.
 abbrev pub AnswerIsRead : Type 0
 AnswerIsRead =
-    (values : List Row → ℕ → List FieldValue) (s : List ℕ) (start size parent : ℕ) (t : List ℕ) (w : Way)
+    (live : Bool) (values : List Row → ℕ → List FieldValue) (s : List ℕ) (start size parent : ℕ) (t : List ℕ) (w : Way)
     (vs : List FieldValue) (n : ℕ) (t′ : List ℕ)
-    → RecordPromise values (asked s start size parent (length t) w) (length t) (fields vs n) t′
-    → ReadPromise s start size parent t (Rows n) t′
+    → RecordPromise values (asked live s start size parent (length t) w) (length t) (fields vs n) t′
+    → ReadPromise live s start size parent t (Rows n) t′
 
 -- And of the question for a list member.
 abbrev pub MemberIsRead : Type 0
 MemberIsRead =
-    (values : List Row → ℕ → List FieldValue) (member : List Row → ℕ → Child) (s : List ℕ) (start size parent : ℕ)
-    (t : List ℕ) (w : Way) (vs : List FieldValue) (n : ℕ) (t′ : List ℕ)
-    → RecordPromise values (listed (asked s start size parent (length t) w) member) (length t) (fields vs n) t′
-    → ReadPromise s start size parent t (Rows n) t′
+    (live : Bool) (values : List Row → ℕ → List FieldValue) (member : List Row → ℕ → Child) (s : List ℕ)
+    (start size parent : ℕ) (t : List ℕ) (w : Way) (vs : List FieldValue) (n : ℕ) (t′ : List ℕ)
+    → RecordPromise values (listed (asked live s start size parent (length t) w) member) (length t) (fields vs n) t′
+    → ReadPromise live s start size parent t (Rows n) t′
