@@ -19,5 +19,5 @@ module _ (s : List ℕ) (rs : List Row) (parent : ℕ) (l : parent ≤ length rs
 pub attachments-addressed : AttachmentsAddressed
 attachments-addressed =
     record {
-      attachment = λ s start size k. asked-addressed _ (attachment-placed s) s start size _ _;
+      attachment = λ live s start size k. asked-addressed live _ (attachment-placed s) s start size _ _;
     }

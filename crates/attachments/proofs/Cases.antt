@@ -3,6 +3,7 @@ use mathlib.Core.Path.{refl}
 use Rattle.header.specs.Vint.{octetBits, bits, oneMore, widthOf, bigEndianFrom, bigEndian, ofWidth, vintOf}
 use Rattle.header.specs.Header.{sized, named, headerOf}
 use Rattle.header.specs.Reads.{headerRead, headerAt}
+use Rattle.sizes.specs.Unknown.{unknown}
 use Rattle.kinds.specs.Elements.{elements}
 use Rattle.kinds.specs.Kinds.{kindIn, keeps, demoted, kindUnder, member}
 use Rattle.utf8.specs.Utf8.{utf8Char, behind, anyOf, goesOn, utf8}
@@ -20,9 +21,9 @@ use Rattle.attachments.specs.Records.{attachmentOf}
 use Rattle.attachments.specs.Cases.{cases}
 
 pub cases-hold : Hold cases
-unfolding octetBits bits oneMore widthOf bigEndianFrom bigEndian ofWidth vintOf sized named headerOf headerRead
+unfolding octetBits bits oneMore widthOf bigEndianFrom bigEndian ofWidth vintOf sized named headerOf headerRead unknown
     headerAt elements kindIn keeps demoted kindUnder utf8Char member behind anyOf goesOn utf8 bodyOf
     span count join refuseIf full siblings element masterBody rows isTable allowed filled readOf nth
     deeper subtree fits childrenFrom lastFrom nthOf contentOf
     reached asked attachmentOf
-cases-hold = (refl, (refl, tt))
+cases-hold = (refl, (refl, (refl, (refl, (refl, tt)))))

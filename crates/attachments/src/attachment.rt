@@ -43,15 +43,16 @@ pub fn attachment_in(recording: &[u8], table: &[u64], master: Below) -> Attachme
     }
 }
 
-// Attachment k of the Attachments payload of `size` bytes from `start` on.
+// Attachment k of the Attachments payload of `size` bytes from `start` on, in live mode or in old mode.
 pub fn attachment_at(
     recording: &[u8],
+    live: bool,
     start: u64,
     size: u64,
     k: u64,
     table: &mut [u64],
 ) -> AttachmentReply
-    ensures { λ r. ⌜ AttachmentPromise (now (recording .entry)) start size k
+    ensures { λ r. ⌜ AttachmentPromise live (now (recording .entry)) start size k
         (now (table .entry)) r (now (table .exit)) ⌝ }
 {
     let file = Step::Nth {
@@ -63,7 +64,7 @@ pub fn attachment_at(
         second: Step::Here,
         third: Step::Here,
     };
-    match locate(recording, start, size, ids::ATTACHEDFILE, way, table) {
+    match locate(recording, live, start, size, ids::ATTACHEDFILE, way, table) {
         Located::Refused(refusal) => AttachmentReply::Refused(refusal),
         Located::At { master, rows } => AttachmentReply::Attachment {
             attachment: attachment_in(recording, table, master),

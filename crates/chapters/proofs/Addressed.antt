@@ -37,7 +37,7 @@ module _ (s : List ℕ) (rs : List Row) (parent : ℕ) (l : parent ≤ length rs
 pub chapters-addressed : ChaptersAddressed
 chapters-addressed =
     record {
-      edition = λ s start size k. asked-addressed _ (edition-placed s) s start size _ _;
-      chapter = λ s start size k i. asked-addressed _ (chapter-placed s) s start size _ _;
-      display = λ s start size k i j. asked-addressed _ (display-placed s) s start size _ _;
+      edition = λ live s start size k. asked-addressed live _ (edition-placed s) s start size _ _;
+      chapter = λ live s start size k i. asked-addressed live _ (chapter-placed s) s start size _ _;
+      display = λ live s start size k i j. asked-addressed live _ (display-placed s) s start size _ _;
     }

@@ -132,12 +132,12 @@ module _ (s : List ℕ) (rs : List Row) where
 
 pub first-of-displays : FirstOfDisplays
 unfolding firstString
-first-of-displays s start size k i t replies tables p rs chapter a =
+first-of-displays live s start size k i t replies tables p rs chapter a =
     let ds = children chapter 0x80 Master (subtree rs chapter) in
     told-first (strings s rs ds) (λ j. stringTold (replies j))
     (λ j.
     told-string s rs (replies j) (nthOf j ds)
     (p j .reply
     ∙ ap (answerOf (ofBelow (displayOf s)))
-    (further (Nth 0x45B9 k) (Nth 0xB6 i) (Nth 0x80 j) s start size 0x45B9 (length t) rs chapter a)))
+    (further (Nth 0x45B9 k) (Nth 0xB6 i) (Nth 0x80 j) live s start size 0x45B9 (length t) rs chapter a)))
     _ (first-set s rs ds 0)

@@ -1,14 +1,16 @@
--- Any two replies and tables that a promise permits to one question are equal, and its refusals are listed and honest.
--- Assumes nothing.
-use mathlib.Core.Path.{_≡_}
+-- Any two replies and tables that a promise permits to one question are equal, its refusals are listed and honest, and
+-- what the two modes have in common. Assumes nothing.
+use mathlib.Core.Path.{_≡_, refl}
 use Rattle.refusals.proofs.Listed.{listed}
 use Rattle.fields_rules.proofs.Once.{number-once, flag-once, content-once, language-once, count-once}
 use Rattle.locate_rules.proofs.Honest.{answer-honest}
 use Rattle.locate_rules.proofs.Unique.{one-reply}
+use Rattle.locate_rules.proofs.Live.{record-modes}
 use Rattle.chapters.specs.Told.{editionValues, chapterValues, displayValues}
 use Rattle.chapters.specs.Told.{editionTold, chapterTold, displayTold}
 use Rattle.chapters.specs.Promise.{editionAsked, chapterAsked, displayAsked}
 use Rattle.chapters.specs.Theorems.{OneEdition, OneChapter, OneDisplay, ChaptersRefuseListed, ChaptersHonest}
+use Rattle.chapters.specs.Theorems.{ChaptersLive}
 use Rattle.chapters.specs.declared.edition.ChapterEdition.{ChapterEdition}
 use Rattle.chapters.specs.declared.edition.EditionReply.{EditionReply}
 use Rattle.chapters.specs.declared.edition.EditionReply.the-variants.{Edition as IsEdition, Refused as NoEdition}
@@ -74,25 +76,32 @@ display-told (NoDisplay e) (NoDisplay f) q = cc
 -- ---- the theorems
 
 pub edition-unique : OneEdition
-edition-unique s start size k = one-reply _ (editionAsked s start size k) editionTold edition-told
+edition-unique live s start size k = one-reply _ (editionAsked live s start size k) editionTold edition-told
 
 pub chapter-unique : OneChapter
-chapter-unique s start size k i = one-reply _ (chapterAsked s start size k i) chapterTold chapter-told
+chapter-unique live s start size k i = one-reply _ (chapterAsked live s start size k i) chapterTold chapter-told
 
 pub display-unique : OneDisplay
-display-unique s start size k i j = one-reply _ (displayAsked s start size k i j) displayTold display-told
+display-unique live s start size k i j = one-reply _ (displayAsked live s start size k i j) displayTold display-told
 
 pub chapters-refuse-listed : ChaptersRefuseListed
 chapters-refuse-listed =
     record {
-      edition = λ s start size k t e t′ p. listed e;
-      chapter = λ s start size k i t e t′ p. listed e;
-      display = λ s start size k i j t e t′ p. listed e;
+      edition = λ live s start size k t e t′ p. listed e;
+      chapter = λ live s start size k i t e t′ p. listed e;
+      display = λ live s start size k i j t e t′ p. listed e;
     }
 
 pub chapters-honest : ChaptersHonest
 chapters-honest = record {
-  edition = λ s start size k t e t′ p. answer-honest .of-record _ s start size _ _ _ e t′ p;
-  chapter = λ s start size k i t e t′ p. answer-honest .of-record _ s start size _ _ _ e t′ p;
-  display = λ s start size k i j t e t′ p. answer-honest .of-record _ s start size _ _ _ e t′ p;
+  edition = λ live s start size k t e t′ p. answer-honest .of-record live _ s start size _ _ _ e t′ p;
+  chapter = λ live s start size k i t e t′ p. answer-honest .of-record live _ s start size _ _ _ e t′ p;
+  display = λ live s start size k i j t e t′ p. answer-honest .of-record live _ s start size _ _ _ e t′ p;
+}
+
+pub chapters-live : ChaptersLive
+chapters-live = record {
+  edition = λ s start size k. record-modes editionTold NoEdition edition-told (λ e. refl) _ s start size _ _;
+  chapter = λ s start size k i. record-modes chapterTold NoChapter chapter-told (λ e. refl) _ s start size _ _;
+  display = λ s start size k i j. record-modes displayTold NoDisplay display-told (λ e. refl) _ s start size _ _;
 }

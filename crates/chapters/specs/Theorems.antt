@@ -3,6 +3,7 @@ use Prim.Native.Nat.{ℕ, _<_}
 use mathlib.Core.Path.{_≡_}
 use mathlib.Core.List.{List}
 use mathlib.Core.Logic.{_↔_}
+use mathlib.Core.Bool.{Bool}
 use lib.ListN.{length}
 use Rattle.bodies_rules.specs.declared.body.Range.{Range}
 use Rattle.elements_rules.specs.declared.row.Row.{Row}
@@ -11,6 +12,7 @@ use Rattle.fields_rules.specs.declared.field.Content.the-variants.{Unset, At as
 use Rattle.locate_rules.specs.Asked.{found}
 use Rattle.locate_rules.specs.Promise.{ofBelow}
 use Rattle.locate_rules.specs.Theorems.{OneReply, OnlyListed, OnlyHonest, Addressed}
+use Rattle.locate_rules.specs.Live.{BothModes}
 use Rattle.chapters.specs.Records.{editionOf, chapterOf, displayOf}
 use Rattle.chapters.specs.First.{firstString}
 use Rattle.chapters.specs.Promise.{editionAsked, chapterAsked, displayAsked}
@@ -26,38 +28,60 @@ use Rattle.chapters.specs.declared.display.DisplayReply.the-variants.{Re
 -- Any two replies and tables that a promise permits to one question are equal (document 01, Strength of the promises).
 -- The numbers that stood in the lent table do not matter, only how many there are.
 abbrev pub OneEdition : Type 0
-OneEdition = (s : List ℕ) (start size k : ℕ) → OneReply (EditionPromise s start size k)
+OneEdition = (live : Bool) (s : List ℕ) (start size k : ℕ) → OneReply (EditionPromise live s start size k)
 
 abbrev pub OneChapter : Type 0
-OneChapter = (s : List ℕ) (start size k i : ℕ) → OneReply (ChapterPromise s start size k i)
+OneChapter = (live : Bool) (s : List ℕ) (start size k i : ℕ) → OneReply (ChapterPromise live s start size k i)
 
 abbrev pub OneDisplay : Type 0
-OneDisplay = (s : List ℕ) (start size k i j : ℕ) → OneReply (DisplayPromise s start size k i j)
+OneDisplay = (live : Bool) (s : List ℕ) (start size k i j : ℕ) → OneReply (DisplayPromise live s start size k i j)
 
 -- A refusal among the replies that a promise permits is one of document 01's list.
 pub record ChaptersRefuseListed : Type 0 where
-  pub edition : (s : List ℕ) (start size k : ℕ) → OnlyListed NoEdition (EditionPromise s start size k)
-  pub chapter : (s : List ℕ) (start size k i : ℕ) → OnlyListed NoChapter (ChapterPromise s start size k i)
-  pub display : (s : List ℕ) (start size k i j : ℕ) → OnlyListed NoDisplay (DisplayPromise s start size k i j)
+  pub edition :
+      (live : Bool) (s : List ℕ) (start size k : ℕ) → OnlyListed NoEdition (EditionPromise live s start size k)
+  pub chapter :
+      (live : Bool) (s : List ℕ) (start size k i : ℕ) → OnlyListed NoChapter (ChapterPromise live s start size k i)
+  pub display :
+      (live : Bool) (s : List ℕ) (start size k i j : ℕ) → OnlyListed NoDisplay (DisplayPromise live s start size k i j)
 
 -- Where it broke: the payload's refusals are honest, and 14 and 15 have address 0.
 pub record ChaptersHonest : Type 0 where
   pub edition :
-      (s : List ℕ) (start size k : ℕ)
-      → OnlyHonest s start size 0x45B9 NoEdition (EditionPromise s start size k)
+      (live : Bool) (s : List ℕ) (start size k : ℕ)
+      → OnlyHonest live s start size 0x45B9 NoEdition (EditionPromise live s start size k)
   pub chapter :
-      (s : List ℕ) (start size k i : ℕ)
-      → OnlyHonest s start size 0x45B9 NoChapter (ChapterPromise s start size k i)
+      (live : Bool) (s : List ℕ) (start size k i : ℕ)
+      → OnlyHonest live s start size 0x45B9 NoChapter (ChapterPromise live s start size k i)
   pub display :
-      (s : List ℕ) (start size k i j : ℕ)
-      → OnlyHonest s start size 0x45B9 NoDisplay (DisplayPromise s start size k i j)
+      (live : Bool) (s : List ℕ) (start size k i j : ℕ)
+      → OnlyHonest live s start size 0x45B9 NoDisplay (DisplayPromise live s start size k i j)
 
 -- Every address in a record that is told is the payload's place of one of the rows that the table holds at exit.
 pub record ChaptersAddressed : Type 0 where
-  pub edition : (s : List ℕ) (start size k : ℕ) → Addressed (ofBelow (editionOf s)) (editionAsked s start size k)
-  pub chapter : (s : List ℕ) (start size k i : ℕ) → Addressed (ofBelow (chapterOf s)) (chapterAsked s start size k i)
+  pub edition :
+      (live : Bool) (s : List ℕ) (start size k : ℕ)
+      → Addressed (ofBelow (editionOf s)) (editionAsked live s start size k)
+  pub chapter :
+      (live : Bool) (s : List ℕ) (start size k i : ℕ)
+      → Addressed (ofBelow (chapterOf s)) (chapterAsked live s start size k i)
   pub display :
-      (s : List ℕ) (start size k i j : ℕ) → Addressed (ofBelow (displayOf s)) (displayAsked s start size k i j)
+      (live : Bool) (s : List ℕ) (start size k i j : ℕ)
+      → Addressed (ofBelow (displayOf s)) (displayAsked live s start size k i j)
+
+-- Live mode beside old mode (document 02, C-18): 17, or the equal reply and table; and these where all sizes that are
+-- read are known. It shuts out a live mode that counts the chapters of an edition of unknown size up to the payload's
+-- end.
+pub record ChaptersLive : Type 0 where
+  pub edition :
+      (s : List ℕ) (start size k : ℕ)
+      → BothModes s start size 0x45B9 NoEdition (λ (live : Bool). EditionPromise live s start size k)
+  pub chapter :
+      (s : List ℕ) (start size k i : ℕ)
+      → BothModes s start size 0x45B9 NoChapter (λ (live : Bool). ChapterPromise live s start size k i)
+  pub display :
+      (s : List ℕ) (start size k i j : ℕ)
+      → BothModes s start size 0x45B9 NoDisplay (λ (live : Bool). DisplayPromise live s start size k i j)
 
 -- ---- a chapter's first display with a set string
 
@@ -77,7 +101,7 @@ pub record First (strings : ℕ → Content) (first : FirstString) : Type 0 wher
 -- So it is of the replies of `display_at` to the questions for the displays of one chapter.
 abbrev pub FirstOfDisplays : Type 0
 FirstOfDisplays =
-    (s : List ℕ) (start size k i : ℕ) (t : List ℕ) (replies : ℕ → DisplayReply) (tables : ℕ → List ℕ)
-    → ((j : ℕ) → DisplayPromise s start size k i j t (replies j) (tables j))
-    → (rs : List Row) (chapter : ℕ) → chapterAsked s start size k i (length t) ≡ found rs chapter
+    (live : Bool) (s : List ℕ) (start size k i : ℕ) (t : List ℕ) (replies : ℕ → DisplayReply) (tables : ℕ → List ℕ)
+    → ((j : ℕ) → DisplayPromise live s start size k i j t (replies j) (tables j))
+    → (rs : List Row) (chapter : ℕ) → chapterAsked live s start size k i (length t) ≡ found rs chapter
     → First (λ (j : ℕ). stringTold (replies j)) (firstString s rs chapter)

@@ -63,16 +63,17 @@ pub fn chapter_in(recording: &[u8], table: &[u64], master: Below) -> Chapter
     }
 }
 
-// Chapter i of edition k of the Chapters payload of `size` bytes from `start` on.
+// Chapter i of edition k of the Chapters payload of `size` bytes from `start` on, in live mode or in old mode.
 pub fn chapter_at(
     recording: &[u8],
+    live: bool,
     start: u64,
     size: u64,
     k: u64,
     i: u64,
     table: &mut [u64],
 ) -> ChapterReply
-    ensures { λ r. ⌜ ChapterPromise (now (recording .entry)) start size k i
+    ensures { λ r. ⌜ ChapterPromise live (now (recording .entry)) start size k i
         (now (table .entry)) r (now (table .exit)) ⌝ }
 {
     let edition = Step::Nth {
@@ -88,7 +89,7 @@ pub fn chapter_at(
         second: atom,
         third: Step::Here,
     };
-    match locate(recording, start, size, ids::EDITIONENTRY, way, table) {
+    match locate(recording, live, start, size, ids::EDITIONENTRY, way, table) {
         Located::Refused(refusal) => ChapterReply::Refused(refusal),
         Located::At { master, rows } => ChapterReply::Chapter {
             chapter: chapter_in(recording, table, master),

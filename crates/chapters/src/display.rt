@@ -47,9 +47,11 @@ pub fn display_in(recording: &[u8], table: &[u64], master: Below) -> ChapterDisp
     }
 }
 
-// Display j of chapter i of edition k of the Chapters payload of `size` bytes from `start` on.
+// Display j of chapter i of edition k of the Chapters payload of `size` bytes from `start` on, in live mode or in old
+// mode.
 pub fn display_at(
     recording: &[u8],
+    live: bool,
     start: u64,
     size: u64,
     k: u64,
@@ -57,7 +59,7 @@ pub fn display_at(
     j: u64,
     table: &mut [u64],
 ) -> DisplayReply
-    ensures { λ r. ⌜ DisplayPromise (now (recording .entry)) start size k i j
+    ensures { λ r. ⌜ DisplayPromise live (now (recording .entry)) start size k i j
         (now (table .entry)) r (now (table .exit)) ⌝ }
 {
     let edition = Step::Nth {
@@ -77,7 +79,7 @@ pub fn display_at(
         second: atom,
         third: shown,
     };
-    match locate(recording, start, size, ids::EDITIONENTRY, way, table) {
+    match locate(recording, live, start, size, ids::EDITIONENTRY, way, table) {
         Located::Refused(refusal) => DisplayReply::Refused(refusal),
         Located::At { master, rows } => DisplayReply::Display {
             display: display_in(recording, table, master),

@@ -49,15 +49,17 @@ pub fn edition_in(recording: &[u8], table: &[u64], master: Below) -> ChapterEdit
     }
 }
 
-// Edition k of the Chapters payload of `size` bytes from `start` on.
+// Edition k of the Chapters payload of `size` bytes from `start` on, in live mode or in old mode.
 pub fn edition_at(
     recording: &[u8],
+    live: bool,
     start: u64,
     size: u64,
     k: u64,
     table: &mut [u64],
 ) -> EditionReply
-    ensures { λ r. ⌜ EditionPromise (now (recording .entry)) start size k (now (table .entry)) r (now (table .exit)) ⌝ }
+    ensures { λ r. ⌜ EditionPromise live (now (recording .entry)) start size k
+        (now (table .entry)) r (now (table .exit)) ⌝ }
 {
     let edition = Step::Nth {
         id: ids::EDITIONENTRY,
@@ -68,7 +70,7 @@ pub fn edition_at(
         second: Step::Here,
         third: Step::Here,
     };
-    match locate(recording, start, size, ids::EDITIONENTRY, way, table) {
+    match locate(recording, live, start, size, ids::EDITIONENTRY, way, table) {
         Located::Refused(refusal) => EditionReply::Refused(refusal),
         Located::At { master, rows } => EditionReply::Edition {
             edition: edition_in(recording, table, master),

@@ -29,16 +29,24 @@ pub fn audio_in(recording: &[u8], table: &[u64], master: Below) -> Audio
     }
 }
 
-// The audio settings of the E1 payload of `size` bytes from `start` on. 15: k is not 0.
-pub fn audio_at(recording: &[u8], start: u64, size: u64, k: u64, table: &mut [u64]) -> AudioReply
-    ensures { λ r. ⌜ AudioPromise (now (recording .entry)) start size k (now (table .entry)) r (now (table .exit)) ⌝ }
+// The audio settings of the E1 payload of `size` bytes from `start` on, in live mode or in old mode. 15: k is not 0.
+pub fn audio_at(
+    recording: &[u8],
+    live: bool,
+    start: u64,
+    size: u64,
+    k: u64,
+    table: &mut [u64],
+) -> AudioReply
+    ensures { λ r. ⌜ AudioPromise live (now (recording .entry)) start size k
+        (now (table .entry)) r (now (table .exit)) ⌝ }
 {
     let way = Way {
         first: Step::Only(k),
         second: Step::Here,
         third: Step::Here,
     };
-    match locate(recording, start, size, ids::AUDIO, way, table) {
+    match locate(recording, live, start, size, ids::AUDIO, way, table) {
         Located::Refused(refusal) => AudioReply::Refused(refusal),
         Located::At { master, rows } => AudioReply::Audio {
             audio: audio_in(recording, table, master),

@@ -62,5 +62,5 @@ module _ (s : List ℕ) (rs : List Row) (parent : ℕ) (l : parent ≤ length rs
 pub media-addressed : MediaAddressed
 media-addressed =
     record {
-      audio = λ s start size k. asked-addressed _ (audio-placed s) s start size _ _;
+      audio = λ live s start size k. asked-addressed live _ (audio-placed s) s start size _ _;
     }

@@ -1,14 +1,15 @@
--- Any two replies and tables that a promise permits to one question are equal, and its refusals are listed and honest.
--- Assumes nothing.
+-- Any two replies and tables that a promise permits to one question are equal, its refusals are listed and honest, and
+-- what the two modes have in common. Assumes nothing.
 use mathlib.Core.Path.{_≡_, refl}
 use Rattle.refusals.proofs.Listed.{listed}
 use Rattle.codes.proofs.Unique.{mode-once}
 use Rattle.fields_rules.proofs.Once.{number-once, flag-once, real-once}
 use Rattle.locate_rules.proofs.Honest.{answer-honest}
 use Rattle.locate_rules.proofs.Unique.{one-reply}
+use Rattle.locate_rules.proofs.Live.{record-modes}
 use Rattle.media_rules.specs.Told.{stereoTold, audioValues, videoValues, audioTold}
 use Rattle.media_rules.specs.Promise.{audioAsked}
-use Rattle.media_rules.specs.Theorems.{OneAudio, MediaRefuseListed, MediaHonest}
+use Rattle.media_rules.specs.Theorems.{OneAudio, MediaRefuseListed, MediaHonest, MediaLive}
 use Rattle.media_rules.specs.declared.audio.Audio.{Audio}
 use Rattle.media_rules.specs.declared.audio.AudioReply.{AudioReply}
 use Rattle.media_rules.specs.declared.audio.AudioReply.the-variants.{Audio as IsAudio, Refused as NoAudio}
@@ -55,12 +56,17 @@ audio-told (NoAudio e) (NoAudio f) q = cc
 -- ---- the theorems
 
 pub audio-unique : OneAudio
-audio-unique s start size k = one-reply _ (audioAsked s start size k) audioTold audio-told
+audio-unique live s start size k = one-reply _ (audioAsked live s start size k) audioTold audio-told
 
 pub media-refuse-listed : MediaRefuseListed
-media-refuse-listed = record { audio = λ s start size k t e t′ p. listed e }
+media-refuse-listed = record { audio = λ live s start size k t e t′ p. listed e }
 
 pub media-honest : MediaHonest
 media-honest = record {
-  audio = λ s start size k t e t′ p. answer-honest .of-record _ s start size _ _ _ e t′ p;
+  audio = λ live s start size k t e t′ p. answer-honest .of-record live _ s start size _ _ _ e t′ p;
+}
+
+pub media-live : MediaLive
+media-live = record {
+  audio = λ s start size k. record-modes audioTold NoAudio audio-told (λ e. refl) _ s start size _ _;
 }

@@ -39,16 +39,17 @@ pub fn simple_tag_in(recording: &[u8], table: &[u64], master: Below) -> SimpleTa
     }
 }
 
-// Simple tag i of tag k of the Tags payload of `size` bytes from `start` on.
+// Simple tag i of tag k of the Tags payload of `size` bytes from `start` on, in live mode or in old mode.
 pub fn simple_tag_at(
     recording: &[u8],
+    live: bool,
     start: u64,
     size: u64,
     k: u64,
     i: u64,
     table: &mut [u64],
 ) -> SimpleReply
-    ensures { λ r. ⌜ SimplePromise (now (recording .entry)) start size k i
+    ensures { λ r. ⌜ SimplePromise live (now (recording .entry)) start size k i
         (now (table .entry)) r (now (table .exit)) ⌝ }
 {
     let tag = Step::Nth { id: ids::TAG, k };
@@ -61,7 +62,7 @@ pub fn simple_tag_at(
         second: simple,
         third: Step::Here,
     };
-    match locate(recording, start, size, ids::TAG, way, table) {
+    match locate(recording, live, start, size, ids::TAG, way, table) {
         Located::Refused(refusal) => SimpleReply::Refused(refusal),
         Located::At { master, rows } => SimpleReply::Simple {
             tag: simple_tag_in(recording, table, master),

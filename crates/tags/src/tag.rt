@@ -68,9 +68,17 @@ pub fn tag_in(recording: &[u8], table: &[u64], rows: usize, master: Below) -> Ta
     }
 }
 
-// Tag k of the Tags payload of `size` bytes from `start` on.
-pub fn tag_at(recording: &[u8], start: u64, size: u64, k: u64, table: &mut [u64]) -> TagReply
-    ensures { λ r. ⌜ TagPromise (now (recording .entry)) start size k (now (table .entry)) r (now (table .exit)) ⌝ }
+// Tag k of the Tags payload of `size` bytes from `start` on, in live mode or in old mode.
+pub fn tag_at(
+    recording: &[u8],
+    live: bool,
+    start: u64,
+    size: u64,
+    k: u64,
+    table: &mut [u64],
+) -> TagReply
+    ensures { λ r. ⌜ TagPromise live (now (recording .entry)) start size k
+        (now (table .entry)) r (now (table .exit)) ⌝ }
 {
     let tag = Step::Nth { id: ids::TAG, k };
     let way = Way {
@@ -78,7 +86,7 @@ pub fn tag_at(recording: &[u8], start: u64, size: u64, k: u64, table: &mut [u64]
         second: Step::Here,
         third: Step::Here,
     };
-    match locate(recording, start, size, ids::TAG, way, table) {
+    match locate(recording, live, start, size, ids::TAG, way, table) {
         Located::Refused(refusal) => TagReply::Refused(refusal),
         Located::At { master, rows } => TagReply::Tag {
             tag: tag_in(recording, table, rows, master),

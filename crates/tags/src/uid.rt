@@ -45,10 +45,11 @@ pub fn uid_in(recording: &[u8], table: &[u64], targets: Below, list: UidList, i:
     }
 }
 
-// Member i of a uid list of tag k of the Tags payload of `size` bytes from `start` on. 15: no such tag, no Targets, or
-// no such member.
+// Member i of a uid list of tag k of the Tags payload of `size` bytes from `start` on, in live mode or in old mode.
+// 15: no such tag, no Targets, or no such member.
 pub fn uid_at(
     recording: &[u8],
+    live: bool,
     start: u64,
     size: u64,
     k: u64,
@@ -56,7 +57,7 @@ pub fn uid_at(
     i: u64,
     table: &mut [u64],
 ) -> UidReply
-    ensures { λ r. ⌜ UidPromise (now (recording .entry)) start size k list i
+    ensures { λ r. ⌜ UidPromise live (now (recording .entry)) start size k list i
         (now (table .entry)) r (now (table .exit)) ⌝ }
 {
     let tag = Step::Nth { id: ids::TAG, k };
@@ -66,7 +67,7 @@ pub fn uid_at(
         second: targets,
         third: Step::Here,
     };
-    match locate(recording, start, size, ids::TAG, way, table) {
+    match locate(recording, live, start, size, ids::TAG, way, table) {
         Located::Refused(refusal) => UidReply::Refused(refusal),
         Located::At { master, rows } => match uid_in(recording, table, master, list, i) {
             Number::Unset => {

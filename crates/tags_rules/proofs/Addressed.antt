@@ -51,9 +51,9 @@ pub tags-addressed : TagsAddressed
 unfolding AllPlaced uidOf
 tags-addressed =
     record {
-      tag = λ s start size k. asked-addressed _ (tag-placed s) s start size _ _;
-      uid = λ s start size k list i.
-          listed-addressed _ (λ rs parent l. (number-placed s rs parent l (memberOf list i rs parent), tt)) s start size
-          _ _ (memberOf list i);
-      simple = λ s start size k i. asked-addressed _ (simple-placed s) s start size _ _;
+      tag = λ live s start size k. asked-addressed live _ (tag-placed s) s start size _ _;
+      uid = λ live s start size k list i.
+          listed-addressed live _ (λ rs parent l. (number-placed s rs parent l (memberOf list i rs parent), tt)) s
+          start size _ _ (memberOf list i);
+      simple = λ live s start size k i. asked-addressed live _ (simple-placed s) s start size _ _;
     }

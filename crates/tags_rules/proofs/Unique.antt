@@ -1,5 +1,5 @@
--- Any two replies and tables that a promise permits to one question are equal, and its refusals are listed and honest.
--- Assumes nothing.
+-- Any two replies and tables that a promise permits to one question are equal, its refusals are listed and honest, and
+-- what the two modes have in common. Assumes nothing.
 use Prim.Native.Nat.{ℕ}
 use mathlib.Core.Path.{_≡_, refl, ap}
 use mathlib.Core.List.{[], _∷_, _++_}
@@ -8,10 +8,11 @@ use Rattle.refusals.proofs.Listed.{listed}
 use Rattle.fields_rules.proofs.Once.{number-once, flag-once, content-once, language-once, value-once, count-once}
 use Rattle.locate_rules.proofs.Honest.{answer-honest}
 use Rattle.locate_rules.proofs.Unique.{one-reply}
+use Rattle.locate_rules.proofs.Live.{record-modes, member-modes}
 use Rattle.tags_rules.specs.Told.{targetValues, targetsValues, tagValues, simpleValues}
 use Rattle.tags_rules.specs.Told.{tagTold, uidTold, simpleTold}
 use Rattle.tags_rules.specs.Promise.{tagAsked, uidAsked, simpleAsked}
-use Rattle.tags_rules.specs.Theorems.{OneTag, OneUid, OneSimple, TagsRefuseListed, TagsHonest}
+use Rattle.tags_rules.specs.Theorems.{OneTag, OneUid, OneSimple, TagsRefuseListed, TagsHonest, TagsLive}
 use Rattle.tags_rules.specs.declared.simple.SimpleTag.{SimpleTag}
 use Rattle.tags_rules.specs.declared.simple.SimpleReply.{SimpleReply}
 use Rattle.tags_rules.specs.declared.simple.SimpleReply.the-variants.{Simple as IsSimple, Refused as NoSimple}
@@ -81,25 +82,32 @@ uid-told (NoUid e) (NoUid f) q = cc
 -- ---- the theorems
 
 pub tag-unique : OneTag
-tag-unique s start size k = one-reply _ (tagAsked s start size k) tagTold tag-told
+tag-unique live s start size k = one-reply _ (tagAsked live s start size k) tagTold tag-told
 
 pub uid-unique : OneUid
-uid-unique s start size k list i = one-reply _ (uidAsked s start size k list i) uidTold uid-told
+uid-unique live s start size k list i = one-reply _ (uidAsked live s start size k list i) uidTold uid-told
 
 pub simple-unique : OneSimple
-simple-unique s start size k i = one-reply _ (simpleAsked s start size k i) simpleTold simple-told
+simple-unique live s start size k i = one-reply _ (simpleAsked live s start size k i) simpleTold simple-told
 
 pub tags-refuse-listed : TagsRefuseListed
 tags-refuse-listed =
     record {
-      tag = λ s start size k t e t′ p. listed e;
-      uid = λ s start size k list i t e t′ p. listed e;
-      simple = λ s start size k i t e t′ p. listed e;
+      tag = λ live s start size k t e t′ p. listed e;
+      uid = λ live s start size k list i t e t′ p. listed e;
+      simple = λ live s start size k i t e t′ p. listed e;
     }
 
 pub tags-honest : TagsHonest
 tags-honest = record {
-  tag = λ s start size k t e t′ p. answer-honest .of-record _ s start size _ _ _ e t′ p;
-  uid = λ s start size k list i t e t′ p. answer-honest .of-member _ _ s start size _ _ _ e t′ p;
-  simple = λ s start size k i t e t′ p. answer-honest .of-record _ s start size _ _ _ e t′ p;
+  tag = λ live s start size k t e t′ p. answer-honest .of-record live _ s start size _ _ _ e t′ p;
+  uid = λ live s start size k list i t e t′ p. answer-honest .of-member live _ _ s start size _ _ _ e t′ p;
+  simple = λ live s start size k i t e t′ p. answer-honest .of-record live _ s start size _ _ _ e t′ p;
+}
+
+pub tags-live : TagsLive
+tags-live = record {
+  tag = λ s start size k. record-modes tagTold NoTag tag-told (λ e. refl) _ s start size _ _;
+  uid = λ s start size k list i. member-modes uidTold NoUid uid-told (λ e. refl) _ s start size _ _ _;
+  simple = λ s start size k i. record-modes simpleTold NoSimple simple-told (λ e. refl) _ s start size _ _;
 }

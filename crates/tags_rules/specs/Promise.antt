@@ -1,6 +1,7 @@
 -- What each question for a record of Tags promises of its reply and of the table.
 use Prim.Native.Nat.{ℕ}
 use mathlib.Core.List.{List}
+use mathlib.Core.Bool.{Bool}
 use lib.ListN.{length}
 use Rattle.locate_rules.specs.Steps.{way}
 use Rattle.locate_rules.specs.Asked.{Asked, asked, listed}
@@ -17,29 +18,31 @@ use Rattle.tags_rules.specs.declared.simple.SimpleReply.{SimpleReply}
 
 -- Each reads the payload under 7373, the id that document 01, Kinds, gives for Tags, so that the full set of masters
 -- holds for its direct children; then a step for each level.
-module _ (s : List ℕ) (start size k : ℕ) where
+module _ (live : Bool) (s : List ℕ) (start size k : ℕ) where
   abbrev pub tagAsked : (numbers : ℕ) → Asked
-  tagAsked numbers = asked s start size 0x7373 numbers (way (Nth 0x7373 k) Here Here)
+  tagAsked numbers = asked live s start size 0x7373 numbers (way (Nth 0x7373 k) Here Here)
 
   -- A member of a list of the last Targets.
   abbrev pub uidAsked : UidList → (i numbers : ℕ) → Asked
   uidAsked list i numbers =
-      listed (asked s start size 0x7373 numbers (way (Nth 0x7373 k) (Last 0x63C0) Here)) (memberOf list i)
+      listed (asked live s start size 0x7373 numbers (way (Nth 0x7373 k) (Last 0x63C0) Here)) (memberOf list i)
 
   abbrev pub simpleAsked : (i numbers : ℕ) → Asked
-  simpleAsked i numbers = asked s start size 0x7373 numbers (way (Nth 0x7373 k) (Nth 0x67C8 i) Here)
+  simpleAsked i numbers = asked live s start size 0x7373 numbers (way (Nth 0x7373 k) (Nth 0x67C8 i) Here)
 
 -- ---- the promises
 
-abbrev pub TagPromise : (s : List ℕ) (start size k : ℕ) (t : List ℕ) (r : TagReply) (t′ : List ℕ) → Type 0
-TagPromise s start size k t r t′ =
-    RecordPromise (tagOf s) (tagAsked s start size k (length t)) (length t) (tagTold r) t′
+abbrev pub TagPromise : (live : Bool) (s : List ℕ) (start size k : ℕ) (t : List ℕ) (r : TagReply) (t′ : List ℕ) → Type 0
+TagPromise live s start size k t r t′ =
+    RecordPromise (tagOf s) (tagAsked live s start size k (length t)) (length t) (tagTold r) t′
 
 abbrev pub UidPromise :
-    (s : List ℕ) (start size k : ℕ) (list : UidList) (i : ℕ) (t : List ℕ) (r : UidReply) (t′ : List ℕ) → Type 0
-UidPromise s start size k list i t r t′ =
-    RecordPromise (uidOf s list i) (uidAsked s start size k list i (length t)) (length t) (uidTold r) t′
+    (live : Bool) (s : List ℕ) (start size k : ℕ) (list : UidList) (i : ℕ) (t : List ℕ) (r : UidReply) (t′ : List ℕ)
+    → Type 0
+UidPromise live s start size k list i t r t′ =
+    RecordPromise (uidOf s list i) (uidAsked live s start size k list i (length t)) (length t) (uidTold r) t′
 
-abbrev pub SimplePromise : (s : List ℕ) (start size k i : ℕ) (t : List ℕ) (r : SimpleReply) (t′ : List ℕ) → Type 0
-SimplePromise s start size k i t r t′ =
-    RecordPromise (ofBelow (simpleOf s)) (simpleAsked s start size k i (length t)) (length t) (simpleTold r) t′
+abbrev pub SimplePromise :
+    (live : Bool) (s : List ℕ) (start size k i : ℕ) (t : List ℕ) (r : SimpleReply) (t′ : List ℕ) → Type 0
+SimplePromise live s start size k i t r t′ =
+    RecordPromise (ofBelow (simpleOf s)) (simpleAsked live s start size k i (length t)) (length t) (simpleTold r) t′

@@ -51,9 +51,18 @@ pub fn track_in(recording: &[u8], table: &[u64], rows: usize, master: Below) -> 
     }
 }
 
-// Track k of the Tracks payload of `size` bytes from `start` on. 15: there is no such track.
-pub fn track_at(recording: &[u8], start: u64, size: u64, k: u64, table: &mut [u64]) -> TrackReply
-    ensures { λ r. ⌜ TrackPromise (now (recording .entry)) start size k (now (table .entry)) r (now (table .exit)) ⌝ }
+// Track k of the Tracks payload of `size` bytes from `start` on, in live mode or in old mode. 15: there is no
+// such track.
+pub fn track_at(
+    recording: &[u8],
+    live: bool,
+    start: u64,
+    size: u64,
+    k: u64,
+    table: &mut [u64],
+) -> TrackReply
+    ensures { λ r. ⌜ TrackPromise live (now (recording .entry)) start size k
+        (now (table .entry)) r (now (table .exit)) ⌝ }
 {
     let track = Step::Nth {
         id: ids::TRACKENTRY,
@@ -64,7 +73,7 @@ pub fn track_at(recording: &[u8], start: u64, size: u64, k: u64, table: &mut [u6
         second: Step::Here,
         third: Step::Here,
     };
-    match locate(recording, start, size, ids::TRACKENTRY, way, table) {
+    match locate(recording, live, start, size, ids::TRACKENTRY, way, table) {
         Located::Refused(refusal) => TrackReply::Refused(refusal),
         Located::At { master, rows } => TrackReply::Track {
             track: track_in(recording, table, rows, master),

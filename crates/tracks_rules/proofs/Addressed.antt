@@ -67,4 +67,4 @@ module _ (s : List ℕ) (rs : List Row) (parent : ℕ) (l : parent ≤ length rs
   track-placed = entry-placed (settingsOf s rs parent) settings-placed
 
 pub track-addressed : TrackAddressed
-track-addressed s start size k = asked-addressed _ (track-placed s) s start size _ _
+track-addressed live s start size k = asked-addressed live _ (track-placed s) s start size _ _

@@ -5,6 +5,7 @@ use lib.Ieee.{ofBits}
 use Rattle.header.specs.Vint.{octetBits, bits, oneMore, widthOf, bigEndianFrom, bigEndian, ofWidth, vintOf}
 use Rattle.header.specs.Header.{sized, named, headerOf}
 use Rattle.header.specs.Reads.{headerRead, headerAt}
+use Rattle.sizes.specs.Unknown.{unknown}
 use Rattle.kinds.specs.Elements.{elements}
 use Rattle.kinds.specs.Kinds.{kindIn, keeps, demoted, kindUnder, member}
 use Rattle.utf8.specs.Utf8.{utf8Char, behind, anyOf, goesOn, utf8}
@@ -29,11 +30,12 @@ use Rattle.tracks_rules.specs.Records.{entryOf, trackOf}
 use Rattle.tracks_rules.specs.Cases.{cases}
 
 pub cases-hold : Hold cases
-unfolding octetBits bits oneMore widthOf bigEndianFrom bigEndian ofWidth vintOf sized named headerOf headerRead
+unfolding octetBits bits oneMore widthOf bigEndianFrom bigEndian ofWidth vintOf sized named headerOf headerRead unknown
     headerAt elements kindIn keeps demoted kindUnder utf8Char member behind anyOf goesOn utf8 bodyOf floatOf ofBits
     span count join refuseIf full siblings element masterBody rows isTable allowed filled readOf nth
     deeper subtree fits childrenFrom lastFrom nthOf numberOf flagOf contentOf languageOf realOf
     reached asked saidOf stereo audioOf videoOf typeIn typed settingsOf entryOf trackOf
 cases-hold =
-    let later : Hold (drop 5 cases) = (refl, (refl, (refl, (refl, (refl, (refl, (refl, (refl, tt)))))))) in
+    let live-cases : Hold (drop 13 cases) = (refl, (refl, tt)) in
+    let later : Hold (drop 5 cases) = (refl, (refl, (refl, (refl, (refl, (refl, (refl, (refl, live-cases)))))))) in
     (refl, (refl, (refl, (refl, (refl, later)))))

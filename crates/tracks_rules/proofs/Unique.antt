@@ -1,5 +1,5 @@
--- Any two replies and tables that the promise permits to one question are equal, and its refusals are listed and
--- honest. Assumes nothing.
+-- Any two replies and tables that the promise permits to one question are equal, its refusals are listed and honest,
+-- and what the two modes have in common. Assumes nothing.
 use mathlib.Core.Path.{_≡_, refl}
 use Rattle.refusals.proofs.Listed.{listed}
 use Rattle.codes.proofs.Unique.{type-once}
@@ -7,10 +7,11 @@ use Rattle.fields_rules.proofs.Once.{number-once, flag-once, content-once, lang
 use Rattle.locate_rules.proofs.Lists.{told-at, told-from}
 use Rattle.locate_rules.proofs.Honest.{answer-honest}
 use Rattle.locate_rules.proofs.Unique.{one-reply}
+use Rattle.locate_rules.proofs.Live.{record-modes}
 use Rattle.media_rules.proofs.Unique.{audio-once, video-once}
 use Rattle.tracks_rules.specs.Told.{typedTold, settingsValues, trackValues, trackTold}
 use Rattle.tracks_rules.specs.Promise.{trackAsked}
-use Rattle.tracks_rules.specs.Theorems.{OneTrack, TracksRefuseListed, TracksHonest}
+use Rattle.tracks_rules.specs.Theorems.{OneTrack, TracksRefuseListed, TracksHonest, TracksLive}
 use Rattle.tracks_rules.specs.declared.typed.Typed.{Typed}
 use Rattle.tracks_rules.specs.declared.typed.Typed.the-variants.{Unset, Is}
 use Rattle.tracks_rules.specs.declared.settings.Settings.{Settings}
@@ -73,12 +74,17 @@ track-told (NoTrack e) (NoTrack f) q = cc
 -- ---- the theorems
 
 pub track-unique : OneTrack
-track-unique s start size k = one-reply _ (trackAsked s start size k) trackTold track-told
+track-unique live s start size k = one-reply _ (trackAsked live s start size k) trackTold track-told
 
 pub tracks-refuse-listed : TracksRefuseListed
-tracks-refuse-listed = record { track = λ s start size k t e t′ p. listed e }
+tracks-refuse-listed = record { track = λ live s start size k t e t′ p. listed e }
 
 pub tracks-honest : TracksHonest
 tracks-honest = record {
-  track = λ s start size k t e t′ p. answer-honest .of-record _ s start size _ _ _ e t′ p;
+  track = λ live s start size k t e t′ p. answer-honest .of-record live _ s start size _ _ _ e t′ p;
+}
+
+pub tracks-live : TracksLive
+tracks-live = record {
+  track = λ s start size k. record-modes trackTold NoTrack track-told (λ e. refl) _ s start size _ _;
 }

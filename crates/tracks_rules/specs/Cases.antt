@@ -1,8 +1,8 @@
 -- Worked tracks, as one table: a question about a small payload, and the answer. They show the rules of document 01,
--- Records, and of document 02, C-11.
+-- Records, and of document 02, C-11 and C-18.
 use Prim.Native.Nat.{ℕ}
 use mathlib.Core.List.{List, [], _∷_}
-use mathlib.Core.Bool.{true, false}
+use mathlib.Core.Bool.{Bool, true, false}
 use lib.ListN.{length}
 use lib.Ieee.{binary64, ofBits}
 use Rattle.fields_rules.specs.Values.{FieldValue, unset, number, flag, content, iso, ietf, real}
@@ -11,9 +11,9 @@ use Rattle.locate_rules.specs.Cases.{numbers, Due, told, refused, Case, case}
 use Rattle.tracks_rules.specs.Records.{trackOf}
 use Rattle.tracks_rules.specs.Promise.{trackAsked}
 
--- The question, of a whole payload: the index, and the answer.
-abbrev track : List ℕ → ℕ → Due → Case
-track s k a = case (answerOf (trackOf s) (trackAsked s 0 (length s) k numbers)) a
+-- The question, of a whole payload: in live mode or not, the index, and the answer.
+abbrev track : (live : Bool) → List ℕ → ℕ → Due → Case
+track live s k a = case (answerOf (trackOf s) (trackAsked live s 0 (length s) k numbers)) a
 
 -- A track of which few fields are set.
 abbrev few : (n type enabled name language : FieldValue) → List FieldValue → List FieldValue
@@ -82,30 +82,33 @@ twoVideos =
 abbrev pub cases : List Case
 cases =
     -- An entry without fields has none set.
-    track twoEntries 0 (told bare 7)
+    track false twoEntries 0 (told bare 7)
     -- The last child sets a field; any number but 0 is yes.
-    ∷ track twoEntries 1 (told (few (number 2) (number 17) (flag true) (content 19 1) unset (unset ∷ [])) 7)
-    ∷ track twoEntries 2 (refused 15 0 0)
+    ∷ track false twoEntries 1 (told (few (number 2) (number 17) (flag true) (content 19 1) unset (unset ∷ [])) 7)
+    ∷ track false twoEntries 2 (refused 15 0 0)
     -- Any other number is the type Unknown; an ISO 639 language never replaces an IETF one.
-    ∷ track languages 0 (told (few unset (number 0) unset unset (ietf 9 1) (unset ∷ [])) 4)
+    ∷ track false languages 0 (told (few unset (number 0) unset unset (ietf 9 1) (unset ∷ [])) 4)
     -- The last settings count, whichever they are.
-    ∷ track (0xAE ∷ 0x96 ∷ frames (channels [])) 0
+    ∷ track false (0xAE ∷ 0x96 ∷ frames (channels [])) 0
     (told (few unset unset unset unset unset (number 2 ∷ unset ∷ number 2 ∷ unset ∷ [])) 7)
-    ∷ track (0xAE ∷ 0x96 ∷ channels (frames [])) 0
+    ∷ track false (0xAE ∷ 0x96 ∷ channels (frames [])) 0
     (told
     (few unset unset unset unset unset
     (video (flag false) (number 14) (real (ofBits binary64 0x3FF0000000000000)))) 7)
     -- Interlaced other than 1 and 2, and a mode over 14, stay unset.
-    ∷ track others 0 (told (few unset unset unset unset unset (video unset unset unset)) 4)
+    ∷ track false others 0 (told (few unset unset unset unset unset (video unset unset unset)) 4)
     -- The flags 55AB to 55AF stay unset; their rows are there.
-    ∷ track unread 0 (told bare 6)
+    ∷ track false unread 0 (told bare 6)
     -- Each field is taken from its own id.
-    ∷ track full 0 (told fullValues 16)
+    ∷ track false full 0 (told fullValues 16)
     -- What an earlier E0 held is not kept; an entry inside an entry is none of Tracks, and sets nothing.
-    ∷ track twoVideos 0 (told (few unset unset unset unset unset (video unset unset unset)) 6)
-    ∷ track twoVideos 1 (refused 15 0 0)
+    ∷ track false twoVideos 0 (told (few unset unset unset unset unset (video unset unset unset)) 6)
+    ∷ track false twoVideos 1 (refused 15 0 0)
     -- The full set of masters holds for the direct children of Tracks: an E0 there has a row below it.
-    ∷ track (0xE0 ∷ 0x83 ∷ 0xB0 ∷ 0x81 ∷ 0x05 ∷ 0xAE ∷ 0x80 ∷ []) 0 (told bare 3)
+    ∷ track false (0xE0 ∷ 0x83 ∷ 0xB0 ∷ 0x81 ∷ 0x05 ∷ 0xAE ∷ 0x80 ∷ []) 0 (told bare 3)
     -- The read's refusals come before 15: here a number of 9 bytes, and no second entry.
-    ∷ track (0xAE ∷ 0x82 ∷ 0xD7 ∷ 0x89 ∷ []) 1 (refused 4 0 2)
+    ∷ track false (0xAE ∷ 0x82 ∷ 0xD7 ∷ 0x89 ∷ []) 1 (refused 4 0 2)
+    -- In live mode settings of unknown size are 17; without an unknown size nothing changes.
+    ∷ track true (0xAE ∷ 0x82 ∷ 0xE0 ∷ 0xFF ∷ []) 0 (refused 17 0 2)
+    ∷ track true unread 0 (told bare 6)
     ∷ []

@@ -2,13 +2,14 @@
 use Prim.Native.Nat.{ℕ, _+_, _<_}
 use mathlib.Core.Path.{_≡_}
 use mathlib.Core.List.{List}
-use mathlib.Core.Bool.{true, false}
+use mathlib.Core.Bool.{Bool, true, false}
 use lib.ListN.{length}
 use Rattle.kinds.specs.declared.kind.Kind.the-variants.{Master}
 use Rattle.elements_rules.specs.Rows.{nth}
 use Rattle.elements_rules.specs.declared.row.Row.{Row}
 use Rattle.fields_rules.specs.Children.{fits, children, lastOf}
 use Rattle.locate_rules.specs.Theorems.{OneReply, OnlyListed, OnlyHonest, Addressed}
+use Rattle.locate_rules.specs.Live.{BothModes}
 use Rattle.tracks_rules.specs.Settings.{decided}
 use Rattle.tracks_rules.specs.Records.{trackOf}
 use Rattle.tracks_rules.specs.Promise.{trackAsked, TrackPromise}
@@ -19,19 +20,28 @@ use Rattle.tracks_rules.specs.declared.track.TrackReply.the-variants.{Re
 -- Any two replies and tables that the promise permits to one question are equal (document 01, Strength of the
 -- promises). The numbers that stood in the lent table do not matter, only how many there are.
 abbrev pub OneTrack : Type 0
-OneTrack = (s : List ℕ) (start size k : ℕ) → OneReply (TrackPromise s start size k)
+OneTrack = (live : Bool) (s : List ℕ) (start size k : ℕ) → OneReply (TrackPromise live s start size k)
 
 -- A refusal among the replies that the promise permits is one of document 01's list.
 pub record TracksRefuseListed : Type 0 where
-  pub track : (s : List ℕ) (start size k : ℕ) → OnlyListed NoTrack (TrackPromise s start size k)
+  pub track : (live : Bool) (s : List ℕ) (start size k : ℕ) → OnlyListed NoTrack (TrackPromise live s start size k)
 
 -- Where it broke: the payload's refusals are honest, and 14 and 15 have address 0.
 pub record TracksHonest : Type 0 where
-  pub track : (s : List ℕ) (start size k : ℕ) → OnlyHonest s start size 0xAE NoTrack (TrackPromise s start size k)
+  pub track :
+      (live : Bool) (s : List ℕ) (start size k : ℕ)
+      → OnlyHonest live s start size 0xAE NoTrack (TrackPromise live s start size k)
 
 -- Every address in a record that is told is the payload's place of one of the rows that the table holds at exit.
 abbrev pub TrackAddressed : Type 0
-TrackAddressed = (s : List ℕ) (start size k : ℕ) → Addressed (trackOf s) (trackAsked s start size k)
+TrackAddressed = (live : Bool) (s : List ℕ) (start size k : ℕ) → Addressed (trackOf s) (trackAsked live s start size k)
+
+-- Live mode beside old mode (document 02, C-18): 17, or the equal reply and table; and these where all sizes that are
+-- read are known. It shuts out a live mode that takes the settings of an E0 of unknown size for unset.
+pub record TracksLive : Type 0 where
+  pub track :
+      (s : List ℕ) (start size k : ℕ)
+      → BothModes s start size 0xAE NoTrack (λ (live : Bool). TrackPromise live s start size k)
 
 -- ---- the last Video or Audio decides
 
