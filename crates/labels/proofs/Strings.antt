@@ -72,25 +72,25 @@ string-from s (found rs master) numbers d rows g q w =
     (rs, master, refl, cc, sym (ap contentTold w) ∙ e)
 
 pub stage-is-shown : StageIsShown
-stage-is-shown s start size k i j t d rows t′ g p w =
+stage-is-shown live s start size k i j t d rows t′ g p w =
     let (rs, master, a, m, q) =
-    string-from s (displayAsked s start size k i j (length t)) (length t) d rows g (p .reply) w in
+    string-from s (displayAsked live s start size k i j (length t)) (length t) d rows g (p .reply) w in
     let (n, r, c, at, long) = from-child (lastOf (children master 0x85 Utf8 (subtree rs master))) g q in
-    let known = subst Known-in a (asked-in s start size 0x45B9 (length t) _) in
+    let known = subst Known-in a (asked-in live s start size 0x45B9 (length t) _) in
     let (there, row) = child-row s rs master known 0x85 Utf8 n r (sym c) in
     let kind = fits-kind master 0x85 Utf8 r (last-is master 0x85 Utf8 (subtree rs master) n r (sym c) .fit) in
     let u = p .table ∙ ap (tableAfter (length t)) a in
-    let read = subst (ReadPromise s start size 0x45B9 t (Rows (length rs))) (sym u)
-    (record-is-read s start size 0x45B9 t _ rs master a) in
+    let read = subst (ReadPromise live s start size 0x45B9 t (Rows (length rs))) (sym u)
+    (record-is-read live s start size 0x45B9 t _ rs master a) in
     let held = held-row t′ rs n r
     (ap (λ (x : List ℕ). rowsOf x (length rs)) u ∙ rows-back rs (zeros (length t - length rs * width))) there row in
     let is-text = utf8-is-text (rowAt t′ n .kind) (ap (λ (x : Row). x .kind) held ∙ kind) in
     let first = ap (λ (x : Row). x .address + x .header) held ∙ at in
     let many = ap (λ (x : Row). x .payload) held ∙ long in
-    let at-row = rows-have-ranges s start size 0x45B9 t (length rs) t′ read n there ∙ ap₂ range first many in
+    let at-row = rows-have-ranges live s start size 0x45B9 t (length rs) t′ read n there ∙ ap₂ range first many in
     let place : RangePromise s t′ n (RangeIs g) = record { reply = sym (ap valuesOf at-row) } in
     let shown : ShownPromise s t′ n (bytesOf s (textRange s t′ n)) = record { reply = refl } in
-    let shows = accepted-shown s start size 0x45B9 t (length rs) t′ read n there is-text _ shown in
+    let shows = accepted-shown live s start size 0x45B9 t (length rs) t′ read n there is-text _ shown in
     record {
       row = n;
       there = subst (λ (x : ℕ). n < x) (sym m) there;
@@ -103,17 +103,17 @@ stage-is-shown s start size k i j t d rows t′ g p w =
     }
 
 pub first-is-shown : FirstIsShown
-first-is-shown s start size k i t replies tables p rs chapter a j g q =
-    let first = first-of-displays s start size k i t replies tables p rs chapter a in
+first-is-shown live s start size k i t replies tables p rs chapter a j g q =
+    let first = first-of-displays live s start size k i t replies tables p rs chapter a in
     by (replies j) refl (first .at j g .0 q .0)
   where
     by : (r : DisplayReply) → replies j ≡ r → stringTold r ≡ At g → ShownBy s (replies j) (tables j) g
     by (Display d rows) e w =
-        let shown : DisplayPromise s start size k i j t (Display d rows) (tables j) = rw e at (p j) in
+        let shown : DisplayPromise live s start size k i j t (Display d rows) (tables j) = rw e at (p j) in
         record {
           display = d;
           rows = rows;
           told = e;
-          row = stage-is-shown s start size k i j t d rows (tables j) g shown w;
+          row = stage-is-shown live s start size k i j t d rows (tables j) g shown w;
         }
     by (Refused e) x w = let z : _≡_ {A = ℕ} 0 1 = cc in absurd (omega arith)

@@ -2,6 +2,7 @@
 use Prim.Native.Nat.{ℕ}
 use mathlib.Core.Path.{_≡_}
 use mathlib.Core.List.{List, [], _∷_}
+use mathlib.Core.Bool.{false}
 use lib.ListN.{length}
 use Rattle.fields_rules.specs.declared.field.Content.the-variants.{Unset, At}
 use Rattle.locate_rules.specs.Asked.{Asked, found, refusing}
@@ -25,7 +26,8 @@ Hold (case label due ∷ cases) = (label ≡ due) × Hold cases
 abbrev label : (s : List ℕ) (at n : ℕ) (own due : List ℕ) → Case
 label s at n own due = case (labelOf s (At (record { at = at; length = n })) own) due
 
--- The label of chapter i of edition k of a whole payload, asked with the chapter's first display with a set string.
+-- The label of chapter i of edition k of a whole payload, read in old mode, asked with the chapter's first display with
+-- a set string.
 module _ (s own : List ℕ) where
   abbrev byFirst : FirstString → List ℕ
   byFirst Absent = labelOf s Unset own
@@ -36,7 +38,7 @@ module _ (s own : List ℕ) where
   byChapter (refusing e) = []
 
   abbrev stage : (k i : ℕ) (due : List ℕ) → Case
-  stage k i due = case (byChapter (chapterAsked s 0 (length s) k i numbers)) due
+  stage k i due = case (byChapter (chapterAsked false s 0 (length s) k i numbers)) due
 
 -- A chapter with two displays: the string of the first is one zero octet, that of the second `ab`.
 abbrev zeroFirst : List ℕ

@@ -2,7 +2,7 @@
 use Prim.Native.Nat.{ℕ, _+_, _≤_, _<_}
 use mathlib.Core.Path.{_≡_}
 use mathlib.Core.List.{List, []}
-use mathlib.Core.Bool.{true}
+use mathlib.Core.Bool.{Bool, true}
 use lib.ListN.{length, take, drop}
 use Rattle.bodies_rules.specs.declared.body.Range.{Range}
 use Rattle.elements_rules.specs.Rows.{rowAt}
@@ -70,8 +70,9 @@ pub record StringRow (s t′ : List ℕ) (rows : ℕ) (string : Range) : Type 0 
 -- The label that is asked with a display's set string goes by the shown text of a row.
 abbrev pub StageIsShown : Type 0
 StageIsShown =
-    (s : List ℕ) (start size k i j : ℕ) (t : List ℕ) (d : ChapterDisplay) (rows : ℕ) (t′ : List ℕ) (string : Range)
-    → DisplayPromise s start size k i j t (Display d rows) t′ → d .string ≡ At string
+    (live : Bool) (s : List ℕ) (start size k i j : ℕ) (t : List ℕ) (d : ChapterDisplay) (rows : ℕ) (t′ : List ℕ)
+    (string : Range)
+    → DisplayPromise live s start size k i j t (Display d rows) t′ → d .string ≡ At string
     → StringRow s t′ rows string
 
 -- A display's reply that has a string, and the row that the string comes from.
@@ -85,8 +86,8 @@ pub record ShownBy (s : List ℕ) (reply : DisplayReply) (t′ : List ℕ) (stri
 -- with it goes by the shown text of a row of the table that the question for that display leaves.
 abbrev pub FirstIsShown : Type 0
 FirstIsShown =
-    (s : List ℕ) (start size k i : ℕ) (t : List ℕ) (replies : ℕ → DisplayReply) (tables : ℕ → List ℕ)
-    → ((j : ℕ) → DisplayPromise s start size k i j t (replies j) (tables j))
-    → (rs : List Row) (chapter : ℕ) → chapterAsked s start size k i (length t) ≡ found rs chapter
+    (live : Bool) (s : List ℕ) (start size k i : ℕ) (t : List ℕ) (replies : ℕ → DisplayReply) (tables : ℕ → List ℕ)
+    → ((j : ℕ) → DisplayPromise live s start size k i j t (replies j) (tables j))
+    → (rs : List Row) (chapter : ℕ) → chapterAsked live s start size k i (length t) ≡ found rs chapter
     → (j : ℕ) (string : Range) → firstString s rs chapter ≡ FirstAt j string
     → ShownBy s (replies j) (tables j) string
