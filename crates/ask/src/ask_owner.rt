@@ -5,7 +5,14 @@ use owner_rules::OwnerReply;
 use questions::asked::Asked;
 
 pub fn owner(asked: Asked, recording: &[u8]) -> Told {
-    let reply = owner::owner(recording, asked.at, asked.size, asked.parent, asked.address);
+    let reply = owner::owner(
+        recording,
+        asked.live,
+        asked.at,
+        asked.size,
+        asked.parent,
+        asked.address,
+    );
     owner_told(reply)
 }
 

@@ -5,7 +5,7 @@ use questions::asked::Asked;
 use search_rules::PartReply;
 
 pub fn part(asked: Asked, recording: &[u8], table: &mut [u64]) -> Told {
-    part_told(search::find_part(recording, asked.id, table))
+    part_told(search::find_part(recording, asked.live, asked.id, table))
 }
 
 // `absent` or `at A size S`, how many seek heads were read, and TABLE.

@@ -6,7 +6,14 @@ use places_rules::RangeReply;
 use questions::asked::Asked;
 
 pub fn payload(asked: Asked, recording: &[u8], table: &mut [u64]) -> Told {
-    let reply = elements::read(recording, asked.at, asked.size, asked.parent, table);
+    let reply = elements::read(
+        recording,
+        asked.live,
+        asked.at,
+        asked.size,
+        asked.parent,
+        table,
+    );
     payload_told(reply, payloads::payload_range(recording, table, asked.row))
 }
 

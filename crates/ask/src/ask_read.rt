@@ -5,7 +5,14 @@ use elements_rules::ReadReply;
 use questions::asked::Asked;
 
 pub fn read(asked: Asked, recording: &[u8], table: &mut [u64]) -> Told {
-    read_told(elements::read(recording, asked.at, asked.size, asked.parent, table))
+    read_told(elements::read(
+        recording,
+        asked.live,
+        asked.at,
+        asked.size,
+        asked.parent,
+        table,
+    ))
 }
 
 // TABLE

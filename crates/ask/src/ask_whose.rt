@@ -7,6 +7,7 @@ use questions::asked::Asked;
 pub fn whose(asked: Asked, recording: &[u8], table: &mut [u64]) -> Told {
     let reply = places::whose_byte(
         recording,
+        asked.live,
         asked.at,
         asked.size,
         asked.parent,

@@ -17,6 +17,7 @@ use answers::told::Told;
 use lines::out;
 use questions::asked::Asked;
 use questions::asked::asked_of;
+use questions::asked::name_place;
 use questions::list::entry_of;
 use questions::table::MOST_ASKED;
 use replies::label;
@@ -24,18 +25,18 @@ use replies::record;
 use replies::shown_bytes;
 
 // The questions that are answered with bytes, by their numbers in the list.
-const PAYLOAD: usize = 7;
+const LABEL: usize = 6;
 
-const SHOWN: usize = 19;
+const PAYLOAD: usize = 11;
 
-const LABEL: usize = 20;
+const SHOWN: usize = 21;
 
-// The question behind those of records, texts and labels.
-const OWNER: usize = 21;
+// The first question that may be in live mode: it and those behind it read elements.
+const FIRST_LIVE: usize = 7;
 
 // The answer to a line, and its line feed. The list has for each question its name, its form
 // (crates/questions/src/asked.rt has the letters), and the words that its answer may have. Its order is that of the
-// numbers in `base`, and from `attachment` to `shown` in crates/replies/src/records.rt.
+// numbers in `base`, and for `tracktype` and from `attachment` on in crates/replies/src/records.rt.
 pub fn answer(
     line: &[u8],
     recording: &mut [u8; 65536],
@@ -48,11 +49,14 @@ pub fn answer(
         kind np kind master int uint string utf8 binary float date\n\
         utf8 b utf8 no yes\n\
         body npasdb int uint float date text bytes master\n\
+        range lrb at\n\
+        tracktype k video audio complex logo subtitle buttons control unknown\n\
+        label gwb label\n\
         read asptb\n\
         whose aspdtb row header payload\n\
+        owner aspdb header payload\n\
         part ntb absent at size heads\n\
         payload asptrb bytes\n\
-        range lrb at\n\
         attachment astkb description name mime data\n\
         edition astkb uid hidden default ordered chapters\n\
         chapter astkib uid start end hidden enabled segment edition displays\n\
@@ -61,13 +65,10 @@ pub fn answer(
         uid astkuib uid\n\
         simple astkib name language default value\n\
         audio astkb rate channels depth\n\
-        tracktype k video audio complex logo subtitle buttons control unknown\n\
         track astkb video audio complex logo subtitle buttons control unknown number uid type enabled default forced \
         hearing visual text original commentary lacing duration name language codec private codecname settings none \
         rate channels depth width height dwidth dheight interlaced stereo gamma\n\
-        shown asptrb text\n\
-        label gwb label\n\
-        owner aspdb header payload\n";
+        shown asptrb text\n";
     let n = put_answer(list, line, recording, table, out, held);
     out::put(out, n, b"\n")
 }
@@ -81,11 +82,21 @@ fn put_answer(
     out: &mut [u8; 65536],
     held: usize,
 ) -> usize {
-    let entry = entry_of(list, words::word(line, 0));
+    let name = name_place(line);
+    let entry = entry_of(list, words::word(line, name));
     let from = entry.from;
     let end = entry.end;
-    let asked = asked_of(line, words::word(&list[from..end], 1), recording, table);
+    let asked = asked_of(
+        line,
+        name,
+        words::word(&list[from..end], 1),
+        recording,
+        table,
+    );
     if !asked.good {
+        return bad(out, held);
+    }
+    if asked.live && entry.number < FIRST_LIVE {
         return bad(out, held);
     }
     lend(
@@ -153,12 +164,12 @@ fn base(question: usize, asked: Asked, recording: &[u8], table: &mut [u64]) -> T
         1 => kind(asked),
         2 => utf8(recording),
         3 => body(asked, recording),
-        4 => read(asked, recording, table),
-        5 => whose(asked, recording, table),
-        6 => part(asked, recording, table),
-        7 => payload(asked, recording, table),
-        8 => range(asked, recording, table),
-        OWNER => owner(asked, recording),
+        4 => range(asked, recording, table),
+        7 => read(asked, recording, table),
+        8 => whose(asked, recording, table),
+        9 => owner(asked, recording),
+        10 => part(asked, recording, table),
+        11 => payload(asked, recording, table),
         _ => record(question, asked, recording, table),
     }
 }

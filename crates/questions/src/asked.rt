@@ -3,6 +3,7 @@
 // A form has a letter for each word: `n` ID, `p` PARENT, `a` AT or START, `s` SIZE, `d` ADDRESS, `r` ROW,
 // `k` K or a track type's N, `i` I, `j` J, `u` LIST, `b` BYTES, `t` NUMBERS, `l` the table's numbers themselves,
 // `g` RANGE, `w` a word that the question itself reads.
+ghost use Prim.Native.Nat.{_≤_};
 ghost use Rattle.words.specs.Words.{Few};
 ghost use Rattle.questions.specs.Bounds.{InTable, Lent};
 use crate::table;
@@ -16,6 +17,8 @@ use words::Spelt;
 // A line that spells something else is not good.
 pub struct Asked {
     pub good: bool,
+    // Whether the question is in live mode.
+    pub live: bool,
     pub id: u32,
     pub parent: u32,
     pub at: u64,
@@ -32,25 +35,39 @@ pub struct Asked {
     pub numbers: usize,
 }
 
-// A form without letters is that of no question.
+// The place of the question's name among the words of a line: behind `live`, where the line begins with it.
+pub fn name_place(line: &[u8]) -> usize
+    ensures { λ r. ⌜ r ≤ 1 ⌝ }
+{
+    if words::same(words::word(line, 0), b"live") {
+        return 1;
+    }
+    0
+}
+
+// By the place of its name. A form without letters is that of no question.
 pub fn asked_of(
     line: &[u8],
+    name: usize,
     form: &[u8],
     recording: &mut [u8; 65536],
     table: &mut [u64; MOST_ASKED],
 ) -> Asked
+    requires { ⌜ name ≤ 1 ⌝ }
     ensures { λ r. ⌜ Lent r ⌝ }
 {
     if form.len() == 0 {
         return nothing(false);
     }
-    if words::word_count(line) != form.len() + 1 {
+    let first = name + 1;
+    if words::word_count(line) != form.len() + first {
         return nothing(false);
     }
     let mut asked = nothing(true);
+    asked.live = name == 1;
     let mut k: usize = 0;
     while k < form.len() {
-        let word = words::word(line, k + 1);
+        let word = words::word(line, k + first);
         asked = with_word(asked, form[k], word, recording, table);
         if !asked.good {
             return asked;
@@ -66,6 +83,7 @@ fn nothing(good: bool) -> Asked
 {
     Asked {
         good,
+        live: false,
         id: 0,
         parent: 0,
         at: 0,

@@ -30,23 +30,24 @@ use tracks::track_at;
 
 // What the answer tells; nothing for another number.
 pub fn record(question: usize, asked: Asked, recording: &[u8], table: &mut [u64]) -> Told {
+    let live = asked.live;
     let at = asked.at;
     let size = asked.size;
     let k = asked.k;
     let i = asked.i;
     match question {
-        9 => attachment(attachment_at(recording, at, size, k, table)),
-        10 => edition(edition_at(recording, at, size, k, table)),
-        11 => chapter(chapter_at(recording, at, size, k, i, table)),
-        12 => display(display_at(recording, at, size, k, i, asked.j, table)),
-        13 => tag(tag_at(recording, at, size, k, table)),
-        14 => uid(uid_at(recording, at, size, k, list_at(asked.j), i, table)),
-        15 => simple(simple_tag_at(recording, at, size, k, i, table)),
-        16 => audio(audio_at(recording, at, size, k, table)),
-        17 => tracktype(Tracktype::new(k)),
-        18 => track(track_at(recording, at, size, k, table)),
-        19 => {
-            let reply = read(recording, at, size, asked.parent, table);
+        5 => tracktype(Tracktype::new(k)),
+        12 => attachment(attachment_at(recording, live, at, size, k, table)),
+        13 => edition(edition_at(recording, live, at, size, k, table)),
+        14 => chapter(chapter_at(recording, live, at, size, k, i, table)),
+        15 => display(display_at(recording, live, at, size, k, i, asked.j, table)),
+        16 => tag(tag_at(recording, live, at, size, k, table)),
+        17 => uid(uid_at(recording, live, at, size, k, list_at(asked.j), i, table)),
+        18 => simple(simple_tag_at(recording, live, at, size, k, i, table)),
+        19 => audio(audio_at(recording, live, at, size, k, table)),
+        20 => track(track_at(recording, live, at, size, k, table)),
+        21 => {
+            let reply = read(recording, live, at, size, asked.parent, table);
             shown(reply, text_range(recording, table, asked.row))
         }
         _ => told::before(told::ENDED, 0),

@@ -7,14 +7,14 @@ use Rattle.questions.proofs.asked.asked_of.Statement.{statement}
 use Rattle.questions.proofs.asked.asked_of.Tie as tie
 
 abbrev Inv-loop : tie.InvT-loop
-Inv-loop line form recording₀ table₀ asked₀ k₀ recording table asked k = Lent asked × (k ≤ length form)
+Inv-loop line name form recording₀ table₀ first asked₀ k₀ recording table asked k = Lent asked × (k ≤ length form)
 
 abbrev μ-loop : tie.MeasureT-loop
-μ-loop line form recording₀ table₀ asked₀ k₀ recording table asked k = length form - k
+μ-loop line name form recording₀ table₀ first asked₀ k₀ recording table asked k = length form - k
 
 pub asked-of-spec : {M : Type 1} → statement M
 asked-of-spec =
-    tie.close (tie.spec Inv-loop μ-loop (λ c κs. search needs) (λ c. search needs) (λ c κs. search needs)
-    (λ c. search needs) (λ c κs. search needs) (λ c. search needs) (λ c κs. search needs) (λ c. search needs)
-    (λ c. search needs) (λ c κs. search needs) (λ c. search needs) (λ c κs. search needs) (λ c. search needs)
-    (λ c. search needs) (λ c. search needs) (λ c. search needs) (λ c. search needs))
+    tie.close (tie.spec Inv-loop μ-loop (λ c κs. search needs) (λ c. search needs) (λ c. search needs)
+    (λ c κs. search needs) (λ c. search needs) (λ c κs. search needs) (λ c. search needs) (λ c κs. search needs)
+    (λ c. search needs) (λ c. search needs) (λ c κs. search needs) (λ c. search needs) (λ c κs. search needs)
+    (λ c. search needs) (λ c. search needs) (λ c. search needs) (λ c. search needs) (λ c. search needs))
