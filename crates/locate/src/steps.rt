@@ -75,8 +75,8 @@ pub fn find(table: &[u64], rows: usize, way: Way) -> Found
     }
 }
 
-// Reads the payload of `size` bytes from `start` on into the table, in live mode or in old mode, and goes to the master.
-// 15: there is none.
+// Reads the payload of `size` bytes from `start` on into the table, in live mode or in old mode, and goes to the
+// master. 15: there is none.
 pub fn locate(
     recording: &[u8],
     live: bool,

@@ -1,5 +1,5 @@
--- Live mode beside old mode (document 02, C-18), of every record question: the statements of theorems, each with a wrong
--- reader that it shuts out.
+-- Live mode beside old mode (document 02, C-18), of every record question: the statements of theorems, each with a
+-- wrong reader that it shuts out.
 use Prim.Native.Nat.{ℕ, _/_}
 use mathlib.Core.Path.{_≡_}
 use mathlib.Core.List.{List}
@@ -30,8 +30,8 @@ PayloadKnown s start size parent numbers =
 pub record BothModes
     {R : Type 0} (s : List ℕ) (start size parent : ℕ) (refused : Refusal → R)
     (Permits : Bool → List ℕ → R → List ℕ → Type 0) : Type 0 where
-  -- In live mode it is 17, or reply and table are old mode's. It shuts out a live mode that ends a payload at an element
-  -- of unknown size and tells the record of the rows before it, or 15.
+  -- In live mode it is 17, or reply and table are old mode's. It shuts out a live mode that ends a payload at an
+  -- element of unknown size and tells the record of the rows before it, or 15.
   pub live-or :
       (t : List ℕ) (r r′ : R) (t′ u′ : List ℕ) → Permits false t r t′ → Permits true t r′ u′
       → ((a : ℕ) × (r′ ≡ refused (unknownSize a))) ⊎ ((r′ ≡ r) × (u′ ≡ t′))
