@@ -45,7 +45,8 @@ pub fn fill(
 }
 
 // The elements of the payload of `size` bytes from `start` on, under a parent id, into the table; in live mode, which
-// knows unknown sizes, or in old mode. A refusal fills the table with zeros. 14: a length is broken, or the start is past the end.
+// knows unknown sizes, or in old mode. A refusal fills the table with zeros. 14: a length is broken, or the start is
+// past the end.
 pub fn read(
     recording: &[u8],
     live: bool,

@@ -39,7 +39,8 @@ use Rattle.elements_rules.specs.Reading.{full, siblings, elementHeader, 
 use Rattle.elements_rules.specs.Rows.{width}
 use Rattle.elements_rules.specs.Promise.{keeping, allowed, filled, readOf, replyOf}
 use Rattle.elements_rules.specs.Faults.{Errand, toHeader, toBody, toElement, readsHeader, barred}
-use Rattle.elements_rules.specs.Faults.{unsized, NoHeader, noHeader, NoBody, bodyOfElement, bodyNamed, largerElement}
+use Rattle.elements_rules.specs.Faults.{unsized, NoHeader, noHeader, NoBody, bodyOfElement, bodyNamed}
+use Rattle.elements_rules.specs.Faults.{largerElement}
 use Rattle.elements_rules.specs.Faults.{Deeper, deeperElement, fullElement, Fault, FaultThere, Honest, there}
 use Rattle.elements_rules.specs.Faults.{callers, Comes, here, past}
 use Rattle.elements_rules.specs.Faults.{into, HonestReading, HeaderHonest, BodyHonest, ReadHonest}

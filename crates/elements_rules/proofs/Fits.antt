@@ -61,9 +61,11 @@ module _ (s : List ℕ) (mode : Mode) (keep : mode .keep ≡ true) (cap : ℕ) w
   body-fits depth parent at size n f =
       siblings-fit (element s mode cap (depths - depth) parent) (element-fit (depths - depth) parent) size at size n f
 
-pub rows-fit : (live : Bool) (s : List ℕ) (start size parent numbers : ℕ) (f : Forest) → readOf live s start size parent numbers ≡ done f
+pub rows-fit : (live : Bool) (s : List ℕ) (start size parent numbers : ℕ) (f : Forest)
+    → readOf live s start size parent numbers ≡ done f
     → count f ≤ numbers / width
 unfolding readOf filled
 rows-fit live s start size parent numbers f q =
-    let i = body-fits s (keeping live) refl (numbers / width) 0 parent start size 0 f (omega arith) (of-refuse _ _ _ q .1) in
+    let i = body-fits s (keeping live) refl (numbers / width) 0 parent start size 0 f (omega arith)
+    (of-refuse _ _ _ q .1) in
     omega arith

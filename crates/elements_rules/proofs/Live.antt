@@ -111,7 +111,8 @@ module _ (s : List ℕ) (keep : Bool) (cap : ℕ) where
   abbrev new : Mode
   new = record { keep = keep; live = true }
 
-  element-or : (levels parent at n : ℕ) → LiveOr (element s old cap levels parent at n) (element s new cap levels parent at n)
+  element-or : (levels parent at n : ℕ) → LiveOr (element s old cap levels parent at n)
+      (element s new cap levels parent at n)
   unfolding element full
   element-or zero parent at n = headed-or at (headerOf (drop at s)) _ _ (λ h. equal refl)
   element-or (suc levels) parent at n =
@@ -235,7 +236,8 @@ pub equal-reads : EqualReads
 equal-reads s start size parent t r r′ t′ u′ k p q = by (live-reads s start size parent t r r′ t′ u′ p q)
   where
     by : ((a : ℕ) × (r′ ≡ Refused (unknownSize a))) ⊎ ((r′ ≡ r) × (u′ ≡ t′)) → (r′ ≡ r) × (u′ ≡ t′)
-    by (inl (a, e)) = absurd (refused-so a (readOf true s start size parent (length t)) refl (ap readTold (sym e) ∙ q .reply))
+    by (inl (a, e)) = absurd (refused-so a (readOf true s start size parent (length t)) refl (ap readTold (sym e)
+        ∙ q .reply))
       where
         refused-so : (a : ℕ) (o : Outcome) → readOf true s start size parent (length t) ≡ o
             → refusal (unknownSize a) ≡ replyOf o → ⊥

@@ -113,7 +113,8 @@ module _ (live : Bool) (s s′ : List ℕ) where
   children-fit parent at e kids i =
       by-kind (e .kind) (λ m. let x = i .taken m in omega arith) (λ m. rw (i .childless m) (omega arith))
 
-  moves : (parent at at′ : ℕ) (f : Forest) → Stands live s parent at f → Same at at′ (span f) → Stands live s′ parent at′ f
+  moves : (parent at at′ : ℕ) (f : Forest) → Stands live s parent at f → Same at at′ (span f)
+      → Stands live s′ parent at′ f
   unfolding Stands span
   moves parent at at′ none i k = let j = k .there in omega arith
   moves parent at at′ (node e kids rest) i k =
@@ -138,7 +139,8 @@ module _ (live : Bool) (s s′ : List ℕ) where
 
   -- What stands in the one recording stands in the other where its octets do.
   pub stands-moves : (parent at at′ : ℕ) (f : Forest) → at′ ≤ length s′
-      → take (span f) (drop at s) ≡ take (span f) (drop at′ s′) → Stands live s parent at f → Stands live s′ parent at′ f
+      → take (span f) (drop at s) ≡ take (span f) (drop at′ s′) → Stands live s parent at f
+      → Stands live s′ parent at′ f
   stands-moves parent at at′ f l q i =
       moves parent at at′ f i (same at at′ (span f) (stands-inside live s parent at f i) l q)
 
@@ -190,7 +192,8 @@ pub read-moves : Moves
 read-moves live s s′ start start′ size parent t u n t′ r u′ same args room p q =
     let a = accepted-read live s start size parent t n t′ p in
     let f = a .forest in
-    let (reply, table) = there-too live s s′ start start′ size parent t u n t′ f (a .outcome) (a .number) same args room r u′
+    let (reply, table) = there-too live s s′ start start′ size parent t u n t′ f (a .outcome) (a .number) same args
+    room r u′
     q in
     let there = table-rows live s′ start′ size parent u n u′ f (a .number) table in
     let moved = rw (add-zero start, add-zero start′) at (rows-elsewhere start start′ 0 0 0 0 f) in
@@ -212,7 +215,8 @@ own-bytes live s s′ start size parent t u n t′ r u′ same args long p q =
     let a = accepted-read live s start size parent t n t′ p in
     let f = a .forest in
     let room = rw long at (a .fits) in
-    let (reply, table) = there-too live s s′ start start size parent t u n t′ f (a .outcome) (a .number) same args room r u′
+    let (reply, table) = there-too live s s′ start start size parent t u n t′ f (a .outcome) (a .number) same args room
+    r u′
     q in
     let other = table ∙ ap (λ (k : ℕ). tableOf start k (done f)) (sym long) in
     (reply, other ∙ sym (p .table ∙ ap (tableOf start (length t)) (a .outcome)))

@@ -104,8 +104,11 @@ module _ (live : Bool) (s : List ℕ) (at : ℕ) where
       go : (x : Heading) → elementHeader live s at ≡ x → headerRead at x ≡ HeaderRefused e
           → (elementHeader live s at ≡ refusedHeader (e .cause)) × (because (e .cause) at ≡ e)
       go (refusedHeader c) t w =
-          let y : because c at ≡ e = cc in
-          (t ∙ ap (λ (x : Refusal). refusedHeader (x .cause)) y, ap (λ (x : Refusal). because (x .cause) at) (sym y) ∙ y)
+          let y : because c at ≡ e = cc in (
+            t ∙ ap (λ (x : Refusal). refusedHeader (x .cause)) y,
+            ap (λ (x : Refusal). because (x .cause) at) (sym y)
+                ∙ y,
+          )
       go (heading g) t w = let z : _≡_ {A = ℕ} 0 1 = cc in absurd (omega arith)
 
   -- What the code tells, by the header at the place.
@@ -127,7 +130,8 @@ module _ (s : List ℕ) (mode : Mode) (cap : ℕ) where
   -- Where no depth is left, nothing is accepted.
   pub no-depth : {A : Type 0} (parent at n : ℕ) (f : Forest) → element s mode cap zero parent at n ≡ done f → A
   unfolding element
-  no-depth parent at n f q = never (of-headed at {x = elementHeader (mode .live) s at} {k = λ h. refused (tooDeep at)} q .2)
+  no-depth parent at n f q = never (of-headed at {x = elementHeader (mode .live) s at} {k = λ h. refused (tooDeep at)}
+      q .2)
 
   -- An element that was read: its header was, a row was free, and its body holds its children.
   pub record ElementOf (levels parent at n : ℕ) (f : Forest) : Type 0 where

@@ -59,7 +59,8 @@ module _ (live : Bool) (s : List ℕ) (start size parent : ℕ) (t : List ℕ) (
       = length-replicate (length t - count f * width) 0 in
       ap length w ∙ (omega arith)
 
-  pub accepted-read : ReadPromise live s start size parent t (Rows n) t′ → Accepted live s start size parent (length t) n t′
+  pub accepted-read : ReadPromise live s start size parent t (Rows n) t′
+      → Accepted live s start size parent (length t) n t′
   accepted-read p =
       let (f, o, k) = told-rows n (readOf live s start size parent (length t)) (p .reply) in
       let w = p .table ∙ ap (tableOf start (length t)) o in

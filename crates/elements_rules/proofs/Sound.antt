@@ -70,7 +70,8 @@ pub rows-sound : RowsSound
 rows-sound live s start size parent t n t′ p =
     let a = accepted-read live s start size parent t n t′ p in
     let (w, i) = read-stands live s start size parent (length t) (a .forest) (a .outcome) in
-    subst (λ (rs : List Row). Each (Sound s) rs) (sym (a .rows-are)) (rows-sound-of live s parent 0 0 start 0 (a .forest) i)
+    subst (λ (rs : List Row). Each (Sound s) rs) (sym (a .rows-are))
+    (rows-sound-of live s parent 0 0 start 0 (a .forest) i)
 
 pub reads-a-tree : ReadsATree
 reads-a-tree live s start size parent t n t′ p =

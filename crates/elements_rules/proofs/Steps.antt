@@ -42,7 +42,8 @@ module _ (s : List ℕ) (mode : Mode) (t : List ℕ) (place : Cursor) (n : ℕ) 
   abbrev pub Promised : List ℕ → ElementRead → Type 0
   Promised t′ r = Met s mode (place .at + 1) (above .row) (above .depth) (place .at) n here t t′ r
 
-  pub header-fails : (t′ : List ℕ) (e : Refusal) → elementHeaderRead (mode .live) s (place .at) ≡ HeaderRefused e → Promised t′ (Refused e)
+  pub header-fails : (t′ : List ℕ) (e : Refusal) → elementHeaderRead (mode .live) s (place .at) ≡ HeaderRefused e
+      → Promised t′ (Refused e)
   header-fails t′ e q =
       met-refused s mode _ _ _ _ n here t t′ e
       (el-refused s mode (length t / width) (above .depth) (above .id) (place .at) n e q)

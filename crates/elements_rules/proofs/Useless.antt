@@ -30,8 +30,10 @@ use Rattle.elements_rules.proofs.Readback.{accepted-read}
 unfoldable computed : (live : Bool) → Type 0
 computed live =
     (replyOf (readOf live trackEntry 0 2 0 (2 * width)) ≡ accepted 1)
-    × (tableOf 0 (2 * width) (readOf live trackEntry 0 2 0 (2 * width)) ≡ 0xAE ∷ 0 ∷ 0 ∷ 2 ∷ 0 ∷ 1 ∷ 0 ∷ 1 ∷ zeros width)
-    × (tableOf 0 (2 * width) (readOf live blockGroup 0 2 0 (2 * width)) ≡ 0xA0 ∷ 0 ∷ 0 ∷ 2 ∷ 0 ∷ 1 ∷ 0 ∷ 1 ∷ zeros width)
+    × (tableOf 0 (2 * width) (readOf live trackEntry 0 2 0 (2 * width)) ≡ 0xAE ∷ 0 ∷ 0 ∷ 2 ∷ 0 ∷ 1 ∷ 0 ∷ 1
+    ∷ zeros width)
+    × (tableOf 0 (2 * width) (readOf live blockGroup 0 2 0 (2 * width)) ≡ 0xA0 ∷ 0 ∷ 0 ∷ 2 ∷ 0 ∷ 1 ∷ 0 ∷ 1
+    ∷ zeros width)
 
 both-read : (live : Bool) → computed live
 unfolding computed octetBits bits oneMore widthOf bigEndianFrom bigEndian ofWidth vintOf sized named headerOf

@@ -68,7 +68,8 @@ module _ (live : Bool) (start numbers : ℕ) (o : Outcome) (t : List ℕ) where
 
 -- They are as promised where the outcome is the read's.
 promised : (live : Bool) (s : List ℕ) (start size parent : ℕ) (t : List ℕ) (r : ReadReply) (t′ : List ℕ)
-    → Gives start (length t) (readOf live s start size parent (length t)) r t′ → ReadPromise live s start size parent t r t′
+    → Gives start (length t) (readOf live s start size parent (length t)) r t′
+    → ReadPromise live s start size parent t r t′
 promised live s start size parent t r t′ g = record { reply = g .reply; table = g .table }
 
 -- ---- from the reader's answer on the cleared table t₁ to the promise
@@ -94,7 +95,8 @@ module _ (live : Bool) (s : List ℕ) (start size parent : ℕ) (t₁ : List ℕ
         (outcome ∙ told-refused start 0 reading e (m .reply)) w)
 
     pub fill-done : (n : ℕ) (next : Cursor) (t : List ℕ)
-        → Met s (keeping live) start 0 0 start 0 reading t₁ t (Read n next) → ReadPromise live s start size parent t₁ (Rows n) t
+        → Met s (keeping live) start 0 0 start 0 reading t₁ t (Read n next)
+        → ReadPromise live s start size parent t₁ (Rows n) t
     fill-done n next t m =
         let (f, u, b, c) = told-read start 0 reading n next (m .reply) in
         let k : n ≡ count f = b ∙ zero-add (count f) in
@@ -106,7 +108,8 @@ module _ (live : Bool) (s : List ℕ) (start size parent : ℕ) (t₁ : List ℕ
 -- ---- the public call
 
 module _ (live : Bool) (s : List ℕ) (start size parent : ℕ) (t : List ℕ) where
-  refused-argument : allowed s start (length t) ≡ false → readOf live s start size parent (length t) ≡ refused badArgument
+  refused-argument : allowed s start (length t) ≡ false
+      → readOf live s start size parent (length t) ≡ refused badArgument
   unfolding readOf
   refused-argument a = refuses _ _ _ (ap not a)
 
@@ -114,7 +117,8 @@ module _ (live : Bool) (s : List ℕ) (start size parent : ℕ) (t : List ℕ) w
       → ReadPromise live s start size parent t (Refused badArgument) t₁
   not-allowed t₁ a z =
       promised live s start size parent t (Refused badArgument) t₁
-      (gives-refusal live start (length t) (readOf live s start size parent (length t)) t₁ badArgument (refused-argument a) z)
+      (gives-refusal live start (length t) (readOf live s start size parent (length t)) t₁ badArgument
+      (refused-argument a) z)
 
   -- What was promised of the cleared table holds of the table that the caller lent.
   pub as-lent : (t₁ t₂ : List ℕ) (r : ReadReply) → length t₁ ≡ length t → ReadPromise live s start size parent t₁ r t₂

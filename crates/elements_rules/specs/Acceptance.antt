@@ -19,15 +19,16 @@ use Rattle.elements_rules.specs.declared.reply.ReadReply.the-variants.{R
 
 -- The arguments are allowed. A tree stands in the payload, takes it up, has at most 16 depths and finds rows enough;
 -- n is how many it has, and t′ is those rows and zeros beyond them.
-pub record Acceptable (live : Bool) (s : List ℕ) (start size parent : ℕ) (t : List ℕ) (n : ℕ) (t′ : List ℕ) : Type 0 where
-  pub arguments : allowed s start (length t) ≡ true
-  pub forest : Forest
-  pub stands : Stands live s parent start forest
-  pub taken : span forest ≡ size
-  pub low : deep forest ≤ depths
-  pub number : n ≡ count forest
-  pub fits : n ≤ length t / width
-  pub table : t′ ≡ flatten (rowsAt start forest) ++ zeros (length t - n * width)
+pub record Acceptable (live : Bool) (s : List ℕ) (start size parent : ℕ) (t : List ℕ) (n : ℕ) (t′ : List ℕ) : Type 0
+  where
+    pub arguments : allowed s start (length t) ≡ true
+    pub forest : Forest
+    pub stands : Stands live s parent start forest
+    pub taken : span forest ≡ size
+    pub low : deep forest ≤ depths
+    pub number : n ≡ count forest
+    pub fits : n ≤ length t / width
+    pub table : t′ ≡ flatten (rowsAt start forest) ++ zeros (length t - n * width)
 
 -- A read is accepted exactly if that holds, and then with just these rows. It shuts out a reader that refuses more than
 -- it has to: an element of depth 15, the last row of the table, a master without children.
@@ -62,7 +63,8 @@ BodyExactly =
 -- overruns the payload is 1, 3 or 7 by the bytes behind it (P11).
 abbrev pub OwnBytes : Type 0
 OwnBytes =
-    (live : Bool) (s s′ : List ℕ) (start size parent : ℕ) (t u : List ℕ) (n : ℕ) (t′ : List ℕ) (r : ReadReply) (u′ : List ℕ)
+    (live : Bool) (s s′ : List ℕ) (start size parent : ℕ) (t u : List ℕ) (n : ℕ) (t′ : List ℕ) (r : ReadReply)
+    (u′ : List ℕ)
     → take size (drop start s) ≡ take size (drop start s′) → allowed s′ start (length u) ≡ true → length t ≡ length u
     → ReadPromise live s start size parent t (Rows n) t′ → ReadPromise live s′ start size parent u r u′
     → (r ≡ Rows n) × (u′ ≡ t′)
@@ -93,13 +95,15 @@ pub record OneTree (start start′ n : ℕ) (t′ u′ : List ℕ) : Type 0 wher
 -- an element stands, as one that takes even addresses alone, and one whose addresses count from the payload's start.
 abbrev pub Moves : Type 0
 Moves =
-    (live : Bool) (s s′ : List ℕ) (start start′ size parent : ℕ) (t u : List ℕ) (n : ℕ) (t′ : List ℕ) (r : ReadReply) (u′ : List ℕ)
+    (live : Bool) (s s′ : List ℕ) (start start′ size parent : ℕ) (t u : List ℕ) (n : ℕ) (t′ : List ℕ) (r : ReadReply)
+    (u′ : List ℕ)
     → take size (drop start s) ≡ take size (drop start′ s′) → allowed s′ start′ (length u) ≡ true
     → n ≤ length u / width
     → ReadPromise live s start size parent t (Rows n) t′ → ReadPromise live s′ start′ size parent u r u′
     → (r ≡ Rows n) × OneTree start start′ n t′ u′
 
--- The same of a master's body, with rows or without: a seek head that is copied to another place is the same tree there.
+-- The same of a master's body, with rows or without: a seek head that is copied to another place is the same tree
+-- there.
 abbrev pub BodyMoves : Type 0
 BodyMoves =
     (s s′ : List ℕ) (mode : Mode) (cap depth parent at at′ size n : ℕ) (f : Forest) → at ≤ length s → at′ ≤ length s′

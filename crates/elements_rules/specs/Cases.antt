@@ -83,8 +83,8 @@ cases =
     ∷ breaks (0x45 ∷ 0xB9 ∷ 0xA0 ∷ nested 16 0 []) 17 12 33
     ∷ breaks (0xEC ∷ 0x80 ∷ []) 0 13 0
     ∷ breaks (0xEC ∷ 0x80 ∷ 0xEC ∷ 0x80 ∷ []) 1 13 2
-    -- In live mode an unknown size is 17, directly after its header: of a Cluster and a Segment too, before 12, before 13
-    -- and before the body. In old mode it is a number.
+    -- In live mode an unknown size is 17, directly after its header: of a Cluster and a Segment too, before 12, before
+    -- 13 and before the body. In old mode it is a number.
     ∷ breaksLive (0x1F ∷ 0x43 ∷ 0xB6 ∷ 0x75 ∷ 0xFF ∷ []) 0 17 0
     ∷ breaks (0x1F ∷ 0x43 ∷ 0xB6 ∷ 0x75 ∷ 0xFF ∷ []) 0 13 0
     ∷ breaksLive (0xEC ∷ 0x80 ∷ 0x18 ∷ 0x53 ∷ 0x80 ∷ 0x67 ∷ 0x7F ∷ 0xFF ∷ []) 2 17 2

@@ -1,5 +1,5 @@
--- What a refusal names (document 02, C-12; C-18): the fault at its address, said once over the causes, and how a reader came
--- there. The statements of theorems, each with a wrong reader that it shuts out.
+-- What a refusal names (document 02, C-12; C-18): the fault at its address, said once over the causes, and how a reader
+-- came there. The statements of theorems, each with a wrong reader that it shuts out.
 use Prim.Native.Nat.{ℕ, _+_, _-_, _/_, _^_, _≤_, _<_}
 use mathlib.Core.Path.{_≡_}
 use mathlib.Core.List.{List, [], _∷_, _++_}

@@ -47,5 +47,6 @@ nestedTable =
 
 abbrev pub NestedJumps : Type 0
 NestedJumps =
-    (live : Bool) (t : List ℕ) (r : ReadReply) (t′ : List ℕ) → length t ≡ 4 * width → ReadPromise live nested 0 8 0 t r t′
+    (live : Bool) (t : List ℕ) (r : ReadReply) (t′ : List ℕ) → length t ≡ 4 * width
+    → ReadPromise live nested 0 8 0 t r t′
     → (r ≡ Rows 4) × (t′ ≡ nestedTable)

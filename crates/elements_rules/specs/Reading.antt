@@ -1,5 +1,5 @@
--- How elements are read (document 01, Element table; document 02, C-18): an element holds a body, and a master's body holds elements, read
--- until its size is used up.
+-- How elements are read (document 01, Element table; document 02, C-18): an element holds a body, and a master's body
+-- holds elements, read until its size is used up.
 use Prim.Native.Nat.{ℕ, zero, suc, _+_, _-_}
 use mathlib.Core.List.{List}
 use mathlib.Core.Bool.{Bool, true, false, cond, _&&_}

@@ -29,7 +29,8 @@ use Rattle.elements_rules.specs.declared.reply.ReadReply.the-variants.{R
 -- promises). The numbers that stood in the lent table do not matter, only how many there are.
 abbrev pub OneReply : Type 0
 OneReply =
-    (live : Bool) (s : List ℕ) (start size parent : ℕ) (t u : List ℕ) (r r′ : ReadReply) (t′ u′ : List ℕ) → length t ≡ length u
+    (live : Bool) (s : List ℕ) (start size parent : ℕ) (t u : List ℕ) (r r′ : ReadReply) (t′ u′ : List ℕ)
+    → length t ≡ length u
     → ReadPromise live s start size parent t r t′ → ReadPromise live s start size parent u r′ u′ → (r ≡ r′) × (t′ ≡ u′)
 
 -- A refusal that the promise permits is one of document 01's list.
@@ -63,7 +64,8 @@ SameLeaf s s′ r = isLeaf r ≡ true → payloadOf s r ≡ payloadOf s′ r
 -- in every leaf payload, are equal.
 abbrev pub Lossless : Type 0
 Lossless =
-    (live : Bool) (s s′ : List ℕ) → Octets s → Octets s′ → (start size parent : ℕ) (t u : List ℕ) (n m : ℕ) (t′ : List ℕ)
+    (live : Bool) (s s′ : List ℕ) → Octets s → Octets s′
+    → (start size parent : ℕ) (t u : List ℕ) (n m : ℕ) (t′ : List ℕ)
     → ReadPromise live s start size parent t (Rows n) t′ → ReadPromise live s′ start size parent u (Rows m) t′
     → Each (SameLeaf s s′) (rowsOf t′ n)
     → take size (drop start s) ≡ take size (drop start s′)

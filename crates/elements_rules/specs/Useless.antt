@@ -22,7 +22,8 @@ blockGroup = 0xA0 ∷ 0x80 ∷ []
 -- the table is zeros.
 abbrev pub NotAllRefused : Type 0
 NotAllRefused =
-    (live : Bool) (t : List ℕ) (r : ReadReply) (t′ : List ℕ) → length t ≡ 2 * width → ReadPromise live trackEntry 0 2 0 t r t′
+    (live : Bool) (t : List ℕ) (r : ReadReply) (t′ : List ℕ) → length t ≡ 2 * width
+    → ReadPromise live trackEntry 0 2 0 t r t′
     → (r ≡ Rows 1) × (t′ ≡ 0xAE ∷ 0 ∷ 0 ∷ 2 ∷ 0 ∷ 1 ∷ 0 ∷ 1 ∷ zeros width)
 
 -- Not one that gives the same table for all bytes: these two payloads have no leaf, so that no leaf bytes could tell

@@ -17,8 +17,8 @@ pub struct Row {
     pub after: u64,
 }
 
-// How elements are read: with rows, or without; and in live mode, which knows unknown sizes, or in old mode, which takes
-// every size as the number that it is (document 02, C-18).
+// How elements are read: with rows, or without; and in live mode, which knows unknown sizes, or in old mode, which
+// takes every size as the number that it is (document 02, C-18).
 pub struct Mode {
     pub keep: bool,
     pub live: bool,

@@ -48,7 +48,8 @@ fn part_lines(
 ) -> usize
     requires { ⌜ length (now table) ≡ tableNumbers ⌝ }
     requires { ⌜ held + partRoom ≤ length (now page) ⌝ }
-    ensures { λ r. ⌜ Wrote (now (page .entry)) held (partLines live (now (recording .entry)) part) r (now (page .exit)) ⌝ }
+    ensures { λ r. ⌜ Wrote (now (page .entry)) held
+        (partLines live (now (recording .entry)) part) r (now (page .exit)) ⌝ }
     ensures { λ r. ⌜ r ≤ held + partRoom ⌝ }
 {
     let named = put_hexadecimal(page, held, b"part ", part as u64);
@@ -85,8 +86,8 @@ fn all_parts(page: &mut [u8], held: usize, recording: &[u8], live: bool, table: 
     part_lines(page, chapters, recording, live, ids::TAGS, table)
 }
 
-// Writes the listing, in live mode or in old mode, at the start of the page, and answers how many bytes it has. A recording of more than 65,536 bytes
-// is refused with 14.
+// Writes the listing, in live mode or in old mode, at the start of the page, and answers how many bytes it has. A
+// recording of more than 65,536 bytes is refused with 14.
 pub fn listing(recording: &[u8], live: bool, page: &mut [u8; PAGE]) -> usize
     ensures { λ r. ⌜ ListingPromise live (now (recording .entry)) (now (page .entry)) r (now (page .exit)) ⌝ }
 {

@@ -33,6 +33,7 @@ unfolding octetBits bits oneMore widthOf bigEndianFrom bigEndian ofWidth vintOf 
     elements kindIn keeps demoted kindUnder utf8Char behind anyOf goesOn utf8 bodyOf
     span count join refuseIf full siblings element masterBody rows isTable allowed filled
     lastFour withMembers entryOf entries later latestFrom member sought lastHead nextHead chain partAt byHeads
-    unknown isPast endedBy barredStep childAt walk passOver segmentOf stretchOf overruns visit segmentChildren lookupOf parentOf searchOf
+    unknown isPast endedBy barredStep childAt walk passOver segmentOf stretchOf overruns visit segmentChildren lookupOf
+    parentOf searchOf
     glyph numeral kindWord rowPlace rowLine rowLines placeText searchText partLines allParts listingOf
 cases-hold = (refl, (refl, (refl, tt)))

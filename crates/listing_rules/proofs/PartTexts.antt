@@ -77,7 +77,8 @@ part-text live s part text page held r page′ r′ page″ e room v w =
 -- ---- the whole listing
 
 pub listing-is :
-    (live : Bool) (s text page : List ℕ) (r : ℕ) (page′ : List ℕ) → listingOf live s ≡ text → r ≤ length page → Wrote page 0 text
+    (live : Bool) (s text page : List ℕ) (r : ℕ) (page′ : List ℕ) → listingOf live s ≡ text → r ≤ length page
+    → Wrote page 0 text
     r page′
     → ListingPromise live s page r page′
 listing-is live s text page r page′ e l w =

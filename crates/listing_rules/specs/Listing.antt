@@ -41,7 +41,8 @@ partLines live s part = ascii "part " ++ hexadecimal part ++ searchText (searchO
 -- The four parts in their order: Tracks, Attachments, Chapters, Tags.
 unfoldable pub allParts : (live : Bool) → List ℕ → List ℕ
 allParts live s =
-    partLines live s 0x1654AE6B ++ partLines live s 0x1941A469 ++ partLines live s 0x1043A770 ++ partLines live s 0x1254C367
+    partLines live s 0x1654AE6B ++ partLines live s 0x1941A469 ++ partLines live s 0x1043A770 ++ partLines live s
+    0x1254C367
 
 -- The listing; a longer recording is refused with 14.
 unfoldable pub listingOf : (live : Bool) → List ℕ → List ℕ

@@ -34,7 +34,13 @@ of-cause at InvalidUint = plain at InvalidUint (omega arith) (inl (omega arith))
 of-cause at InvalidFloat = plain at InvalidFloat (omega arith) (inl (omega arith)) refl
 of-cause at InvalidDate = plain at InvalidDate (omega arith) (inl (omega arith)) refl
 of-cause at NotUtf8 = plain at NotUtf8 (omega arith) (inl (omega arith)) refl
-of-cause at (InvalidSeekHead id) = record { least = omega arith; most = omega arith; but = λ q. omega arith; alone = λ some. refl }
+of-cause at (InvalidSeekHead id) = record {
+  least = omega arith;
+  most = omega arith;
+  but = λ q. omega arith;
+  alone = λ
+      some. refl;
+}
 of-cause at StaleEntry = plain at StaleEntry (omega arith) (inl (omega arith)) refl
 of-cause at HeadAgain = plain at HeadAgain (omega arith) (inl (omega arith)) refl
 of-cause at TooManyHeads = plain at TooManyHeads (omega arith) (inl (omega arith)) refl

@@ -34,8 +34,8 @@ fn list(recording: &[u8], live: bool, page: &mut [u8; PAGE]) -> bool {
     io::write_all(1, &text[..n])
 }
 
-// Reads and lists. What can't be read is not listed. That, and a failed write, is told on standard error: a program can't
-// set its exit status.
+// Reads and lists. What can't be read is not listed. That, and a failed write, is told on standard error: a program
+// can't set its exit status.
 fn read_and_list(live: bool) {
     let mut room = [0u8; ROOM];
     let held = read_recording(&mut room);

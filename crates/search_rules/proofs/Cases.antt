@@ -29,11 +29,18 @@ unfolding octetBits bits oneMore widthOf bigEndianFrom bigEndian ofWidth vintOf 
     elements kindIn keeps demoted kindUnder utf8Char behind anyOf goesOn utf8 bodyOf
     span count join refuseIf full siblings element masterBody isTable allowed filled
     lastFour withMembers entryOf entries later latestFrom member sought lastHead nextHead chain partAt byHeads
-    endsBefore isPast endedBy barredStep childAt walk endedAt within endFrom passOver unknown segmentOf stretchOf overruns
+    endsBefore isPast endedBy barredStep childAt walk endedAt within endFrom passOver unknown segmentOf stretchOf
+    overruns
     visit segmentChildren lookupOf parentOf searchOf
 cases-hold =
-    let live-last : Hold (drop 31 cases) = (refl, (refl, (refl, (refl, (refl, (refl, (refl, (refl, (refl, (refl, (refl, (refl, tt)))))))))))) in
-    let live-first : Hold (drop 20 cases) = (refl, (refl, (refl, (refl, (refl, (refl, (refl, (refl, (refl, (refl, (refl, live-last))))))))))) in
+    let live-last : Hold (drop 31 cases) = (
+      refl,
+      (refl, (refl, (refl, (refl, (refl, (refl, (refl, (refl, (refl, (refl, (refl, tt))))))))))),
+    ) in
+    let live-first : Hold (drop 20 cases) = (
+      refl,
+      (refl, (refl, (refl, (refl, (refl, (refl, (refl, (refl, (refl, (refl, live-last)))))))))),
+    ) in
     let rest : Hold (drop 12 cases) = (refl, (refl, (refl, (refl, (refl, (refl, (refl, (refl, live-first)))))))) in
     let listed : Hold (drop 8 cases) = (refl, (refl, (refl, (refl, rest)))) in
     (refl, (refl, (refl, (refl, (refl, (refl, (refl, (refl, listed))))))))

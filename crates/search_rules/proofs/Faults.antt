@@ -106,7 +106,8 @@ module _ {A B : Type 0} (live : Bool) (s : List ℕ) (stretch : Stretch) (w : Wa
     → P (w .stop e))
     (each : (a : A) (at : ℕ) (e : Headed) → Along live s stretch Over from at → childAt live s stretch at ≡ Child e
     → Went P (Over e) (w .visit a e))
-    (lost : (at : ℕ) (e : Headed) (r : Refusal) → Along live s stretch Over from at → childAt live s stretch at ≡ Child e
+    (lost : (at : ℕ) (e : Headed) (r : Refusal) → Along live s stretch Over from at
+    → childAt live s stretch at ≡ Child e
     → Over e → passOver live s (endOf stretch) e ≡ Lost r → P (w .stop r)) where
   pub the-walk : (a : A) → P (walkFrom live s stretch w from a)
   the-walk a =
@@ -241,7 +242,8 @@ module _ (live : Bool) (s : List ℕ) (part numbers : ℕ) where
     stretch = stretchOf live s segment
 
     -- Where a segment of known size is walked over, its places are before its end.
-    before-end : (live && unknown (segment .header)) ≡ false → (at : ℕ) → isPast s stretch at ≡ false → at < behind segment
+    before-end : (live && unknown (segment .header)) ≡ false → (at : ℕ) → isPast s stretch at ≡ false
+        → at < behind segment
     unfolding stretchOf isPast
     before-end u at k = leb-less (rw u at k)
       where
@@ -347,7 +349,8 @@ module _ (live : Bool) (s : List ℕ) (part numbers : ℕ) where
       of (absentAt heads) w f = let z : _≡_ {A = ℕ} 0 1 = cc in absurd (let y : ⊥ = omega arith in y)
       of (stopped r) w f = let i : r ≡ e = cc in subst Here i f
 
-      by : (x : HeaderRead) → segmentOf live s ≡ x → onHeader x stopped (segmentChildren live s part) ≡ stopped e → OfFile x
+      by : (x : HeaderRead) → segmentOf live s ≡ x → onHeader x stopped (segmentChildren live s part) ≡ stopped e
+          → OfFile x
           → Here e
       by (Read segment) k w f = of (segmentChildren live s part segment) w (segment-fault segment k)
       by (HeaderRefused r) k w f = let i : r ≡ e = cc in subst Here i f
@@ -372,7 +375,8 @@ module _ (live : Bool) (s : List ℕ) (part numbers : ℕ) where
           let z : _≡_ {A = ℕ} 0 1 = cc in absurd (let y : ⊥ = omega arith in y)
       by-reading parent x heads p l (refusedReading r) k w =
           let i : r ≡ e = cc in
-          let here = filled-found live s (x .payload .at) (x .header .size) parent numbers e (k ∙ ap refusedReading i) in
+          let here = filled-found live s (x .payload .at) (x .header .size) parent numbers e (k
+          ∙ ap refusedReading i) in
           there (record {
             errand = here .errand;
             reached = inPart parent x heads (e .address) (here .errand) p l (here .reached);

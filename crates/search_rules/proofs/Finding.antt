@@ -121,7 +121,8 @@ module _ (live : Bool) (s : List ℕ) (part : ℕ) (t : List ℕ) where
   promised x q r t′ e w = record { reply = e ∙ sym (ap replyOf q); table = w ∙ sym (ap (tableOf (length t)) q) }
 
   -- A refusal before anything was read into the table.
-  cleared : (e e′ : Refusal) (t′ : List ℕ) → searchOf live s part (length t) ≡ refused e′ → e ≡ e′ → t′ ≡ zeros (length t)
+  cleared : (e e′ : Refusal) (t′ : List ℕ) → searchOf live s part (length t) ≡ refused e′ → e ≡ e′
+      → t′ ≡ zeros (length t)
       → PartPromise live s part t (Refused e) t′
   unfolding tableOf
   cleared e e′ t′ q i z = promised (refused e′) q (Refused e) t′ (rw i refl) z

@@ -144,9 +144,11 @@ module _ (live : Bool) (s : List ℕ) (part numbers at size : ℕ) (heads : List
       by false a x i w = let z : _≡_ {A = ℕ} 0 1 = cc in absurd (omega arith)
 
 -- Its payload starts in the recording.
-starts : (live : Bool) (s : List ℕ) (part numbers at size : ℕ) (heads : List ℕ) (f : Forest) → Sought live s part numbers at size heads f
+starts : (live : Bool) (s : List ℕ) (part numbers at size : ℕ) (heads : List ℕ) (f : Forest)
+    → Sought live s part numbers at size heads f
     → at ≤ length s
-starts live s part numbers at size heads f g = omega (arith, found-inside live s part (g .element) heads (g .place), g .payload)
+starts live s part numbers at size heads f g = omega
+    (arith, found-inside live s part (g .element) heads (g .place), g .payload)
 
 pub found-is-part : FoundIsPart
 unfolding headsOf

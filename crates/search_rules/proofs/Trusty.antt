@@ -22,7 +22,8 @@ use Rattle.seekchain_rules.specs.Theorems.{IsAt, AreHeads, Distinct, GoodHeads,
 use Rattle.seekchain_rules.proofs.Leads.{heads-lead}
 use Rattle.header.specs.Reads.{behind}
 use Rattle.walks_rules.specs.Walk.{Visit, ends, over, onVisit}
-use Rattle.segments_rules.specs.Segment.{stretchOf, overruns, segmentOf, withinSegment, visit, searching, segmentChildren, lookupOf}
+use Rattle.segments_rules.specs.Segment.{stretchOf, overruns, segmentOf, withinSegment, visit, searching}
+use Rattle.segments_rules.specs.Segment.{segmentChildren, lookupOf}
 use Rattle.walks_rules.proofs.Bounds.{Ended}
 use Rattle.walks_rules.proofs.Walks.{walk-holds}
 use Rattle.search_rules.specs.Theorems.{FoundWay, met, named, FoundBy}
@@ -40,7 +41,8 @@ Trusty live s wanted start (stopped e) = Unit
 
 -- The same of the whole recording.
 abbrev pub Placed : (live : Bool) → List ℕ → ℕ → Lookup → Type 0
-Placed live s wanted (found part heads) = FoundBy live s wanted (part .payload .at) (part .header .size) heads × GoodHeads live s heads
+Placed live s wanted (found part heads) = FoundBy live s wanted (part .payload .at) (part .header .size) heads
+    × GoodHeads live s heads
 Placed live s wanted (absent heads) = GoodHeads live s heads
 Placed live s wanted (stopped e) = Unit
 
@@ -56,7 +58,8 @@ module _ (live : Bool) (s : List ℕ) (wanted : ℕ) (segment : Headed) where
   led first i (stopped e) b = tt
 
   -- What a child ends the search with.
-  visited : (e : Headed) → headerAt s (e .place .at) ≡ Read e → Ended (Trusty live s wanted start) (visit live s wanted segment e)
+  visited : (e : Headed) → headerAt s (e .place .at) ≡ Read e
+      → Ended (Trusty live s wanted start) (visit live s wanted segment e)
   unfolding visit
   visited e q = by (eqb (e .header .id) seekHeadId) refl (eqb (e .header .id) wanted) refl
     where
@@ -100,7 +103,8 @@ module _ (live : Bool) (s : List ℕ) (wanted : ℕ) where
       in-segment e q (absent heads) t = t
       in-segment e q (stopped r) t = tt
 
-      go : (x : HeaderRead) → segmentOf live s ≡ x → Placed live s wanted (onHeader x stopped (segmentChildren live s wanted))
+      go : (x : HeaderRead) → segmentOf live s ≡ x
+          → Placed live s wanted (onHeader x stopped (segmentChildren live s wanted))
       go (Refused e) q = tt
       go (Read e) q = in-segment e q (segmentChildren live s wanted e) (children-trusty live s wanted e)
 

@@ -1,5 +1,5 @@
--- The search in live mode and in old mode (document 02, C-18): the statements of theorems, each with a wrong reader that
--- it shuts out.
+-- The search in live mode and in old mode (document 02, C-18): the statements of theorems, each with a wrong reader
+-- that it shuts out.
 use Prim.Native.Nat.{ℕ}
 use mathlib.Core.Path.{_≡_}
 use mathlib.Core.List.{List}
@@ -11,8 +11,8 @@ use Rattle.search_rules.specs.Faults.{SearchComes}
 use Rattle.search_rules.specs.declared.part.PartReply.{PartReply}
 
 -- If no header that the search reads in old mode has an unknown size, live mode gives the equal reply and table. The
--- headers are those that a refusal may name (`SearchHonest`), sought addresses among them: a seek position may point into
--- a payload. It shuts out a live mode that looks for endings though every size is known.
+-- headers are those that a refusal may name (`SearchHonest`), sought addresses among them: a seek position may point
+-- into a payload. It shuts out a live mode that looks for endings though every size is known.
 abbrev pub EqualParts : Type 0
 EqualParts =
     (s : List ℕ) (part : ℕ) (t : List ℕ) (r r′ : PartReply) (t′ u′ : List ℕ)

@@ -41,7 +41,8 @@ HeadsCounted =
     (live : Bool) (s : List ℕ) (part : ℕ) (t t′ : List ℕ)
     → ((at size rows heads : ℕ) → PartPromise live s part t (Found at size rows heads) t′
     → heads ≡ length (headsOf (searchOf live s part (length t))))
-    × ((heads : ℕ) → PartPromise live s part t (Absent heads) t′ → heads ≡ length (headsOf (searchOf live s part (length t))))
+    × ((heads : ℕ) → PartPromise live s part t (Absent heads) t′
+    → heads ≡ length (headsOf (searchOf live s part (length t))))
 
 -- What a found part is: an element of the wanted id, with no head read; or the element at the position that the last
 -- entry of its id names, in the chain of heads from a seek head on. So a stale entry is never followed to another

@@ -38,7 +38,8 @@ unfolds : (live : Bool) (s : List ℕ) (start : ℕ) (heads : Heads) (head : Hea
     ≡ onOutcome (headOf live s head) broken (λ f.
     let own = entries s (head .payload .at) f in
     let all = withHead heads head own in
-    onNext (nextHead live s start (all .addresses) (latest seekHeadId own)) (chained all) broken (headsFrom live s start all))
+    onNext (nextHead live s start (all .addresses) (latest seekHeadId own)) (chained all) broken
+    (headsFrom live s start all))
 unfolding chain
 unfolds live s start heads head l =
     let m : mostHeads - length (heads .addresses) ≡ suc (mostHeads - (length (heads .addresses) + 1)) = omega arith in

@@ -25,7 +25,8 @@ use Rattle.sizes.specs.Unknown.{unknown, endless}
 use Rattle.kinds.specs.Kinds.{member}
 use Rattle.elements_rules.specs.Forest.{Forest}
 use Rattle.elements_rules.specs.Reading.{Outcome, done, refused}
-use Rattle.elements_rules.specs.Faults.{Errand, toFind, toFollow, toLookUp, readsHeader, barred, otherFound, Far, farFollowed}
+use Rattle.elements_rules.specs.Faults.{Errand, toFind, toFollow, toLookUp, readsHeader, barred, otherFound, Far}
+use Rattle.elements_rules.specs.Faults.{farFollowed}
 use Rattle.elements_rules.specs.Faults.{unsized as sizeless}
 use Rattle.elements_rules.specs.Faults.{farLookedUp, againFollowed, manyFollowed, Fault, FaultThere}
 use Rattle.elements_rules.proofs.Faults.{header-fault, body-found}
@@ -110,7 +111,8 @@ sought-fault live s address id Reached r e q = by (childAt live s (Sized (length
         (x .header, header-there s address x (t .here) .head, t .allowed, eqb-false (x .header .id) id k)) i
 
     at-end : childAt live s (Sized (length s)) address ≡ End → length s ≤ address
-    at-end k = leb-true (length s) address (by-way (childAt live s (Sized (length s)) address) k (goes live s _ address))
+    at-end k = leb-true (length s) address (by-way (childAt live s (Sized (length s)) address) k
+        (goes live s _ address))
       where
         by-way : (y : ChildRead) → y ≡ End → Goes live s (Sized (length s)) address y → leb (length s) address ≡ true
         by-way End w (past p) = p
@@ -159,8 +161,10 @@ module _ (live : Bool) (s : List ℕ) (wanted start : ℕ) (first : Headed) wher
   Here e = FaultThere s (HeadsCome live s wanted start first) e
 
   -- The heads with the one that is read.
-  pub read-on : (heads : Heads) (head : Headed) (f : Forest) → ReadNext live s start first heads head → headOf live s head ≡ done f
-      → Followed live s start first (withHead heads head (entries s (head .payload .at) f)) (entries s (head .payload .at) f)
+  pub read-on : (heads : Heads) (head : Headed) (f : Forest) → ReadNext live s start first heads head
+      → headOf live s head ≡ done f
+      → Followed live s start first (withHead heads head (entries s (head .payload .at) f))
+      (entries s (head .payload .at) f)
   read-on heads head f initial q = one f q
   read-on heads head f (linked hs own h p n) q = more hs own h f p n q
 
@@ -188,7 +192,8 @@ module _ (live : Bool) (s : List ℕ) (wanted start : ℕ) (first : Headed) wher
 
       by-sought : (position : ℕ) → latest seekHeadId own ≡ At position → tooFar start position ≡ false
           → member (start + position) seen ≡ false → leb mostHeads (length seen) ≡ false
-          → (x : HeaderRead) → sought live s (start + position) seekHeadId ≡ x → onHeader x Refused Next ≡ Refused e → Here e
+          → (x : HeaderRead) → sought live s (start + position) seekHeadId ≡ x → onHeader x Refused Next ≡ Refused e
+          → Here e
       by-sought position k f m n (Read x) w r =
           let z : _≡_ {A = ℕ} 0 1 = cc in absurd (let y : ⊥ = omega arith in y)
       by-sought position k f m n (HeaderRefused e′) w r =
@@ -248,7 +253,8 @@ module _ (live : Bool) (s : List ℕ) (wanted start : ℕ) (first : Headed) wher
   unfolding nextHead
   last-none seen Nowhere q = refl
   last-none seen (At p) q =
-      by (tooFar start p) (member (start + p) seen) (leb mostHeads (length seen)) (sought live s (start + p) seekHeadId) q
+      by (tooFar start p) (member (start + p) seen) (leb mostHeads (length seen))
+      (sought live s (start + p) seekHeadId) q
     where
       by : (a b c : Bool) (x : HeaderRead)
           → cond a (Refused (invalidSeekHead seekHeadId (lastHead seen)))
@@ -365,7 +371,8 @@ heads-honest live s wanted start first e q =
     by (linkedHeads live s start first) (chain-came live s wanted start first mostHeads noHeads first initial refl) q
   where
     by : (c : Chain) → Came live s wanted start first c
-        → onChain c (λ heads. partAt live s wanted start (heads .addresses) (latest wanted (heads .entries))) ≡ stopped e
+        → onChain c (λ heads. partAt live s wanted start (heads .addresses) (latest wanted (heads .entries)))
+        ≡ stopped e
         → FaultThere s (HeadsCome live s wanted start first) e
     by (chained heads) g r = part-fault live s wanted start first heads g e r
     by (broken e′) h r = let i : e′ ≡ e = cc in subst (FaultThere s (HeadsCome live s wanted start first)) i h

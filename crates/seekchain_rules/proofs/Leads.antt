@@ -54,7 +54,8 @@ distinct-append [] y d m = (tt, tt)
 distinct-append (z ∷ zs) y d m =
     (among-append z y zs (d .0) (λ e. m .0 (sym e)), distinct-append zs y (d .1) (m .1))
 
-heads-append : (live : Bool) (s ys : List ℕ) (y : ℕ) → AreHeads live s ys → IsHead live s y → AreHeads live s (ys ++ (y ∷ []))
+heads-append : (live : Bool) (s ys : List ℕ) (y : ℕ) → AreHeads live s ys → IsHead live s y
+    → AreHeads live s (ys ++ (y ∷ []))
 unfolding AreHeads
 heads-append live s [] y a h = (h, tt)
 heads-append live s (z ∷ zs) y a h = (a .0, heads-append live s zs y (a .1) h)
@@ -68,7 +69,8 @@ record Ahead (live : Bool) (s seen : List ℕ) (head : Headed) : Type 0 where
   new : NotAmong (head .place .at) seen
   few : suc (length seen) ≤ mostHeads
 
-one-more : (live : Bool) (s seen : List ℕ) (head : Headed) (f : Forest) → Ahead live s seen head → headOf live s head ≡ done f
+one-more : (live : Bool) (s seen : List ℕ) (head : Headed) (f : Forest) → Ahead live s seen head
+    → headOf live s head ≡ done f
     → GoodHeads live s (seen ++ (head .place .at ∷ []))
 one-more live s seen head f a q = record {
   are = heads-append live s seen (head .place .at) (a .good .are)
@@ -81,14 +83,16 @@ abbrev Sound : (live : Bool) → List ℕ → Chain → Type 0
 Sound live s (chained heads) = GoodHeads live s (heads .addresses)
 Sound live s (broken e) = Unit
 
-chain-sound : (live : Bool) (s : List ℕ) (start more : ℕ) (heads : Heads) (head : Headed) → Ahead live s (heads .addresses) head
+chain-sound : (live : Bool) (s : List ℕ) (start more : ℕ) (heads : Heads) (head : Headed)
+    → Ahead live s (heads .addresses) head
     → Sound live s (chain live s start more heads head)
 unfolding chain
 chain-sound live s start zero heads head a = tt
 chain-sound live s start (suc more) heads head a = go (headOf live s head) refl (chain-sound live s start more)
   where
     Onward : Type 0
-    Onward = (all : Heads) (next : Headed) → Ahead live s (all .addresses) next → Sound live s (chain live s start more all next)
+    Onward = (all : Heads) (next : Headed) → Ahead live s (all .addresses) next
+        → Sound live s (chain live s start more all next)
 
     by-next : Onward → (all : Heads) → GoodHeads live s (all .addresses) → (link : Latest)
         → (x : NextHead) → nextHead live s start (all .addresses) link ≡ x
@@ -106,7 +110,8 @@ chain-sound live s start (suc more) heads head a = go (headOf live s head) refl 
         (chained (withHead heads head (entries s (head .payload .at) f))) broken
         (chain live s start more (withHead heads head (entries s (head .payload .at) f)))))
     go (done f) q k =
-        by-next k (withHead heads head (entries s (head .payload .at) f)) (one-more live s (heads .addresses) head f a q)
+        by-next k (withHead heads head (entries s (head .payload .at) f))
+        (one-more live s (heads .addresses) head f a q)
         (latest seekHeadId (entries s (head .payload .at) f)) _ refl
     go (refused e) q k = tt
 

@@ -107,7 +107,8 @@ module _ (s : List ℕ) (wanted start : ℕ) (first : Headed) (k : AllKnown s (H
 
       by-next : (f : Forest) → headOf false s head ≡ done f → Onward → (x : NextHead)
           → nextHead false s start (withHead heads head (own f) .addresses) (latest seekHeadId (own f)) ≡ x
-          → onNext x (chained (withHead heads head (own f))) broken (chain true s start left (withHead heads head (own f)))
+          → onNext x (chained (withHead heads head (own f))) broken
+          (chain true s start left (withHead heads head (own f)))
           ≡ onNext x (chained (withHead heads head (own f))) broken
           (chain false s start left (withHead heads head (own f)))
       by-next f q more (Next next) w =

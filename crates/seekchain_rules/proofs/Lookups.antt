@@ -44,6 +44,7 @@ module _ (live : Bool) (s : List ℕ) (wanted start : ℕ) (first : Headed) wher
 
   pub chain-read : (parts : Positions) (n last : ℕ)
       → HeadsAre parts n last ≡ headsTold (only wanted) (linkedHeads live s start first)
-      → (r : PartPlace) → PartMet live s wanted start n last (parts .first) r → r ≡ placeTold (byHeads live s wanted start first)
+      → (r : PartPlace) → PartMet live s wanted start n last (parts .first) r
+      → r ≡ placeTold (byHeads live s wanted start first)
   unfolding byHeads
   chain-read parts n last q r m = read-off (linkedHeads live s start first) parts n last q r m

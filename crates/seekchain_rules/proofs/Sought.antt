@@ -30,7 +30,8 @@ use Rattle.seekchain_rules.specs.declared.heads.NextHead.{NextHead}
 use Rattle.seekchain_rules.specs.declared.heads.NextHead.the-variants.{Next, Refused}
 
 -- What a sought address holds: an element that is there, with that id.
-pub sought-is : (live : Bool) (s : List ℕ) (address id : ℕ) (e : Headed) → sought live s address id ≡ Read e → IsAt s id address e
+pub sought-is : (live : Bool) (s : List ℕ) (address id : ℕ) (e : Headed) → sought live s address id ≡ Read e
+    → IsAt s id address e
 unfolding sought
 sought-is live s address id e q = by-child (childAt live s (Sized (length s)) address) refl q
   where
@@ -46,7 +47,8 @@ sought-is live s address id e q = by-child (childAt live s (Sized (length s)) ad
         cond (eqb (y .header .id) id) (Read y) (HeaderRefused (staleEntry address)))
         ≡ Read e
         → IsAt s id address e
-    by-child (Child x) k w = by-id x (eqb (x .header .id) id) refl (stepped-on live s (Sized (length s)) address x k .here) w
+    by-child (Child x) k w = by-id x (eqb (x .header .id) id) refl
+        (stepped-on live s (Sized (length s)) address x k .here) w
     by-child End k w = let z : _≡_ {A = ℕ} 0 1 = cc in absurd (omega arith)
     by-child (ChildRefused c) k w = let z : _≡_ {A = ℕ} 0 1 = cc in absurd (omega arith)
 

@@ -37,7 +37,8 @@ pub data ReadNext (live : Bool) (s : List ℕ) (start : ℕ) (first : Headed) : 
   initial : ReadNext live s start first noHeads first
   linked :
       (heads : Heads) (own : List Seek) (head : Headed) → Followed live s start first heads own
-      → nextHead live s start (heads .addresses) (latest seekHeadId own) ≡ Next head → ReadNext live s start first heads head
+      → nextHead live s start (heads .addresses) (latest seekHeadId own) ≡ Next head
+      → ReadNext live s start first heads head
 
 -- What a search for a part comes to from the first head on: an element of a head that it reads; an entry for a further
 -- head, among the last head's own, and the address that it names; and when there is none, the last entry for the part
@@ -70,5 +71,6 @@ pub data HeadsCome (live : Bool) (s : List ℕ) (wanted start : ℕ) (first : He
 -- one was read, of 10 and 11 the head that was read last, and of 9 the head that names the address.
 abbrev pub HeadsHonest : Type 0
 HeadsHonest =
-    (live : Bool) (s : List ℕ) (wanted start : ℕ) (first : Headed) (e : Refusal) → byHeads live s wanted start first ≡ stopped e
+    (live : Bool) (s : List ℕ) (wanted start : ℕ) (first : Headed) (e : Refusal)
+    → byHeads live s wanted start first ≡ stopped e
     → FaultThere s (HeadsCome live s wanted start first) e

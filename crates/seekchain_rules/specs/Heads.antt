@@ -98,7 +98,8 @@ chain live s start (suc more) heads head =
     onOutcome (headOf live s head) broken (λ f.
     let own = entries s (head .payload .at) f in
     let all = withHead heads head own in
-    onNext (nextHead live s start (all .addresses) (latest seekHeadId own)) (chained all) broken (chain live s start more all))
+    onNext (nextHead live s start (all .addresses) (latest seekHeadId own)) (chained all) broken
+    (chain live s start more all))
 
 -- All heads from the first on.
 abbrev pub linkedHeads : (live : Bool) → List ℕ → (start : ℕ) → Headed → Chain

@@ -66,7 +66,8 @@ pub record ChainUnfolds (live : Bool) : Type 0 where
       ≡ onOutcome (headOf live s head) broken (λ f.
       let own = entries s (head .payload .at) f in
       let all = withHead heads head own in
-      onNext (nextHead live s start (all .addresses) (latest seekHeadId own)) (chained all) broken (headsFrom live s start all))
+      onNext (nextHead live s start (all .addresses) (latest seekHeadId own)) (chained all) broken
+      (headsFrom live s start all))
   pub bounded :
       (s : List ℕ) (start : ℕ) (seen : List ℕ) (link : Latest) (head : Headed)
       → nextHead live s start seen link ≡ Next head → length seen < mostHeads
@@ -116,7 +117,8 @@ pub record Unnamed (live : Bool) (s : List ℕ) (wanted start : ℕ) (first : He
 
 -- What a place that the heads lead to is.
 abbrev pub ByHeads : (live : Bool) → List ℕ → (wanted start : ℕ) (first : Headed) → Lookup → Type 0
-ByHeads live s wanted start first (found part heads) = Named live s wanted start first part heads × GoodHeads live s heads
+ByHeads live s wanted start first (found part heads) = Named live s wanted start first part heads
+    × GoodHeads live s heads
 ByHeads live s wanted start first (absent heads) = Unnamed live s wanted start first heads × GoodHeads live s heads
 ByHeads live s wanted start first (stopped e) = Unit
 

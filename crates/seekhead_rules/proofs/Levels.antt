@@ -60,7 +60,8 @@ module _ (live : Bool) (s : List ℕ) (l : Level) (law : Lawful l) where
   told-read make x (refused e) q = absurd (law .other x e q)
 
   -- An element that was read takes its header and its size.
-  spans : (at : ℕ) (e : Headed) → elementHeaderRead live s at ≡ Read e → (f : Forest) → elementAt live s (l .depth) (l .parent) at ≡ done f
+  spans : (at : ℕ) (e : Headed) → elementHeaderRead live s at ≡ Read e → (f : Forest)
+      → elementAt live s (l .depth) (l .parent) at ≡ done f
       → at + span f ≡ behind e
   unfolding span full
   spans at e q f k =
@@ -152,7 +153,8 @@ module _ (live : Bool) (s : List ℕ) (l : Level) (law : Lawful l) where
                 (g .rest ∙ rw (child-over child-read (g .most) at _ 0 f (omega arith) (g .enough) k
                 (omega (arith, spans at e q f k))))
 
-            step : (f : Forest) → elementAt live s (l .depth) (l .parent) at ≡ done f → x ≡ l .make at f a → behind e ≤ end
+            step : (f : Forest) → elementAt live s (l .depth) (l .parent) at ≡ done f → x ≡ l .make at f a
+                → behind e ≤ end
                 → Passing (behind e) x
             step f k y o =
                 let p = spans at e q f k in

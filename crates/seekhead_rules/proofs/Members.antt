@@ -104,7 +104,8 @@ children-law s wanted = record {
 
 pub member-more : (live : Bool) (s : List ℕ) (seek : Seek) (e : Headed)
     → elementHeaderRead live s (e .place .at) ≡ Read e
-    → (b : Body) → Holds live s 1 seekId e b → (r : Seek) → r ≡ noted s e (body b) seek → SeekIs r ≡ memberTold live s seek e
+    → (b : Body) → Holds live s 1 seekId e b → (r : Seek) → r ≡ noted s e (body b) seek
+    → SeekIs r ≡ memberTold live s seek e
 unfolding withMembers
 member-more live s seek e q b x r w =
     let t = header-there s (e .place .at) e (step-read live s (e .place .at) e q .1) in
@@ -129,11 +130,13 @@ module _ (live : Bool) (s : List ℕ) (wanted : Wanted) (table : Seektable) (e :
 
   module _ (there : elementHeaderRead live s (e .place .at) ≡ Read e) (q : e .header .id ≡ seekId) where
     -- A Seek is its members.
-    by-members : elementAt live s 0 segmentId (e .place .at) ≡ above (elementOf segmentId (e .header)) (seekBody live s e)
+    by-members : elementAt live s 0 segmentId (e .place .at)
+        ≡ above (elementOf segmentId (e .header)) (seekBody live s e)
     by-members =
         by-elements live s 0 segmentId e there (omega arith) (seek-is-master (e .header) q) ∙ rw q refl
 
-    pub seek-refusal : (x : Refusal) → SeekRefused x ≡ seekTold live s e → HeadRefused x ≡ childTold live s wanted table e
+    pub seek-refusal : (x : Refusal) → SeekRefused x ≡ seekTold live s e
+        → HeadRefused x ≡ childTold live s wanted table e
     seek-refusal x w = rw (by-members, told-stopped live s (members s) (members-law s) _ x (seekBody live s e) w) refl
 
     its-entry : (f : Forest)

@@ -110,7 +110,8 @@ module _ (live : Bool) (s : List ℕ) (depth parent : ℕ) (e : Headed)
     skim-master n next q =
         let (f, k, c, a) = told-read (e .payload .at) 0 below n next q in
         let i = header-there s (e .place .at) e (step-read live s (e .place .at) e there .1) .inside in
-        let (l, st) = body-stands s (withoutRows live) 0 (depth + 1) (e .header .id) (e .payload .at) (e .header .size) 0 f i
+        let (l, st) = body-stands s (withoutRows live) 0 (depth + 1) (e .header .id) (e .payload .at) (e .header .size)
+        0 f i
         k in
         let x = stands-inside live s (e .header .id) (e .payload .at) f st in
         record {

@@ -12,7 +12,8 @@ use Rattle.header.specs.declared.cursor.Header.{Header}
 use Rattle.kinds.specs.Kinds.{kindUnder}
 use Rattle.bodies_rules.specs.Bodies.{bodyOf}
 use Rattle.elements_rules.specs.Forest.{Forest, none, span, count}
-use Rattle.elements_rules.specs.Reading.{elementHeader, Outcome, done, refused, andThen, prepend, above, refuseIf, headed, held, full}
+use Rattle.elements_rules.specs.Reading.{elementHeader, Outcome, done, refused, andThen, prepend, above, refuseIf}
+use Rattle.elements_rules.specs.Reading.{headed, held, full}
 use Rattle.elements_rules.specs.Reading.{elementHeader, siblings, elementOf, element, depths, masterBody}
 use Rattle.seekhead_rules.specs.Seeks.{withoutRows}
 
@@ -51,7 +52,8 @@ module _ (live : Bool) (s : List ℕ) (cap : ℕ) where
           (siblings (element s (withoutRows live) cap levels (h .id)) (h .size) (at + h .length) (h .size) (m + 1))))
 
       go : (x : Heading)
-          → ((p a m : ℕ) → element s (withoutRows live) cap levels p a m ≡ element s (withoutRows live) cap levels p a 0)
+          → ((p a m : ℕ) → element s (withoutRows live) cap levels p a m
+          ≡ element s (withoutRows live) cap levels p a 0)
           → headed at x (body n) ≡ headed at x (body 0)
       go (heading h) lower =
           let read = element s (withoutRows live) cap levels (h .id) in
@@ -63,7 +65,8 @@ module _ (live : Bool) (s : List ℕ) (cap : ℕ) where
       go (refusedHeader e) lower = refl
 
   pub body-uncounted : (depth parent at size n : ℕ)
-      → masterBody s (withoutRows live) cap depth parent at size n ≡ masterBody s (withoutRows live) cap depth parent at size 0
+      → masterBody s (withoutRows live) cap depth parent at size n
+      ≡ masterBody s (withoutRows live) cap depth parent at size 0
   unfolding masterBody
   body-uncounted depth parent at size n =
       siblings-uncounted (element s (withoutRows live) cap (depths - depth) parent)
@@ -73,4 +76,5 @@ module _ (live : Bool) (s : List ℕ) (cap : ℕ) where
       → siblings (element s (withoutRows live) cap levels parent) most at left n
       ≡ siblings (element s (withoutRows live) cap levels parent) most at left 0
   rest-uncounted levels parent most at left n =
-      siblings-uncounted (element s (withoutRows live) cap levels parent) (element-uncounted levels parent) most at left n
+      siblings-uncounted (element s (withoutRows live) cap levels parent) (element-uncounted levels parent) most at
+      left n

@@ -28,7 +28,8 @@ use Rattle.viewer_rules.specs.Promise.{UzOwnerPromise, UzChainPromise}
 
 pub part-crosses :
     (mode : ℕ) (live : Bool) (s : List ℕ) (part : ℕ) (t : List ℕ) (r : PartReply) (t′ : List ℕ)
-    → chosenMode mode ≡ Mode live → PartPromise live s part t r t′ → UzPartPromise mode s part t (partFace (partTold r)) t′
+    → chosenMode mode ≡ Mode live → PartPromise live s part t r t′
+    → UzPartPromise mode s part t (partFace (partTold r)) t′
 part-crosses mode live s part t r t′ i p = record { reply = rw i (ap partFace (p .reply)); table = rw i (p .table) }
 
 pub range-crosses :
@@ -43,19 +44,22 @@ text-crosses s t row r p = record { reply = ap rangeFace (p .reply) }
 
 pub place-crosses :
     (mode : ℕ) (live : Bool) (s : List ℕ) (start size parent x : ℕ) (t : List ℕ) (r : WhoseReply) (t′ : List ℕ)
-    → chosenMode mode ≡ Mode live → WhosePromise live s start size parent x t r t′ → UzPlacePromise mode s start size parent x t
+    → chosenMode mode ≡ Mode live → WhosePromise live s start size parent x t r t′
+    → UzPlacePromise mode s start size parent x t
     (placeFace (whoseTold r)) t′
 place-crosses mode live s start size parent x t r t′ i p =
     record { reply = rw i (ap placeFace (p .reply)); table = rw i (p .table) }
 
 pub owner-crosses :
     (mode : ℕ) (live : Bool) (s : List ℕ) (start size parent x : ℕ) (r : OwnerReply)
-    → chosenMode mode ≡ Mode live → OwnerPromise live s start size parent x r → UzOwnerPromise mode s start size parent x (ownedFace r)
+    → chosenMode mode ≡ Mode live → OwnerPromise live s start size parent x r
+    → UzOwnerPromise mode s start size parent x (ownedFace r)
 owner-crosses mode live s start size parent x r i p = record { reply = rw i (ap ownedFace (p .reply)) }
 
 pub chain-crosses :
     (mode : ℕ) (live : Bool) (s : List ℕ) (start size parent x : ℕ) (t : List ℕ) (r : OwnerReply) (t′ : List ℕ)
-    → chosenMode mode ≡ Mode live → ChainPromise live s start size parent x t r t′ → UzChainPromise mode s start size parent x t (ownedFace r) t′
+    → chosenMode mode ≡ Mode live → ChainPromise live s start size parent x t r t′
+    → UzChainPromise mode s start size parent x t (ownedFace r) t′
 chain-crosses mode live s start size parent x t r t′ i p =
     record { reply = rw i (ap ownedFace (p .reply)); links = rw i (p .links) }
 

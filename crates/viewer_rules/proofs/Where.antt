@@ -99,7 +99,8 @@ place-tells-where mode s start size parent x t r t′ p =
 module _ (s : List ℕ) (Reached : ℕ → Errand → Type 0) (reply : Reply Owned)
     (honest : (e : Refusal) → reply ≡ refusal e → Honest s Reached e)
   where
-    owned-where : TellsWhere s Reached (ownedFace (ownerReply reply) .refused) (ownedFace (ownerReply reply) .«refused_at»)
+    owned-where : TellsWhere s Reached (ownedFace (ownerReply reply) .refused)
+        (ownedFace (ownerReply reply) .«refused_at»)
     owned-where = by reply refl
       where
         by-side : (o : Owned) (p : Side)

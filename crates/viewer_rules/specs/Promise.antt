@@ -1,5 +1,5 @@
--- What the functions of the C face promise: the faces of the replies that the calls behind them promise in the mode that
--- is named, and the very same tables.
+-- What the functions of the C face promise: the faces of the replies that the calls behind them promise in the mode
+-- that is named, and the very same tables.
 use Prim.Native.Nat.{ℕ}
 use mathlib.Core.Path.{_≡_}
 use mathlib.Core.List.{List}

@@ -55,7 +55,8 @@ OneUzText =
 
 abbrev pub OneUzPlace : Type 0
 OneUzPlace =
-    (mode : ℕ) (s : List ℕ) (start size parent x : ℕ) (t u : List ℕ) (r r′ : UzPlace) (t′ u′ : List ℕ) → length t ≡ length u
+    (mode : ℕ) (s : List ℕ) (start size parent x : ℕ) (t u : List ℕ) (r r′ : UzPlace) (t′ u′ : List ℕ)
+    → length t ≡ length u
     → UzPlacePromise mode s start size parent x t r t′ → UzPlacePromise mode s start size parent x u r′ u′
     → (r ≡ r′) × (t′ ≡ u′)
 
@@ -66,7 +67,8 @@ OneUzOwner =
 
 abbrev pub OneUzChain : Type 0
 OneUzChain =
-    (mode : ℕ) (s : List ℕ) (start size parent x : ℕ) (t u : List ℕ) (r r′ : UzOwned) (t′ u′ : List ℕ) → length t ≡ length u
+    (mode : ℕ) (s : List ℕ) (start size parent x : ℕ) (t u : List ℕ) (r r′ : UzOwned) (t′ u′ : List ℕ)
+    → length t ≡ length u
     → UzChainPromise mode s start size parent x t r t′ → UzChainPromise mode s start size parent x u r′ u′
     → (r ≡ r′) × (t′ ≡ u′)
 
@@ -112,7 +114,8 @@ OwnerTells =
 abbrev pub ChainTells : Type 0
 ChainTells =
     (mode : ℕ) (s : List ℕ) (start size parent x : ℕ) (t : List ℕ) (r : UzOwned) (t′ : List ℕ)
-    → UzChainPromise mode s start size parent x t r t′ → Tells (chainIn mode s start size parent x (length t)) (r .refused)
+    → UzChainPromise mode s start size parent x t r t′
+    → Tells (chainIn mode s start size parent x (length t)) (r .refused)
 
 -- An id crosses with 8 alone: what a C caller finds in `id` beside another number, or beside none, is 0.
 abbrev pub IdAlone : Type 0
@@ -139,26 +142,30 @@ pub record TellsWhere (s : List ℕ) (Reached : ℕ → Errand → Type 0) (refu
 abbrev pub PartTellsWhere : Type 0
 PartTellsWhere =
     (mode : ℕ) (s : List ℕ) (part : ℕ) (t : List ℕ) (r : UzPart) (t′ : List ℕ)
-    → UzPartPromise mode s part t r t′ → TellsWhere s (ComesIn (chosenMode mode) (λ live. SearchComes live s part (length t))) (r .refused) (r .«refused_at»)
+    → UzPartPromise mode s part t r t′ → TellsWhere s
+    (ComesIn (chosenMode mode) (λ live. SearchComes live s part (length t))) (r .refused) (r .«refused_at»)
 
 abbrev pub PlaceTellsWhere : Type 0
 PlaceTellsWhere =
     (mode : ℕ) (s : List ℕ) (start size parent x : ℕ) (t : List ℕ) (r : UzPlace) (t′ : List ℕ)
     → UzPlacePromise mode s start size parent x t r t′
     → TellsWhere s
-    (ComesIn (chosenMode mode) (λ live. Comes s (keeping live) (length t / width) 0 parent start size 0)) (r .refused) (r .«refused_at»)
+    (ComesIn (chosenMode mode) (λ live. Comes s (keeping live) (length t / width) 0 parent start size 0)) (r .refused)
+    (r .«refused_at»)
 
 abbrev pub OwnerTellsWhere : Type 0
 OwnerTellsWhere =
     (mode : ℕ) (s : List ℕ) (start size parent x : ℕ) (r : UzOwned)
     → UzOwnerPromise mode s start size parent x r
-    → TellsWhere s (ComesIn (chosenMode mode) (λ live. OwnerComes live s start size parent x)) (r .refused) (r .«refused_at»)
+    → TellsWhere s (ComesIn (chosenMode mode) (λ live. OwnerComes live s start size parent x)) (r .refused)
+    (r .«refused_at»)
 
 abbrev pub ChainTellsWhere : Type 0
 ChainTellsWhere =
     (mode : ℕ) (s : List ℕ) (start size parent x : ℕ) (t : List ℕ) (r : UzOwned) (t′ : List ℕ)
     → UzChainPromise mode s start size parent x t r t′
-    → TellsWhere s (ComesIn (chosenMode mode) (λ live. OwnerComes live s start size parent x)) (r .refused) (r .«refused_at»)
+    → TellsWhere s (ComesIn (chosenMode mode) (λ live. OwnerComes live s start size parent x)) (r .refused)
+    (r .«refused_at»)
 
 -- ---- each number crosses under its own name
 
@@ -207,19 +214,24 @@ TextNamed =
 
 abbrev pub PlaceNamed : Type 0
 PlaceNamed =
-    (mode : ℕ) (live : Bool) (s : List ℕ) (start size parent x : ℕ) (t : List ℕ) (q : WhoseReply) (r : UzPlace) (t′ u′ : List ℕ)
-    → chosenMode mode ≡ Mode live → WhosePromise live s start size parent x t q t′ → UzPlacePromise mode s start size parent x t r u′ → r ≡ placeNamed q
+    (mode : ℕ) (live : Bool) (s : List ℕ) (start size parent x : ℕ) (t : List ℕ) (q : WhoseReply) (r : UzPlace)
+    (t′ u′ : List ℕ)
+    → chosenMode mode ≡ Mode live → WhosePromise live s start size parent x t q t′
+    → UzPlacePromise mode s start size parent x t r u′ → r ≡ placeNamed q
 
 abbrev pub OwnerNamed : Type 0
 OwnerNamed =
     (mode : ℕ) (live : Bool) (s : List ℕ) (start size parent x : ℕ) (q : OwnerReply) (r : UzOwned)
-    → chosenMode mode ≡ Mode live → OwnerPromise live s start size parent x q → UzOwnerPromise mode s start size parent x r → r ≡ ownedFace q
+    → chosenMode mode ≡ Mode live → OwnerPromise live s start size parent x q
+    → UzOwnerPromise mode s start size parent x r → r ≡ ownedFace q
 
 -- The chain is the very same too.
 abbrev pub ChainNamed : Type 0
 ChainNamed =
-    (mode : ℕ) (live : Bool) (s : List ℕ) (start size parent x : ℕ) (t : List ℕ) (q : OwnerReply) (r : UzOwned) (t′ u′ : List ℕ)
-    → chosenMode mode ≡ Mode live → ChainPromise live s start size parent x t q t′ → UzChainPromise mode s start size parent x t r u′
+    (mode : ℕ) (live : Bool) (s : List ℕ) (start size parent x : ℕ) (t : List ℕ) (q : OwnerReply) (r : UzOwned)
+    (t′ u′ : List ℕ)
+    → chosenMode mode ≡ Mode live → ChainPromise live s start size parent x t q t′
+    → UzChainPromise mode s start size parent x t r u′
     → (r ≡ ownedFace q) × (u′ ≡ t′)
 
 -- ---- a number that names no mode

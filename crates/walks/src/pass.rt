@@ -61,7 +61,8 @@ fn end_from(recording: &[u8], id: u32, end: u64, from: u64) -> Passed
     }
 }
 
-// The place behind an element, where a known end bounds it: by its size, or of one of unknown size in live mode its end.
+// The place behind an element, where a known end bounds it: by its size, or of one of unknown size in live mode its
+// end.
 pub fn pass_over(recording: &[u8], live: bool, end: u64, element: Headed) -> Passed
     requires { ⌜ Readable (now recording) element ⌝ }
     ensures { λ r. ⌜ r ≡ passOver live (now (recording .entry)) end element ⌝ }

@@ -36,7 +36,8 @@ child-known s stretch at k = by-past (isPast s stretch at) refl
         ap (cond (endedBy stretch (e .header .id)) End) (rw (n (e .header) (header-there s at e q .head)) refl)
 
     by-past : (b : Bool) → isPast s stretch at ≡ b
-        → cond b End (onHeader (headerAt s at) Refused (λ e. cond (endedBy stretch (e .header .id)) End (stepped true e)))
+        → cond b End (onHeader (headerAt s at) Refused
+        (λ e. cond (endedBy stretch (e .header .id)) End (stepped true e)))
         ≡ cond b End
         (onHeader (headerAt s at) Refused (λ e. cond (endedBy stretch (e .header .id)) End (stepped false e)))
     by-past true q = refl

@@ -31,9 +31,9 @@ EndUnfolds =
     → endFrom s id end at
     ≡ onChild (childAt true s (Endless id end) at) (At (endedAt s end at)) Refused (λ e. endFrom s id end (within e))
 
--- A Cluster of unknown size in a Segment of unknown size is passed over: to the end of the Segment it is one whether the
--- Cluster is gone into or passed by its own ending. It shuts out a definition that steps over the Cluster by the number
--- that its size octets make.
+-- A Cluster of unknown size in a Segment of unknown size is passed over: to the end of the Segment it is one whether
+-- the Cluster is gone into or passed by its own ending. It shuts out a definition that steps over the Cluster by the
+-- number that its size octets make.
 abbrev pub ClustersPassed : Type 0
 ClustersPassed =
     (s : List ℕ) (end at : ℕ)

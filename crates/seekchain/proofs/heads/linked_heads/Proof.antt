@@ -27,7 +27,8 @@ head-body-requires c κs =
 returns : tie.Need-returns Inv-loop μ-loop
 returns c =
     let b = c .before .before .before in
-    chaining-lost _ _ _ _ _ _ _ _ _ (b .before .loop .inv) _ (sym (c .before .refusal .given .1) ∙ b .head-body .ensures)
+    chaining-lost _ _ _ _ _ _ _ _ _ (b .before .loop .inv) _ (sym (c .before .refusal .given .1)
+    ∙ b .head-body .ensures)
 
 next-head-requires : tie.Need-next-head-requires Inv-loop μ-loop
 next-head-requires c κs =

@@ -88,6 +88,8 @@ loop-again c =
 
 pub segment-of-spec : {M : Type 1} → statement M
 segment-of-spec =
-    tie.close (tie.spec Inv-loop μ-loop loop-holds (λ c κs. search needs) (λ c. search needs) returns (λ c. search needs)
-    returns-2 (λ c. search needs) returns-3 pass-over-requires (λ c. search needs) returns-4 (λ c. search needs) loop-less
+    tie.close (tie.spec Inv-loop μ-loop loop-holds (λ c κs. search needs) (λ c. search needs) returns
+    (λ c. search needs)
+    returns-2 (λ c. search needs) returns-3 pass-over-requires (λ c. search needs) returns-4 (λ c. search needs)
+    loop-less
     loop-again)

@@ -46,4 +46,5 @@ returns-3 c =
 
 pub overruns-spec : {M : Type 1} → statement M
 overruns-spec =
-    tie.close (tie.spec (λ c κs. search needs) returns (λ c κs. search needs) returns-2 add-result add-result-2 returns-3)
+    tie.close (tie.spec (λ c κs. search needs) returns (λ c κs. search needs) returns-2 add-result add-result-2
+    returns-3)

@@ -113,6 +113,7 @@ loop-again c =
 pub walk-spec : {M : Type 1} → statement M
 walk-spec =
     tie.close (tie.spec Inv-loop μ-loop (λ c κs. search needs) (λ c κs. search needs) loop-holds (λ c κs. search needs)
-    (λ c. search needs) returns (λ c. search needs) returns-2 (λ c. search needs) visit-child-requires (λ c. search needs)
+    (λ c. search needs) returns (λ c. search needs) returns-2 (λ c. search needs) visit-child-requires
+    (λ c. search needs)
     returns-3 (λ c. search needs) overruns-requires returns-4 pass-over-requires (λ c. search needs) returns-5
     (λ c. search needs) loop-less loop-again)

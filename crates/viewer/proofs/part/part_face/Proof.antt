@@ -15,5 +15,6 @@ returns-3 c =
 
 pub part-face-spec : {M : Type 1} → statement M
 part-face-spec =
-    tie.close (tie.spec (λ c. search needs) (λ c. search needs) (λ c. search needs) (λ c κs. search needs) (λ c κs. search needs) (λ c. search needs) returns
+    tie.close (tie.spec (λ c. search needs) (λ c. search needs) (λ c. search needs) (λ c κs. search needs)
+    (λ c κs. search needs) (λ c. search needs) returns
     returns-2 returns-3)

@@ -10,16 +10,19 @@ returns c =
     let k = c .before .before .before in
     let m = k .before .before .before in
     rw (c .part-face .ensures)
-    (part-crosses _ _ _ _ _ _ _ (sym (m .before .before .chosen-mode .ensures) ∙ m .live .given .1) (k .find-part .ensures))
+    (part-crosses _ _ _ _ _ _ _ (sym (m .before .before .chosen-mode .ensures)
+    ∙ m .live .given .1) (k .find-part .ensures))
 
 returns-2 : tie.Need-returns-2
 returns-2 c =
     let k = c .before .before .before in
     let m = k .before .before in
     rw (c .part-face2 .ensures)
-    (part-unnamed _ _ _ _ _ (sym (m .before .before .chosen-mode .ensures) ∙ m .enum-told .given .1) (k .clear .ensures))
+    (part-unnamed _ _ _ _ _ (sym (m .before .before .chosen-mode .ensures)
+    ∙ m .enum-told .given .1) (k .clear .ensures))
 
 pub uz-find-part-spec : {M : Type 1} → statement M
 uz-find-part-spec =
-    tie.close (tie.spec (λ c κs. search needs) (λ c. search needs) (λ c κs. search needs) (λ c κs. search needs) (λ c. search needs) (λ c κs. search needs) (λ c κs. search needs)
+    tie.close (tie.spec (λ c κs. search needs) (λ c. search needs) (λ c κs. search needs) (λ c κs. search needs)
+    (λ c. search needs) (λ c κs. search needs) (λ c κs. search needs)
     (λ c. search needs) returns (λ c. search needs) returns-2)

@@ -14,5 +14,6 @@ returns-3 c = rw (c .before .before .reply3 .given .1) (cc (c .number .ensures))
 
 pub place-face-spec : {M : Type 1} → statement M
 place-face-spec =
-    tie.close (tie.spec (λ c. search needs) (λ c. search needs) (λ c. search needs) (λ c κs. search needs) returns returns-2
+    tie.close (tie.spec (λ c. search needs) (λ c. search needs) (λ c. search needs) (λ c κs. search needs) returns
+    returns-2
     returns-3)

@@ -1,4 +1,5 @@
--- `uz_whose_byte` meets its contract: the reply of the call behind it in the mode that is named, or 14. Assumes nothing.
+-- `uz_whose_byte` meets its contract: the reply of the call behind it in the mode that is named, or 14. Assumes
+-- nothing.
 use mathlib.Core.Path.{sym, _∙_}
 use Rattle.viewer_rules.proofs.Crossing.{place-crosses, place-unnamed}
 use borrow.Author.Needs.{needs}
@@ -10,16 +11,19 @@ returns c =
     let k = c .before .before .before in
     let m = k .before .before .before in
     rw (c .place-face .ensures)
-    (place-crosses _ _ _ _ _ _ _ _ _ _ (sym (m .before .before .chosen-mode .ensures) ∙ m .live .given .1) (k .whose-byte .ensures))
+    (place-crosses _ _ _ _ _ _ _ _ _ _ (sym (m .before .before .chosen-mode .ensures)
+    ∙ m .live .given .1) (k .whose-byte .ensures))
 
 returns-2 : tie.Need-returns-2
 returns-2 c =
     let k = c .before .before .before in
     let m = k .before .before in
     rw (c .place-face2 .ensures)
-    (place-unnamed _ _ _ _ _ _ _ _ (sym (m .before .before .chosen-mode .ensures) ∙ m .enum-told .given .1) (k .clear .ensures))
+    (place-unnamed _ _ _ _ _ _ _ _ (sym (m .before .before .chosen-mode .ensures)
+    ∙ m .enum-told .given .1) (k .clear .ensures))
 
 pub uz-whose-byte-spec : {M : Type 1} → statement M
 uz-whose-byte-spec =
-    tie.close (tie.spec (λ c κs. search needs) (λ c. search needs) (λ c κs. search needs) (λ c κs. search needs) (λ c. search needs) (λ c κs. search needs) (λ c κs. search needs)
+    tie.close (tie.spec (λ c κs. search needs) (λ c. search needs) (λ c κs. search needs) (λ c κs. search needs)
+    (λ c. search needs) (λ c κs. search needs) (λ c κs. search needs)
     (λ c. search needs) returns (λ c. search needs) returns-2)

@@ -45,5 +45,6 @@ loop-again c =
 
 pub end-from-spec : {M : Type 1} → statement M
 end-from-spec =
-    tie.close (tie.spec Inv-loop μ-loop (λ c. search needs) (λ c κs. search needs) (λ c. search needs) returns (λ c. search needs)
+    tie.close (tie.spec Inv-loop μ-loop (λ c. search needs) (λ c κs. search needs) (λ c. search needs) returns
+    (λ c. search needs)
     (λ c κs. search needs) returns-2 (λ c. search needs) within-requires loop-less loop-again)
