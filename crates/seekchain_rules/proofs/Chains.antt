@@ -45,9 +45,9 @@ unfolds live s start heads head l =
     let m : mostHeads - length (heads .addresses) ≡ suc (mostHeads - (length (heads .addresses) + 1)) = omega arith in
     rw (m, ← (length-append (heads .addresses) (head .place .at ∷ []))) refl
 
-pub chain-unfolds : (live : Bool) → ChainUnfolds live
-chain-unfolds live =
-    record { unfolds = unfolds live; bounded = λ s start seen link head q. next-is live s start seen head link q .few }
+pub chain-unfolds : ChainUnfolds
+chain-unfolds =
+    record { unfolds = unfolds; bounded = λ live s start seen link head q. next-is live s start seen head link q .few }
 
 -- ---- the loop over the heads
 

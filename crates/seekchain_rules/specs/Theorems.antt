@@ -59,9 +59,9 @@ abbrev pub headsFrom : (live : Bool) → List ℕ → (start : ℕ) → Heads �
 headsFrom live s start heads head = chain live s start (mostHeads - length (heads .addresses)) heads head
 
 -- One head after another. The bound of the definition hides no answer: where it is reached, `nextHead` has refused.
-pub record ChainUnfolds (live : Bool) : Type 0 where
+pub record ChainUnfolds : Type 0 where
   pub unfolds :
-      (s : List ℕ) (start : ℕ) (heads : Heads) (head : Headed) → length (heads .addresses) < mostHeads
+      (live : Bool) (s : List ℕ) (start : ℕ) (heads : Heads) (head : Headed) → length (heads .addresses) < mostHeads
       → headsFrom live s start heads head
       ≡ onOutcome (headOf live s head) broken (λ f.
       let own = entries s (head .payload .at) f in
@@ -69,7 +69,7 @@ pub record ChainUnfolds (live : Bool) : Type 0 where
       onNext (nextHead live s start (all .addresses) (latest seekHeadId own)) (chained all) broken
       (headsFrom live s start all))
   pub bounded :
-      (s : List ℕ) (start : ℕ) (seen : List ℕ) (link : Latest) (head : Headed)
+      (live : Bool) (s : List ℕ) (start : ℕ) (seen : List ℕ) (link : Latest) (head : Headed)
       → nextHead live s start seen link ≡ Next head → length seen < mostHeads
 
 -- A seek head is at the address, and its whole payload was read.
