@@ -232,6 +232,22 @@ known-reading s start size parent numbers a k q =
     by (callers (inl z) e) = let y : _≡_ {A = ℕ} 0 1 = cc in omega arith
     by (callers (inr z) e) = let y : _≡_ {A = ℕ} 0 1 = cc in omega arith
 
+-- 17 is given behind 14.
+was-allowed : (s : List ℕ) (start size parent numbers a : ℕ)
+    → readOf true s start size parent numbers ≡ refused (unknownSize a) → allowed s start numbers ≡ true
+unfolding readOf refuseIf
+was-allowed s start size parent numbers a q = by (allowed s start numbers) refl q
+  where
+    by : (b : Bool) → allowed s start numbers ≡ b
+        → refuseIf (not b) badArgument (filled true s start size parent numbers) ≡ refused (unknownSize a)
+        → allowed s start numbers ≡ true
+    by true k w = k
+    by false k w =
+        let i : badArgument ≡ unknownSize a = cc in
+        let c = ap (λ (r : Refusal). r .cause) i in
+        let z : _≡_ {A = ℕ} 0 1 = cc in
+        absurd (let y : ⊥ = omega arith in y)
+
 pub equal-reads : EqualReads
 equal-reads s start size parent t r r′ t′ u′ k p q = by (live-reads s start size parent t r r′ t′ u′ p q)
   where
@@ -244,7 +260,8 @@ equal-reads s start size parent t r r′ t′ u′ k p q = by (live-reads s star
         refused-so a (done f) w v = let z : _≡_ {A = ℕ} 0 1 = cc in omega arith
         refused-so a (refused e) w v =
             let i : e ≡ unknownSize a = cc in
-            known-reading s start size parent (length t) a k (w ∙ ap refused i)
+            let v = w ∙ ap refused i in
+            known-reading s start size parent (length t) a (k (was-allowed s start size parent (length t) a v)) v
     by (inr z) = z
 
 -- ---- rows

@@ -46,7 +46,8 @@ pub data Errand : Type 0 where
   toOwner : (live : Bool) (parent depth left : ℕ) → Errand
   -- To read the header of an element that a walk comes to: of the file, or in an element of unknown size.
   toStep : (live : Bool) → Errand
-  -- To go over a child of a segment of known size, with so many bytes left there, unless its id is one of these.
+  -- To go over a child of a segment whose end its size names, with so many bytes left there, unless its id is one of
+  -- these.
   toPass : (live : Bool) (stops : List ℕ) (left : ℕ) → Errand
   -- To find an element of that id at the address that an entry names.
   toFind : (live : Bool) (id : ℕ) → Errand
@@ -108,7 +109,7 @@ pub data NoBody (s : List ℕ) (at : ℕ) (c : Cause) : Errand → Type 0 where
       → NoBody s at c (toBody id parent from size at)
 
 -- It is larger than what was left: an element that was read whole, one that may hold an address and is not too deep,
--- or a child of known size that is passed over.
+-- or a child that is passed over, in live mode one of known size.
 pub data Larger (s : List ℕ) (at : ℕ) : Errand → Type 0 where
   largerElement :
       (mode : Mode) (cap parent depth rows left : ℕ) (f : Forest)

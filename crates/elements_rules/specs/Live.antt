@@ -13,7 +13,7 @@ use Rattle.sizes.specs.Unknown.{unknown}
 use Rattle.elements_rules.specs.Reading.{Outcome, refused, masterBody}
 use Rattle.elements_rules.specs.Rows.{width, rowsOf}
 use Rattle.elements_rules.specs.Theorems.{Each}
-use Rattle.elements_rules.specs.Promise.{keeping, ReadPromise}
+use Rattle.elements_rules.specs.Promise.{keeping, allowed, ReadPromise}
 use Rattle.elements_rules.specs.Faults.{Errand, readsHeader, Comes}
 use Rattle.elements_rules.specs.declared.row.Row.{Row}
 use Rattle.elements_rules.specs.declared.reply.ReadReply.{ReadReply}
@@ -57,12 +57,14 @@ LiveReads =
     → ReadPromise false s start size parent t r t′ → ReadPromise true s start size parent t r′ u′
     → ((a : ℕ) × (r′ ≡ Refused (unknownSize a))) ⊎ ((r′ ≡ r) × (u′ ≡ t′))
 
--- If no header that the call reads in old mode has an unknown size, live mode gives the equal reply and table. It shuts
--- out a live mode that gives 17 for a size of all ones in a payload's bytes, which are no header.
+-- If no header that the call reads in old mode has an unknown size, live mode gives the equal reply and table. With 14
+-- it reads none. It shuts out a live mode that gives 17 for a size of all ones in a payload's bytes, which are no
+-- header.
 abbrev pub EqualReads : Type 0
 EqualReads =
     (s : List ℕ) (start size parent : ℕ) (t : List ℕ) (r r′ : ReadReply) (t′ u′ : List ℕ)
-    → AllKnown s (Comes s (keeping false) (length t / width) 0 parent start size 0)
+    → (allowed s start (length t) ≡ true → AllKnown s
+    (Comes s (keeping false) (length t / width) 0 parent start size 0))
     → ReadPromise false s start size parent t r t′ → ReadPromise true s start size parent t r′ u′
     → (r′ ≡ r) × (u′ ≡ t′)
 

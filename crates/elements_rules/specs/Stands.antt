@@ -21,8 +21,7 @@ abbrev pub IsMaster : Element → Type 0
 IsMaster e = numberOf (e .kind) ≡ 1
 
 -- An element stands at an address under a parent id: its header is there, in live mode with a known size, and its kind
--- is the id's. A master's
--- children take up its payload; the body of any other is a value, and it has no children.
+-- is the id's. A master's children take up its payload; the body of any other is a value, and it has no children.
 pub record StandsAt (live : Bool) (s : List ℕ) (parent at : ℕ) (e : Element) (kids : Forest) : Type 0 where
   pub head : elementHeader live s at ≡ heading (e .header)
   pub kind : e .kind ≡ kindUnder (e .header .id) parent

@@ -33,7 +33,7 @@ OneReply =
     → length t ≡ length u
     → ReadPromise live s start size parent t r t′ → ReadPromise live s start size parent u r′ u′ → (r ≡ r′) × (t′ ≡ u′)
 
--- A refusal that the promise permits is one of document 01's list.
+-- A refusal that the promise permits is one of the list (`Listed`).
 abbrev pub RefusesListed : Type 0
 RefusesListed =
     (live : Bool) (s : List ℕ) (start size parent : ℕ) (t : List ℕ) (e : Refusal) (t′ : List ℕ)

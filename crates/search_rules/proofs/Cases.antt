@@ -33,10 +33,10 @@ unfolding octetBits bits oneMore widthOf bigEndianFrom bigEndian ofWidth vintOf 
     overruns
     visit segmentChildren lookupOf parentOf searchOf
 cases-hold =
-    let live-last : Hold (drop 31 cases) = (
-      refl,
-      (refl, (refl, (refl, (refl, (refl, (refl, (refl, (refl, (refl, (refl, (refl, tt))))))))))),
-    ) in
+    let live-more : Hold (drop 43 cases) =
+    (refl, (refl, (refl, (refl, (refl, (refl, (refl, (refl, (refl, tt))))))))) in
+    let live-last : Hold (drop 31 cases) =
+    (refl, (refl, (refl, (refl, (refl, (refl, (refl, (refl, (refl, (refl, (refl, (refl, live-more)))))))))))) in
     let live-first : Hold (drop 20 cases) = (
       refl,
       (refl, (refl, (refl, (refl, (refl, (refl, (refl, (refl, (refl, (refl, live-last)))))))))),

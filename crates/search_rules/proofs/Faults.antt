@@ -118,13 +118,19 @@ module _ {A B : Type 0} (live : Bool) (s : List ℕ) (stretch : Stretch) (w : Wa
       less-room s stretch at next (t .room) (pass-onward live s stretch at e next t p))
       at-the-end unread each lost (roomOf s stretch from) from a (omega arith) begun
 
+-- A step that is refused is not at the end.
+not-ended : (live : Bool) (s : List ℕ) (stretch : Stretch) (at : ℕ) (r : Refusal)
+    → childAt live s stretch at ≡ ChildRefused r → childAt live s stretch at ≡ End → ⊥
+not-ended live s stretch at r k e = let z : _≡_ {A = ℕ} 0 1 = cc in omega arith
+
 -- ---- in an element of unknown size
 
 -- What was refused in it is a fault that its walk comes to.
 abbrev Inside : List ℕ → (end : ℕ) → Headed → Passed → Type 0
 Inside s end e (At next) = Unit
 Inside s end e (Lost r) =
-    (a : ℕ) × InUnknown s end e a × Fault s a (toStep true) (r .cause) × (because (r .cause) a ≡ r)
+    (a : ℕ) × InUnknown s end e a × (childAt true s (Endless (e .header .id) end) a ≡ End → ⊥)
+    × Fault s a (toStep true) (r .cause) × (because (r .cause) a ≡ r)
 
 unknown-fault : (s : List ℕ) (end : ℕ) (e : Headed) → Inside s end e (endFrom s (e .header .id) end (e .payload .at))
 unfolding endFrom
@@ -139,7 +145,7 @@ unknown-fault s end e =
     (λ at a g k. tt)
     (λ at r g k.
     let (l, f, i) = step-fault true s stretch at (toStep true) refl (λ h. refl) r k in
-    (at, g, f, i))
+    (at, g, not-ended true s stretch at r k, f, i))
     (λ a at c g k. tt)
     (λ at c r g k o p. let z : _≡_ {A = ℕ} 0 1 = cc in absurd (let y : ⊥ = omega arith in y))
     (length s - e .payload .at) (e .payload .at) tt (omega arith) begun
@@ -150,14 +156,16 @@ unknown-fault s end e =
 -- A way past an element that is refused goes through one of unknown size.
 passed-fault : (live : Bool) (s : List ℕ) (end : ℕ) (e : Headed) (r : Refusal) → passOver live s end e ≡ Lost r
     → ((live && unknown (e .header)) ≡ true)
-    × ((a : ℕ) × InUnknown s end e a × Fault s a (toStep true) (r .cause) × (because (r .cause) a ≡ r))
+    × ((a : ℕ) × InUnknown s end e a × (childAt true s (Endless (e .header .id) end) a ≡ End → ⊥)
+    × Fault s a (toStep true) (r .cause) × (because (r .cause) a ≡ r))
 unfolding passOver
 passed-fault live s end e r q = by (live && unknown (e .header)) refl q
   where
     by : (b : Bool) → (live && unknown (e .header)) ≡ b
         → cond b (endFrom s (e .header .id) end (e .payload .at)) (At (behind e)) ≡ Lost r
         → ((live && unknown (e .header)) ≡ true)
-        × ((a : ℕ) × InUnknown s end e a × Fault s a (toStep true) (r .cause) × (because (r .cause) a ≡ r))
+        × ((a : ℕ) × InUnknown s end e a × (childAt true s (Endless (e .header .id) end) a ≡ End → ⊥)
+        × Fault s a (toStep true) (r .cause) × (because (r .cause) a ≡ r))
     by true k w = (k, subst (Inside s end e) w (unknown-fault s end e))
     by false k w = let z : _≡_ {A = ℕ} 0 1 = cc in absurd (let y : ⊥ = omega arith in y)
 
@@ -213,8 +221,8 @@ module _ (live : Bool) (s : List ℕ) (part numbers : ℕ) where
       (λ a at e g k. by e (eqb (e .header .id) segmentId) refl)
       (λ at e r g k o p.
       let (u, there-is) = passed-fault live s (length s) e r p in
-      let (a, i, f, j) = there-is in
-      subst Here j (at-fault a (toStep true) (r .cause) (inFileUnknown at e a g k o u i) f)) tt
+      let (a, i, n, f, j) = there-is in
+      subst Here j (at-fault a (toStep true) (r .cause) (inFileUnknown at e a g k o u i n) f)) tt
     where
       by : (e : Headed) (b : Bool) → eqb (e .header .id) segmentId ≡ b
           → Went {A = Unit} OfFile (e .header .id ≡ segmentId → ⊥) (cond b (ends (Read e)) (over tt))
@@ -258,7 +266,8 @@ module _ (live : Bool) (s : List ℕ) (part numbers : ℕ) where
         by : (b : Bool) → (live && unknown (segment .header)) ≡ b → Here e
         by true u =
             let (l, f, i) = step-fault live s stretch at (toStep live) refl (λ h. refl) e k in
-            subst Here i (at-fault at (toStep live) (e .cause) (inEndless segment at is u g) f)
+            subst Here i (at-fault at (toStep live) (e .cause)
+                (inEndless segment at is u g (not-ended live s stretch at e k)) f)
         by false u =
             let x = toPass live (seekHeadId ∷ part ∷ []) (behind segment - at) in
             let (l, f, i) = step-fault live s stretch at x refl (λ h. refl) e k in
@@ -337,8 +346,8 @@ module _ (live : Bool) (s : List ℕ) (part numbers : ℕ) where
         (λ a at e g k. visited at e g k)
         (λ at e r g k o p.
         let (u, there-is) = passed-fault live s (endOf stretch) e r p in
-        let (a, i, f, j) = there-is in
-        subst Here j (at-fault a (toStep true) (r .cause) (inSegmentUnknown segment at e a is g k o u i) f)) tt
+        let (a, i, n, f, j) = there-is in
+        subst Here j (at-fault a (toStep true) (r .cause) (inSegmentUnknown segment at e a is g k o u i n) f)) tt
 
   place-fault : (e : Refusal) → lookupOf live s part ≡ stopped e → Here e
   unfolding lookupOf

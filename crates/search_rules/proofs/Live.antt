@@ -270,25 +270,39 @@ module _ (s : List ℕ) (part numbers : ℕ) (k : AllKnown s (SearchComes false 
   part-same parent i (absentAt heads) q = refl
   part-same parent i (stopped r) q = refl
 
-  pub search-same : searchOf true s part numbers ≡ searchOf false s part numbers
-  unfolding searchOf
-  search-same = ap (cond (not (allowed s 0 numbers)) (refused badArgument)) (by (parentOf part) refl)
-    where
-      by : (x : Parent) → parentOf part ≡ x
-          → onParent x (refused badArgument) (λ parent.
-          onLookup (lookupOf true s part) (λ e heads.
-          onOutcome (filled true s (e .payload .at) (e .header .size) parent numbers) refused
-          (found (e .payload .at) (e .header .size) heads)))
-          ≡ onParent x (refused badArgument) (λ parent.
-          onLookup (lookupOf false s part) (λ e heads.
-          onOutcome (filled false s (e .payload .at) (e .header .size) parent numbers) refused
-          (found (e .payload .at) (e .header .size) heads)))
-      by (Id parent) i =
-          ap (λ (p : Lookup). onLookup p (λ e heads.
-          onOutcome (filled true s (e .payload .at) (e .header .size) parent numbers) refused
-          (found (e .payload .at) (e .header .size) heads))) lookup-same
-          ∙ part-same parent i (lookupOf false s part) refl
-      by NoPart i = refl
+  -- A search whose arguments are allowed.
+  asked-same : (parent : ℕ) → parentOf part ≡ Id parent
+      → onLookup (lookupOf true s part) (λ e heads.
+      onOutcome (filled true s (e .payload .at) (e .header .size) parent numbers) refused
+      (found (e .payload .at) (e .header .size) heads))
+      ≡ onLookup (lookupOf false s part) (λ e heads.
+      onOutcome (filled false s (e .payload .at) (e .header .size) parent numbers) refused
+      (found (e .payload .at) (e .header .size) heads))
+  asked-same parent i =
+      ap (λ (p : Lookup). onLookup p (λ e heads.
+      onOutcome (filled true s (e .payload .at) (e .header .size) parent numbers) refused
+      (found (e .payload .at) (e .header .size) heads))) lookup-same
+      ∙ part-same parent i (lookupOf false s part) refl
+
+search-same : (s : List ℕ) (part numbers : ℕ)
+    → (allowed s 0 numbers ≡ true → (parent : ℕ) → parentOf part ≡ Id parent
+    → AllKnown s (SearchComes false s part numbers))
+    → searchOf true s part numbers ≡ searchOf false s part numbers
+unfolding searchOf
+search-same s part numbers k = by (allowed s 0 numbers) refl (parentOf part) refl
+  where
+    searched : Bool → ℕ → Search
+    searched live parent =
+        onLookup (lookupOf live s part) (λ e heads.
+        onOutcome (filled live s (e .payload .at) (e .header .size) parent numbers) refused
+        (found (e .payload .at) (e .header .size) heads))
+
+    by : (b : Bool) → allowed s 0 numbers ≡ b → (x : Parent) → parentOf part ≡ x
+        → cond (not b) (refused badArgument) (onParent x (refused badArgument) (searched true))
+        ≡ cond (not b) (refused badArgument) (onParent x (refused badArgument) (searched false))
+    by true a (Id parent) i = asked-same s part numbers (k a parent i) parent i
+    by true a NoPart i = refl
+    by false a x i = refl
 
 pub equal-parts : EqualParts
 equal-parts s part t r r′ t′ u′ k p q =
@@ -298,4 +312,4 @@ equal-parts s part t r r′ t′ u′ k p q =
     )
 
 pub equal-without : EqualWithout
-equal-without s part t r r′ t′ u′ n p q = equal-parts s part t r r′ t′ u′ (none-is-all s _ n) p q
+equal-without s part t r r′ t′ u′ n p q = equal-parts s part t r r′ t′ u′ (λ a parent i. none-is-all s _ n) p q

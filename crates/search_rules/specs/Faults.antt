@@ -18,7 +18,7 @@ use Rattle.walks_rules.specs.Endings.{within, passOver, endOf}
 use Rattle.walks_rules.specs.declared.step.Stretch.{Stretch}
 use Rattle.walks_rules.specs.declared.step.Stretch.the-variants.{Sized, Endless}
 use Rattle.walks_rules.specs.declared.step.ChildRead.{ChildRead}
-use Rattle.walks_rules.specs.declared.step.ChildRead.the-variants.{Child}
+use Rattle.walks_rules.specs.declared.step.ChildRead.the-variants.{Child, End}
 use Rattle.walks_rules.specs.declared.pass.Passed.{Passed}
 use Rattle.walks_rules.specs.declared.pass.Passed.the-variants.{At}
 use Rattle.seekhead_rules.specs.Seeks.{segmentId, seekHeadId}
@@ -74,16 +74,19 @@ pub data SearchComes (live : Bool) (s : List ℕ) (part numbers : ℕ) : ℕ →
       → SearchComes live s part numbers a (toPass live (seekHeadId ∷ part ∷ []) (behind segment - a))
   inEndless :
       (segment : Headed) (a : ℕ) → segmentOf live s ≡ Read segment → (live && unknown (segment .header)) ≡ true
-      → InSegment live s part segment a → SearchComes live s part numbers a (toStep live)
+      → InSegment live s part segment a → (childAt live s (stretchOf live s segment) a ≡ End → ⊥)
+      → SearchComes live s part numbers a (toStep live)
   inFileUnknown :
       (at : ℕ) (e : Headed) (a : ℕ) → ToSegment live s at → childAt live s (Sized (length s)) at ≡ Child e
       → (e .header .id ≡ segmentId → ⊥) → (live && unknown (e .header)) ≡ true → InUnknown s (length s) e a
+      → (childAt true s (Endless (e .header .id) (length s)) a ≡ End → ⊥)
       → SearchComes live s part numbers a (toStep true)
   inSegmentUnknown :
       (segment : Headed) (at : ℕ) (e : Headed) (a : ℕ) → segmentOf live s ≡ Read segment
       → InSegment live s part segment at → childAt live s (stretchOf live s segment) at ≡ Child e
       → PassedOver live part segment e → (live && unknown (e .header)) ≡ true
       → InUnknown s (endOf (stretchOf live s segment)) e a
+      → (childAt true s (Endless (e .header .id) (endOf (stretchOf live s segment))) a ≡ End → ⊥)
       → SearchComes live s part numbers a (toStep true)
   fromHeads :
       (segment first : Headed) (a : ℕ) (x : Errand) → segmentOf live s ≡ Read segment
@@ -99,7 +102,8 @@ pub data SearchComes (live : Bool) (s : List ℕ) (part numbers : ℕ) : ℕ →
 
 -- A search is refused for a fault that it comes to, at its address. It shuts out a reader that names the segment where
 -- a child overruns it, the seek head where its entry is stale, the start of the recording where no segment is left, and
--- the Cluster of unknown size where a block in it has an unknown size too.
+-- the Cluster of unknown size where a block in it has an unknown size too, and one that goes on behind the end of an
+-- element of unknown size.
 abbrev pub SearchHonest : Type 0
 SearchHonest =
     (live : Bool) (s : List ℕ) (part : ℕ) (t : List ℕ) (e : Refusal) (t′ : List ℕ)

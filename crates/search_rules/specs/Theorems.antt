@@ -25,7 +25,7 @@ OnePart =
     (live : Bool) (s : List ℕ) (part : ℕ) (t u : List ℕ) (r r′ : PartReply) (t′ u′ : List ℕ) → length t ≡ length u
     → PartPromise live s part t r t′ → PartPromise live s part u r′ u′ → (r ≡ r′) × (t′ ≡ u′)
 
--- A refusal that the promise permits is one of document 01's list.
+-- A refusal that the promise permits is one of the list (`Listed`).
 abbrev pub RefusesListed : Type 0
 RefusesListed = (live : Bool) (s : List ℕ) (part : ℕ) (t : List ℕ) (e : Refusal) (t′ : List ℕ)
     → PartPromise live s part t (Refused e) t′ → Listed e

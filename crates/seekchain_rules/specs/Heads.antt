@@ -1,5 +1,5 @@
 -- The chain of linked seek heads: which are read, at which addresses, and all their entries (document 01, Seek tables
--- and the search).
+-- and the search; document 02, C-18).
 use Prim.Native.Nat.{ℕ, zero, suc, _+_}
 use mathlib.Core.List.{List, [], _∷_, _++_}
 use mathlib.Core.Bool.{Bool, cond}

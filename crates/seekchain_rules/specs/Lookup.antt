@@ -1,4 +1,4 @@
--- The part that seek heads lead to (document 01, Seek tables and the search).
+-- The part that seek heads lead to (document 01, Seek tables and the search; document 02, C-18).
 use Prim.Native.Nat.{ℕ, _+_}
 use mathlib.Core.List.{List}
 use mathlib.Core.Bool.{Bool, cond}

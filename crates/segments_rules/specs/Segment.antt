@@ -45,7 +45,7 @@ unfoldable pub stretchOf : (live : Bool) → List ℕ → (segment : Headed) →
 stretchOf live s segment =
     cond (live && unknown (segment .header)) (Endless segmentId (length s)) (Sized (behind segment))
 
--- A child of known size is larger than what was left of a segment of known size.
+-- A child is larger than what was left of the segment; in live mode where both sizes are known.
 unfoldable pub overruns : (live : Bool) → (segment e : Headed) → Bool
 overruns live segment e =
     cond (live && unknown (segment .header)) false

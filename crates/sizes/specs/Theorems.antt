@@ -9,8 +9,8 @@ use Rattle.header.specs.Theorems.{Octets}
 use Rattle.header.specs.declared.cursor.Header.{Header}
 use Rattle.sizes.specs.Unknown.{idOctets, sizeOctets, unknown, onesOf}
 
--- A size that was read is unknown exactly if its octets are those. It shuts out a reader that takes every 127 as
--- unknown, and one that knows one width alone.
+-- A size that was read is unknown exactly if its octets are `onesOf` its width. It shuts out a reader that takes every
+-- 127 as unknown, and one that knows one width alone.
 abbrev pub UnknownOctets : Type 0
 UnknownOctets =
     (s : List ℕ) → Octets s → (h : Header) → headerOf s ≡ heading h

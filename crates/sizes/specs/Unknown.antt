@@ -14,8 +14,8 @@ idOctets id = cond (ltb id 0x100) 1 (cond (ltb id 0x10000) 2 (cond (ltb id 0x100
 abbrev pub sizeOctets : Header → ℕ
 sizeOctets h = h .length - idOctets (h .id)
 
--- The size is all ones in its own width. No size that was read has more than 8 octets: with that test it is told of any
--- three numbers.
+-- The size is all ones in its own width. No size that was read has more than 8 octets; the test bounds the power, for a
+-- header of any three numbers.
 unfoldable pub unknown : Header → Bool
 unknown h = leb (sizeOctets h) 8 && eqb (h .size + 1) (2 ^ (7 * sizeOctets h))
 

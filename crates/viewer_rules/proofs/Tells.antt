@@ -30,10 +30,10 @@ crossed (accepted values) = 0
 crossed (refusal e) = causeNumber (e .cause)
 
 tells : {A : Type 0} (reply : Reply A) → Tells reply (crossed reply)
-tells (accepted values) = record { listed = omega arith; accepts = λ e. tt; zero = λ a. refl }
+tells (accepted values) = record { listed = omega arith; but = λ q. omega arith; accepts = λ e. tt; zero = λ a. refl }
 tells (refusal e) =
     let l = listed e in
-    record { listed = l .most; accepts = λ z. omega (arith, l .least); zero = λ a. absurd a }
+    record { listed = l .most; but = l .but; accepts = λ z. omega (arith, l .least); zero = λ a. absurd a }
 
 part-crossed : (reply : Reply PartTold) → crossed reply ≡ partFace reply .refused
 part-crossed (accepted (foundPart at size rows heads)) = refl

@@ -78,10 +78,11 @@ abbrev pub Accepts : {A : Type 0} → Reply A → Type 0
 Accepts (accepted values) = Unit
 Accepts (refusal e) = ⊥
 
--- What crosses as `refused` is 0 exactly if the reply accepts, and else one of document 01's numbers: no refusal has
--- the number 0, so that a C caller who tests `refused` misses none.
+-- What crosses as `refused` is 0 exactly if the reply accepts, and else a number of the list, 1 to 15 or 17: no refusal
+-- has the number 0, so that a C caller who tests `refused` misses none.
 pub record Tells {A : Type 0} (reply : Reply A) (refused : ℕ) : Type 0 where
   pub listed : refused ≤ 17
+  pub but : refused ≡ 16 → ⊥
   pub accepts : refused ≡ 0 → Accepts reply
   pub zero : Accepts reply → refused ≡ 0
 

@@ -20,8 +20,8 @@ use Rattle.walks_rules.specs.declared.pass.Passed.the-variants.{At, Refu
 unfoldable pub endedAt : List ℕ → (end at : ℕ) → ℕ
 endedAt s end at = cond (leb end at) end (cond (leb (length s) at) (length s) at)
 
--- The place behind an element in one of unknown size. That of unknown size there is a Cluster in a Segment. It is gone
--- into: what ends the Segment ends the Cluster too, and what else ends the Cluster is the Segment's next child
+-- The place behind an element in one of unknown size. One of unknown size there can only be a Cluster in a Segment. It
+-- is gone into: what ends the Segment ends the Cluster too, and what else ends the Cluster is the Segment's next child
 -- (`ClustersPassed`).
 unfoldable pub within : Headed → ℕ
 within e = cond (unknown (e .header)) (e .payload .at) (behind e)

@@ -1,6 +1,6 @@
 -- The step by which the file's elements, the segment's children and sought addresses are read (document 01, Seek tables
--- and the search), and what ends an element of unknown size (document 02, C-18). Here alone 17 and endings are known of
--- a walk.
+-- and the search), and what ends an element of unknown size (document 02, C-18). Here alone a walk knows 17, and which
+-- id ends an element.
 use Prim.Native.Nat.{ℕ}
 use mathlib.Core.List.{List, [], _∷_}
 use mathlib.Core.Bool.{Bool, false, cond, _&&_, _||_, not}

@@ -1,13 +1,9 @@
 -- What is proved of the definitions beside the contracts: the statements of the theorems.
-use Prim.Native.Nat.{ℕ, _-_, _<_}
+use Prim.Native.Nat.{ℕ, _-_}
 use mathlib.Core.Path.{_≡_}
 use mathlib.Core.List.{List}
-use mathlib.Core.Bool.{Bool, true, false, _&&_}
+use mathlib.Core.Bool.{Bool, true}
 use lib.ListN.{length}
-use Rattle.header.specs.Reads.{behind, headerAt}
-use Rattle.header.specs.declared.cursor.Headed.{Headed}
-use Rattle.header.specs.declared.cursor.HeaderRead.the-variants.{Read}
-use Rattle.sizes.specs.Unknown.{unknown}
 use Rattle.walks_rules.specs.Step.{childAt, onChild}
 use Rattle.walks_rules.specs.Walk.{onVisit, onPassed, Walk, walk}
 use Rattle.walks_rules.specs.Endings.{within, endedAt, ending, endFrom, passOver, endOf, walkFrom}
@@ -31,9 +27,9 @@ EndUnfolds =
     → endFrom s id end at
     ≡ onChild (childAt true s (Endless id end) at) (At (endedAt s end at)) Refused (λ e. endFrom s id end (within e))
 
--- A Cluster of unknown size in a Segment of unknown size is passed over: to the end of the Segment it is one whether
--- the Cluster is gone into or passed by its own ending. It shuts out a definition that steps over the Cluster by the
--- number that its size octets make.
+-- A Cluster of unknown size in a Segment of unknown size: the Segment ends at the same place whether the Cluster is
+-- gone into or passed over by its own ending. It shuts out a definition that steps over the Cluster by the number that
+-- its size octets make.
 abbrev pub ClustersPassed : Type 0
 ClustersPassed =
     (s : List ℕ) (end at : ℕ)
