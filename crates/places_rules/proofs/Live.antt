@@ -1,30 +1,33 @@
 -- The address question in live mode beside old mode (`LiveWhose`, `EqualWhose`, `WhoseRowsKnown`). Assumes nothing.
 use Prim.Native.Nat.{ℕ, _/_}
-use mathlib.Core.Path.{_≡_, refl, sym, ap, _∙_}
+use mathlib.Core.Path.{_≡_, refl, sym, ap, _∙_, subst}
 use mathlib.Core.List.{List}
 use mathlib.Core.Logic.{_⊎_, inl, inr}
 use mathlib.Core.Bool.{true, false, not}
 use native.Mathlib.Omega.{arith}
 use lib.ListN.{length}
 use Rattle.refusals.specs.Refusals.{unknownSize, badArgument, outside}
-use Rattle.refusals.specs.Reply.{refusal}
+use Rattle.refusals.specs.Reply.{accepted, refusal}
 use Rattle.refusals.specs.declared.refusal.Refusal.{Refusal}
+use Rattle.sizes.specs.Unknown.{unknown}
 use Rattle.elements_rules.specs.Forest.{count}
 use Rattle.elements_rules.specs.Reading.{Outcome, done, refused}
-use Rattle.elements_rules.specs.Rows.{rowsAt, width}
+use Rattle.elements_rules.specs.Rows.{rowsAt, width, rowsOf}
 use Rattle.elements_rules.specs.Holds.{within}
 use Rattle.elements_rules.specs.Promise.{keeping, allowed, filled, readOf, replyOf, tableOf}
+use Rattle.elements_rules.specs.Theorems.{Each}
 use Rattle.elements_rules.specs.Faults.{Comes}
-use Rattle.elements_rules.specs.Live.{AllKnown, LiveOr, seventeen, equal}
+use Rattle.elements_rules.specs.Live.{AllKnown, LiveOr, seventeen, equal, headerOfRow}
 use Rattle.elements_rules.proofs.Outcomes.{passes}
+use Rattle.elements_rules.proofs.Numbered.{length-rows-of}
 use Rattle.elements_rules.proofs.Faults.{of-test}
 use Rattle.elements_rules.proofs.Live.{test-or, filled-or, known-reading, rows-known}
-use Rattle.places_rules.specs.Whose.{askedOf, whoseOf}
+use Rattle.places_rules.specs.Whose.{byHeader, byPayload, askedOf, whoseOf}
 use Rattle.places_rules.specs.Promise.{whoseTold}
 use Rattle.places_rules.specs.Live.{LiveWhose, EqualWhose, WhoseRowsKnown}
-use Rattle.places_rules.specs.declared.whose.WhoseReply.the-variants.{Refused}
+use Rattle.places_rules.specs.declared.whose.WhoseReply.the-variants.{Header, Payload, Refused}
 use Rattle.places_rules.proofs.Unique.{replied, replied-back}
-use Rattle.places_rules.proofs.Owners.{asked-done}
+use Rattle.places_rules.proofs.Owners.{asked-done, row-owns}
 use Rattle.places_rules.proofs.Honest.{none-holds}
 
 module _ (s : List ℕ) (start size parent x numbers : ℕ) where
@@ -83,10 +86,35 @@ equal-whose s start size parent x t r r′ t′ u′ k p q = by (live-whose s st
     by (inr z) = z
 
 pub whose-rows-known : WhoseRowsKnown
-whose-rows-known s start size parent x t r t′ f p q =
-    let o = asked-done true s start size parent x (length t) f q .1 in
-    rows-known s start size parent t (count f) t′
-    (record {
-      reply = sym (ap replyOf o);
-      table = p .table ∙ ap (tableOf start (length t)) (q ∙ sym o);
-    })
+whose-rows-known s start size parent x t r t′ row rows p e =
+    by (askedOf true s start size parent x (length t)) refl e
+  where
+    -- The reply tells how many rows there are.
+    told : {k m : ℕ} {A B : Type 0} → (r ≡ Header row rows) ⊎ (r ≡ Payload row rows)
+        → ((r ≡ Header k m) × A) ⊎ ((r ≡ Payload k m) × B) → m ≡ rows
+    told (inl i) (inl (j, a)) = cc
+    told (inr i) (inr (j, a)) = cc
+    told (inl i) (inr (j, a)) = let z : _≡_ {A = ℕ} 0 1 = cc in absurd (let y : ⊥ = omega arith in y)
+    told (inr i) (inl (j, a)) = let z : _≡_ {A = ℕ} 0 1 = cc in absurd (let y : ⊥ = omega arith in y)
+
+    by : (o : Outcome) → askedOf true s start size parent x (length t) ≡ o
+        → (r ≡ Header row rows) ⊎ (r ≡ Payload row rows)
+        → Each (λ r. unknown (headerOfRow r) ≡ false) (rowsOf t′ rows)
+    by (done f) q i =
+        let o = asked-done true s start size parent x (length t) f q .1 in
+        let g = row-owns true s start size parent x t r t′ f p q in
+        subst (λ (n : ℕ). Each (λ r. unknown (headerOfRow r) ≡ false) (rowsOf t′ n))
+        (sym (length-rows-of t′ (count f)) ∙ told i (g .which))
+        (rows-known s start size parent t (count f) t′
+        (record {
+          reply = sym (ap replyOf o);
+          table = p .table ∙ ap (tableOf start (length t)) (q ∙ sym o);
+        }))
+    by (refused d) q (inl i) =
+        let v : accepted (byHeader row rows) ≡ refusal d
+        = ap whoseTold (sym i) ∙ p .reply ∙ ap (whoseOf start x) q in
+        let z : _≡_ {A = ℕ} 0 1 = cc in absurd (let y : ⊥ = omega arith in y)
+    by (refused d) q (inr i) =
+        let v : accepted (byPayload row rows) ≡ refusal d
+        = ap whoseTold (sym i) ∙ p .reply ∙ ap (whoseOf start x) q in
+        let z : _≡_ {A = ℕ} 0 1 = cc in absurd (let y : ⊥ = omega arith in y)

@@ -8,17 +8,14 @@ use mathlib.Core.Bool.{true, false}
 use lib.ListN.{length}
 use Rattle.refusals.specs.Refusals.{unknownSize}
 use Rattle.sizes.specs.Unknown.{unknown}
-use Rattle.elements_rules.specs.Forest.{Forest, count}
-use Rattle.elements_rules.specs.Reading.{done}
 use Rattle.elements_rules.specs.Rows.{width, rowsOf}
 use Rattle.elements_rules.specs.Theorems.{Each}
 use Rattle.elements_rules.specs.Promise.{keeping}
 use Rattle.elements_rules.specs.Faults.{Comes}
 use Rattle.elements_rules.specs.Live.{AllKnown, headerOfRow}
-use Rattle.places_rules.specs.Whose.{askedOf}
 use Rattle.places_rules.specs.Promise.{WhosePromise}
 use Rattle.places_rules.specs.declared.whose.WhoseReply.{WhoseReply}
-use Rattle.places_rules.specs.declared.whose.WhoseReply.the-variants.{Refused}
+use Rattle.places_rules.specs.declared.whose.WhoseReply.the-variants.{Header, Payload, Refused}
 
 -- In live mode the question is 17, or it has the same reply and the same table. It shuts out a live mode that tells an
 -- element of unknown size as the owner of all bytes behind its header.
@@ -37,10 +34,10 @@ EqualWhose =
     → WhosePromise false s start size parent x t r t′ → WhosePromise true s start size parent x t r′ u′
     → (r′ ≡ r) × (u′ ≡ t′)
 
--- Where live mode reads the payload, no row of the table has an unknown size. It shuts out a question that is asked in
--- live mode and reads in old mode.
+-- Where live mode names a row, no row of the table has an unknown size. It shuts out a question that is asked in live
+-- mode and reads in old mode.
 abbrev pub WhoseRowsKnown : Type 0
 WhoseRowsKnown =
-    (s : List ℕ) (start size parent x : ℕ) (t : List ℕ) (r : WhoseReply) (t′ : List ℕ) (f : Forest)
-    → WhosePromise true s start size parent x t r t′ → askedOf true s start size parent x (length t) ≡ done f
-    → Each (λ r. unknown (headerOfRow r) ≡ false) (rowsOf t′ (count f))
+    (s : List ℕ) (start size parent x : ℕ) (t : List ℕ) (r : WhoseReply) (t′ : List ℕ) (row rows : ℕ)
+    → WhosePromise true s start size parent x t r t′ → (r ≡ Header row rows) ⊎ (r ≡ Payload row rows)
+    → Each (λ r. unknown (headerOfRow r) ≡ false) (rowsOf t′ rows)
