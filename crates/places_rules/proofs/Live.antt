@@ -6,6 +6,7 @@ use mathlib.Core.Logic.{_⊎_, inl, inr}
 use mathlib.Core.Bool.{true, false, not}
 use native.Mathlib.Omega.{arith}
 use lib.ListN.{length}
+use borrow.Author.Tests.{not-false}
 use Rattle.refusals.specs.Refusals.{unknownSize, badArgument, outside}
 use Rattle.refusals.specs.Reply.{accepted, refusal}
 use Rattle.refusals.specs.declared.refusal.Refusal.{Refusal}
@@ -37,9 +38,10 @@ module _ (s : List ℕ) (start size parent x numbers : ℕ) where
       test-or (not (allowed s start numbers)) badArgument _ _
       (test-or (not (within start size x)) outside _ _ (filled-or s start size parent numbers))
 
-  -- 17 of the question is 17 of the reading.
+  -- 17 of the question is 17 of the reading, behind the tests for 14 and 15.
   asked-unknown : {A : Type 0} (a : ℕ) → askedOf true s start size parent x numbers ≡ refused (unknownSize a)
-      → (readOf true s start size parent numbers ≡ refused (unknownSize a) → A) → A
+      → (allowed s start numbers ≡ true → within start size x ≡ true
+      → readOf true s start size parent numbers ≡ refused (unknownSize a) → A) → A
   unfolding askedOf readOf
   asked-unknown a q k =
       of-test (not (allowed s start numbers)) badArgument _ (unknownSize a) q
@@ -51,18 +53,21 @@ module _ (s : List ℕ) (start size parent x numbers : ℕ) where
       (λ c i.
       let j = ap (λ (r : Refusal). r .cause) i in
       let z : _≡_ {A = ℕ} 0 1 = cc in absurd (let y : ⊥ = omega arith in y))
-      (λ c w. k (passes _ _ _ b ∙ w)))
+      (λ c w. k (not-false _ b) (not-false _ c) (passes _ _ _ b ∙ w)))
 
   -- Where no size that is read is unknown, the reply is not 17.
-  not-unknown : (a : ℕ) → AllKnown s (Comes s (keeping false) (numbers / width) 0 parent start size 0) → (o : Outcome)
-      → askedOf true s start size parent x numbers ≡ o → refusal (unknownSize a) ≡ whoseOf start x o → ⊥
+  not-unknown : (a : ℕ)
+      → (allowed s start numbers ≡ true → within start size x ≡ true
+      → AllKnown s (Comes s (keeping false) (numbers / width) 0 parent start size 0))
+      → (o : Outcome) → askedOf true s start size parent x numbers ≡ o
+      → refusal (unknownSize a) ≡ whoseOf start x o → ⊥
   not-unknown a k (done f) w q =
       let i = ap (λ (r : Refusal). r .cause) (none-holds (rowsAt start f) 0 (count f) x (unknownSize a) q) in
       let z : _≡_ {A = ℕ} 0 1 = cc in
       omega arith
   not-unknown a k (refused e) w q =
       let i : e ≡ unknownSize a = cc in
-      asked-unknown a (w ∙ ap refused i) (known-reading s start size parent numbers a k)
+      asked-unknown a (w ∙ ap refused i) (λ b c. known-reading s start size parent numbers a (k b c))
 
 pub live-whose : LiveWhose
 live-whose s start size parent x t r r′ t′ u′ p q = by (asked-or s start size parent x (length t))

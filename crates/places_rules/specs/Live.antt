@@ -9,8 +9,9 @@ use lib.ListN.{length}
 use Rattle.refusals.specs.Refusals.{unknownSize}
 use Rattle.sizes.specs.Unknown.{unknown}
 use Rattle.elements_rules.specs.Rows.{width, rowsOf}
+use Rattle.elements_rules.specs.Holds.{within}
 use Rattle.elements_rules.specs.Theorems.{Each}
-use Rattle.elements_rules.specs.Promise.{keeping}
+use Rattle.elements_rules.specs.Promise.{keeping, allowed}
 use Rattle.elements_rules.specs.Faults.{Comes}
 use Rattle.elements_rules.specs.Live.{AllKnown, headerOfRow}
 use Rattle.places_rules.specs.Promise.{WhosePromise}
@@ -25,12 +26,14 @@ LiveWhose =
     → WhosePromise false s start size parent x t r t′ → WhosePromise true s start size parent x t r′ u′
     → ((a : ℕ) × (r′ ≡ Refused (unknownSize a))) ⊎ ((r′ ≡ r) × (u′ ≡ t′))
 
--- If no header that the payload's reading reads in old mode has an unknown size, live mode gives the equal reply and
--- table. It shuts out a live mode that gives 17 for an unknown size outside the payload that the caller named.
+-- If no header that the call reads in old mode has an unknown size, live mode gives the equal reply and table; a call
+-- that ends in 14, or in 15 for the address, reads none. It shuts out a live mode that gives 17 for an unknown size
+-- outside the payload that the caller named.
 abbrev pub EqualWhose : Type 0
 EqualWhose =
     (s : List ℕ) (start size parent x : ℕ) (t : List ℕ) (r r′ : WhoseReply) (t′ u′ : List ℕ)
-    → AllKnown s (Comes s (keeping false) (length t / width) 0 parent start size 0)
+    → (allowed s start (length t) ≡ true → within start size x ≡ true
+    → AllKnown s (Comes s (keeping false) (length t / width) 0 parent start size 0))
     → WhosePromise false s start size parent x t r t′ → WhosePromise true s start size parent x t r′ u′
     → (r′ ≡ r) × (u′ ≡ t′)
 
