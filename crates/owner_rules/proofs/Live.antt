@@ -1,31 +1,37 @@
 -- The question in live mode beside old mode (`LiveOwner`, `LiveChain`, `EqualOwner`, `EqualChain`, `ChainKnown`).
 -- Assumes nothing.
-use Prim.Native.Nat.{ℕ, zero, suc, _+_, _-_}
+use Prim.Native.Nat.{ℕ, zero, suc, _+_, _-_, _≤_}
 use mathlib.Core.Path.{_≡_, refl, sym, ap, _∙_, subst}
 use mathlib.Core.List.{List, [], _∷_, _++_}
 use mathlib.Core.Logic.{_⊎_, inl, inr}
 use mathlib.Core.Bool.{Bool, true, false, cond, not}
-use lib.ListN.{length, drop}
+use native.Mathlib.Omega.{arith}
+use lib.ListN.{length, take, drop}
 use lib.Dec.{leb, ltb}
 use Rattle.refusals.specs.Refusals.{overrun, tooDeep, unknownSize, badArgument, outside}
 use Rattle.refusals.specs.Reply.{Reply, refusal}
+use Rattle.refusals.specs.declared.refusal.Refusal.{Refusal}
 use Rattle.header.specs.Header.{Heading, heading, headerOf}
 use Rattle.header.specs.Header.{refused as refusedHeader}
 use Rattle.header.specs.declared.cursor.Header.{Header}
 use Rattle.sizes.specs.Unknown.{unknown}
 use Rattle.elements_rules.specs.Reading.{taken, elementHeader, depths}
 use Rattle.elements_rules.specs.Holds.{within}
-use Rattle.elements_rules.specs.Promise.{allowed}
+use Rattle.elements_rules.specs.Promise.{allowed, zeros}
 use Rattle.elements_rules.specs.Faults.{Errand, readsHeader}
 use Rattle.elements_rules.specs.Live.{AllKnown}
 use Rattle.elements_rules.proofs.Parts.{of-taken}
-use Rattle.owner_rules.specs.Owner.{header, payload, Owned, onHeading, refuseIf, inMaster, wholeOf, isMaster, own}
-use Rattle.owner_rules.specs.Owner.{ownerAt, ownerOf, mostLinks, chainOf}
-use Rattle.owner_rules.specs.Promise.{ownerReply, linksOf}
+use Rattle.owner_rules.specs.Owner.{Side, header, payload, Owned, onHeading, refuseIf, inMaster, wholeOf}
+use Rattle.owner_rules.specs.Owner.{isMaster, own, ownerAt, ownerOf, mostLinks, chainOf}
+use Rattle.owner_rules.specs.Promise.{ownerIs, ownerReply, linksOf, OwnerPromise}
 use Rattle.owner_rules.specs.Way.{OwnerWay, here, past, into, OwnerComes}
+use Rattle.owner_rules.specs.Theorems.{OwnerAnswer, broken, away, owned, faulty}
 use Rattle.owner_rules.specs.Live.{LiveOwner, LiveChain, EqualOwner, EqualChain, KnownAt, ChainKnown}
 use Rattle.owner_rules.specs.declared.owner.OwnerReply.the-variants.{Refused}
-use Rattle.owner_rules.proofs.Asked.{owner-broken}
+use Rattle.owner_rules.proofs.Asked.{owner-broken, chain-long, owner-of-chain}
+use Rattle.owner_rules.proofs.Headers.{either}
+use Rattle.owner_rules.proofs.Sound.{owner-answers}
+use Rattle.owner_rules.proofs.Chains.{chains-lead}
 use Rattle.owner_rules.proofs.Alone.{same-answer}
 use Rattle.owner_rules.proofs.Refusals.{way-errand}
 
@@ -163,6 +169,50 @@ way-known s x depth parent at left ms a e g (past _ _ _ _ _ _ _ h i d l b w) q =
 way-known s x depth parent at left _ a e g (into _ _ _ _ ms _ _ h i d l b c m w) q =
     (taken-known s at h i, way-known s x _ _ _ _ ms a e g w q)
 
+-- What a slice of any length holds of the chain.
+slice-known : (s ms : List ℕ) (a : ℕ) (more : List ℕ) (links : ℕ) → KnownAt s (ms ++ (a ∷ []))
+    → KnownAt s (take (suc (length ms)) (take links ((ms ++ (a ∷ [])) ++ more)))
+slice-known s [] a more zero k = tt
+slice-known s [] a more (suc links) k = (k .0, tt)
+slice-known s (b ∷ ms) a more zero k = tt
+slice-known s (b ∷ ms) a more (suc links) k = (k .0, slice-known s ms a more links (k .1))
+
+-- An owner is no refusal, and tells its address and its depth.
+no-refusal : {A : Type 0} (side : Side) (a depth : ℕ) (e : Refusal) → ownerIs side a depth ≡ Refused e → A
+no-refusal header a depth e i = let z : _≡_ {A = ℕ} 0 1 = cc in absurd (let y : ⊥ = omega arith in y)
+no-refusal payload a depth e i = let z : _≡_ {A = ℕ} 0 1 = cc in absurd (let y : ⊥ = omega arith in y)
+
+same-told : (side side′ : Side) (a a′ depth depth′ : ℕ) → ownerIs side a depth ≡ ownerIs side′ a′ depth′
+    → (a′ ≡ a) × (depth′ ≡ depth)
+same-told header header a a′ depth depth′ i = (cc, cc)
+same-told payload payload a a′ depth depth′ i = (cc, cc)
+same-told header payload a a′ depth depth′ i = let z : _≡_ {A = ℕ} 0 1 = cc in absurd (let y : ⊥ = omega arith in y)
+same-told payload header a a′ depth depth′ i = let z : _≡_ {A = ℕ} 0 1 = cc in absurd (let y : ⊥ = omega arith in y)
+
 pub chain-known : ChainKnown
-chain-known s start size parent x o k =
-    way-known s x 0 parent start size (o .masters) (o .address) _ (k .head) (k .way) (k .stands)
+chain-known s start size parent x t side a depth t′ p =
+    either mostLinks (length t)
+    (λ l. no-refusal side a depth badArgument
+    (p .reply ∙ ap ownerReply (chain-long true s start size parent x (length t) l)))
+    (λ l.
+    let g = owner-of-chain true s start size parent x t (ownerIs side a depth) t′ l p in
+    by l g (owner-answers true s start size parent x (ownerIs side a depth) g))
+  where
+    by : length t ≤ mostLinks → OwnerPromise true s start size parent x (ownerIs side a depth)
+        → OwnerAnswer true s start size parent x (ownerIs side a depth) → KnownAt s (a ∷ take (suc depth) t′)
+    by l g (broken b i) = no-refusal side a depth badArgument i
+    by l g (away b w i) = no-refusal side a depth outside i
+    by l g (faulty e b w k i) = no-refusal side a depth e i
+    by l g (owned o k i) =
+        let (same, deep) = same-told side (o .side) a (o .address) depth (length (o .masters)) i in
+        let all = way-known s x 0 parent start size (o .masters) (o .address) _ (k .head) (k .way) (k .stands) in
+        let told = chains-lead true s start size parent x t (ownerIs side a depth) (ownerIs side a depth) t′ p g
+            .links l o k in
+        let slice : KnownAt s (take (suc (length (o .masters))) t′)
+        = subst (λ (u : List ℕ). KnownAt s (take (suc (length (o .masters))) u)) (sym told)
+        (slice-known s (o .masters) (o .address) (zeros (length t)) (length t) all) in
+        (
+          subst (λ (b : ℕ). (h : Header) → headerOf (drop b s) ≡ heading h → unknown h ≡ false) same
+          (taken-known s (o .address) (k .head) (k .stands)),
+          subst (λ (n : ℕ). KnownAt s (take (suc n) t′)) deep slice,
+        )

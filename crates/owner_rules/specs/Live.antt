@@ -1,19 +1,19 @@
 -- Live mode beside old mode in the question whose byte it is (document 02, C-18): the statements of theorems, each with
 -- a wrong reader that it shuts out.
-use Prim.Native.Nat.{ℕ}
+use Prim.Native.Nat.{ℕ, suc}
 use mathlib.Core.Path.{_≡_}
 use mathlib.Core.List.{List, [], _∷_}
 use mathlib.Core.Logic.{_⊎_}
 use mathlib.Core.Bool.{true, false}
-use lib.ListN.{drop}
+use lib.ListN.{take, drop}
 use Rattle.refusals.specs.Refusals.{unknownSize}
 use Rattle.header.specs.Header.{heading, headerOf}
 use Rattle.header.specs.declared.cursor.Header.{Header}
 use Rattle.sizes.specs.Unknown.{unknown}
 use Rattle.elements_rules.specs.Live.{AllKnown}
-use Rattle.owner_rules.specs.Owner.{Owned, chainTo}
-use Rattle.owner_rules.specs.Promise.{OwnerPromise, ChainPromise}
-use Rattle.owner_rules.specs.Way.{OwnedBy, OwnerComes}
+use Rattle.owner_rules.specs.Owner.{Side}
+use Rattle.owner_rules.specs.Promise.{ownerIs, OwnerPromise, ChainPromise}
+use Rattle.owner_rules.specs.Way.{OwnerComes}
 use Rattle.owner_rules.specs.declared.owner.OwnerReply.{OwnerReply}
 use Rattle.owner_rules.specs.declared.owner.OwnerReply.the-variants.{Refused}
 
@@ -58,9 +58,10 @@ abbrev pub KnownAt : List ℕ → List ℕ → Type 0
 KnownAt s [] = Unit
 KnownAt s (a ∷ more) = ((h : Header) → headerOf (drop a s) ≡ heading h → unknown h ≡ false) × KnownAt s more
 
--- In live mode neither an owner nor a master around it has an unknown size. It shuts out a live mode that tests the
--- size of the owner alone.
+-- Where live mode names an owner, neither that nor a link of its chain that the slice holds has an unknown size: behind
+-- as many numbers as the owner has masters, and one for itself, come zeros. It shuts out a live mode that tests the size
+-- of the owner alone.
 abbrev pub ChainKnown : Type 0
 ChainKnown =
-    (s : List ℕ) (start size parent x : ℕ) (o : Owned) → OwnedBy true s start size parent x o
-    → KnownAt s (chainTo o)
+    (s : List ℕ) (start size parent x : ℕ) (t : List ℕ) (side : Side) (a depth : ℕ) (t′ : List ℕ)
+    → ChainPromise true s start size parent x t (ownerIs side a depth) t′ → KnownAt s (a ∷ take (suc depth) t′)
