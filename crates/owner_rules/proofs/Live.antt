@@ -21,14 +21,14 @@ use Rattle.elements_rules.specs.Promise.{allowed, zeros}
 use Rattle.elements_rules.specs.Faults.{Errand, readsHeader}
 use Rattle.elements_rules.specs.Live.{AllKnown}
 use Rattle.elements_rules.proofs.Parts.{of-taken}
-use Rattle.owner_rules.specs.Owner.{Side, header, payload, Owned, onHeading, refuseIf, inMaster, wholeOf}
+use Rattle.owner_rules.specs.Owner.{Side, header, payload, Owned, onHeading, inMaster, wholeOf}
 use Rattle.owner_rules.specs.Owner.{isMaster, own, ownerAt, ownerOf, mostLinks, chainOf}
 use Rattle.owner_rules.specs.Promise.{ownerIs, ownerReply, linksOf, OwnerPromise}
 use Rattle.owner_rules.specs.Way.{OwnerWay, here, past, into, OwnerComes}
 use Rattle.owner_rules.specs.Theorems.{OwnerAnswer, broken, away, owned, faulty}
 use Rattle.owner_rules.specs.Live.{LiveOwner, LiveChain, EqualOwner, EqualChain, KnownAt, ChainKnown}
 use Rattle.owner_rules.specs.declared.owner.OwnerReply.the-variants.{Refused}
-use Rattle.owner_rules.proofs.Asked.{owner-broken, chain-long, owner-of-chain}
+use Rattle.owner_rules.proofs.Asked.{owner-broken, chain-long, chain-owner, owner-of-chain}
 use Rattle.owner_rules.proofs.Headers.{either}
 use Rattle.owner_rules.proofs.Sound.{owner-answers}
 use Rattle.owner_rules.proofs.Chains.{chains-lead}
@@ -105,19 +105,25 @@ module _ (s : List ℕ) (start size parent x : ℕ) where
       by (refusedHeader c) f = refl
       by (heading h) f = rw (f h refl)
 
-  known-owner : AllKnown s (OwnerComes false s start size parent x)
+  known-owner : (allowed s start 0 ≡ true → AllKnown s (OwnerComes false s start size parent x))
       → ownerOf true s start size parent x ≡ ownerOf false s start size parent x
   known-owner k = by (allowed s start 0) refl
     where
       by : (b : Bool) → allowed s start 0 ≡ b
           → ownerOf true s start size parent x ≡ ownerOf false s start size parent x
-      by true a = sym (same-answer false true s s x start size parent a a (taken-same k))
+      by true a = sym (same-answer false true s s x start size parent a a (taken-same (k a)))
       by false a = owner-broken true s start size parent x a ∙ sym (owner-broken false s start size parent x a)
 
-  known-chain : AllKnown s (OwnerComes false s start size parent x) → (links : ℕ)
+  known-chain : (links : ℕ)
+      → (allowed s start 0 ≡ true → links ≤ mostLinks → AllKnown s (OwnerComes false s start size parent x))
       → chainOf true s start size parent x links ≡ chainOf false s start size parent x links
-  unfolding chainOf
-  known-chain k links = ap (refuseIf (ltb mostLinks links) badArgument) (known-owner k)
+  known-chain links k =
+      either mostLinks links
+      (λ l. chain-long true s start size parent x links l ∙ sym (chain-long false s start size parent x links l))
+      (λ l.
+      chain-owner true s start size parent x links l
+      ∙ known-owner (λ a. k a l)
+      ∙ sym (chain-owner false s start size parent x links l))
 
 -- ---- the theorems
 
@@ -147,7 +153,7 @@ equal-owner s start size parent x r r′ k p q =
 
 pub equal-chain : EqualChain
 equal-chain s start size parent x t r r′ t′ u′ k p q =
-    let e = known-chain s start size parent x k (length t) in
+    let e = known-chain s start size parent x (length t) k in
     (q .reply ∙ ap ownerReply e ∙ sym (p .reply), q .links ∙ ap (linksOf (length t)) e ∙ sym (p .links))
 
 -- ---- the chain's sizes
