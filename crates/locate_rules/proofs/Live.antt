@@ -3,14 +3,17 @@ use Prim.Native.Nat.{ℕ}
 use mathlib.Core.Path.{_≡_, sym, ap, _∙_}
 use mathlib.Core.List.{List}
 use mathlib.Core.Logic.{_⊎_, inl, inr}
-use mathlib.Core.Bool.{Bool, true, false}
+use mathlib.Core.Bool.{Bool, true, false, not}
+use native.Mathlib.Omega.{arith}
 use lib.ListN.{length}
-use Rattle.refusals.specs.Refusals.{unknownSize}
+use borrow.Author.Tests.{not-false}
+use Rattle.refusals.specs.Refusals.{unknownSize, badArgument}
 use Rattle.refusals.specs.declared.refusal.Refusal.{Refusal}
-use Rattle.elements_rules.specs.Reading.{Outcome}
-use Rattle.elements_rules.specs.Promise.{readOf}
+use Rattle.elements_rules.specs.Reading.{Outcome, refused}
+use Rattle.elements_rules.specs.Promise.{allowed, filled, readOf}
 use Rattle.elements_rules.specs.Live.{LiveOr, seventeen, equal}
 use Rattle.elements_rules.specs.declared.row.Row.{Row}
+use Rattle.elements_rules.proofs.Faults.{of-test}
 use Rattle.elements_rules.proofs.Live.{read-or, known-reading}
 use Rattle.fields_rules.specs.Values.{FieldValue}
 use Rattle.fields_rules.specs.declared.child.Child.{Child}
@@ -44,13 +47,24 @@ module _ (s : List ℕ) (start size parent numbers : ℕ) (w : Way) where
       by (seventeen a e) = inl (a, ap from e)
       by (equal e) = inr (ap from e)
 
+  -- Where no size that is read is unknown, the reading is not 17.
+  not-unknown : (a : ℕ) → PayloadKnown s start size parent numbers
+      → readOf true s start size parent numbers ≡ refused (unknownSize a) → ⊥
+  unfolding readOf
+  not-unknown a k q =
+      of-test (not (allowed s start numbers)) badArgument (filled true s start size parent numbers) (unknownSize a) q
+      (λ b i.
+      let j = ap (λ (r : Refusal). r .cause) i in
+      let z : _≡_ {A = ℕ} 0 1 = cc in let y : ⊥ = omega arith in y)
+      (λ b v. known-reading s start size parent numbers a (k (not-false _ b)) q)
+
   asked-equal : PayloadKnown s start size parent numbers → ask true ≡ ask false
   unfolding asked
   asked-equal k = by (read-or s start size parent numbers)
     where
       by : LiveOr (readOf false s start size parent numbers) (readOf true s start size parent numbers)
           → ask true ≡ ask false
-      by (seventeen a e) = absurd (known-reading s start size parent numbers a k e)
+      by (seventeen a e) = absurd (not-unknown a k e)
       by (equal e) = ap from e
 
 listed-or : {a b : Asked} (member : List Row → ℕ → Child) → AskedOr a b → AskedOr (listed a member) (listed b member)

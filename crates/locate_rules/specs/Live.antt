@@ -9,7 +9,7 @@ use lib.ListN.{length}
 use Rattle.refusals.specs.Refusals.{unknownSize}
 use Rattle.refusals.specs.declared.refusal.Refusal.{Refusal}
 use Rattle.elements_rules.specs.Rows.{width}
-use Rattle.elements_rules.specs.Promise.{keeping}
+use Rattle.elements_rules.specs.Promise.{keeping, allowed}
 use Rattle.elements_rules.specs.Faults.{Comes}
 use Rattle.elements_rules.specs.Live.{AllKnown}
 use Rattle.elements_rules.specs.declared.row.Row.{Row}
@@ -20,10 +20,12 @@ use Rattle.locate_rules.specs.Told.{Answer, refusal}
 use Rattle.locate_rules.specs.Promise.{RecordPromise}
 use Rattle.locate_rules.specs.declared.steps.Way.{Way}
 
--- No header that old mode reads in the payload, with a table of so many numbers, has an unknown size.
+-- No header that old mode reads in the payload, with a table of so many numbers, has an unknown size; it reads none
+-- where it ends in 14.
 abbrev pub PayloadKnown : List ℕ → (start size parent numbers : ℕ) → Type 0
 PayloadKnown s start size parent numbers =
-    AllKnown s (Comes s (keeping false) (numbers / width) 0 parent start size 0)
+    allowed s start numbers ≡ true
+    → AllKnown s (Comes s (keeping false) (numbers / width) 0 parent start size 0)
 
 -- The replies of a question that reads a payload under that parent id, by the mode, the table at entry, the reply and
 -- the table at exit.
