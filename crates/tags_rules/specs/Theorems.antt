@@ -58,8 +58,7 @@ pub record TagsAddressed : Type 0 where
       → Addressed (ofBelow (simpleOf s)) (simpleAsked live s start size k i)
 
 -- Live mode beside old mode (document 02, C-18): 17, or the equal reply and table; and these where all sizes that are
--- read are known. It shuts out a live mode that gives 15 for a list member where the Targets have an unknown
--- size.
+-- read are known. It shuts out a live mode that gives 15 for a list member where old mode does not.
 pub record TagsLive : Type 0 where
   pub tag :
       (s : List ℕ) (start size k : ℕ)
