@@ -14,7 +14,7 @@ use Rattle.attachments.specs.declared.attachment.AttachmentReply.the-var
 abbrev pub OneAttachment : Type 0
 OneAttachment = (live : Bool) (s : List ℕ) (start size k : ℕ) → OneReply (AttachmentPromise live s start size k)
 
--- A refusal among the replies that a promise permits is one of document 01's list.
+-- A refusal among the replies that a promise permits is one of the list (`Listed`).
 pub record AttachmentsRefuseListed : Type 0 where
   pub attachment :
       (live : Bool) (s : List ℕ) (start size k : ℕ) → OnlyListed NoAttachment (AttachmentPromise live s start size k)

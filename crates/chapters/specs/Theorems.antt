@@ -36,7 +36,7 @@ OneChapter = (live : Bool) (s : List ℕ) (start size k i : ℕ) → OneReply (C
 abbrev pub OneDisplay : Type 0
 OneDisplay = (live : Bool) (s : List ℕ) (start size k i j : ℕ) → OneReply (DisplayPromise live s start size k i j)
 
--- A refusal among the replies that a promise permits is one of document 01's list.
+-- A refusal among the replies that a promise permits is one of the list (`Listed`).
 pub record ChaptersRefuseListed : Type 0 where
   pub edition :
       (live : Bool) (s : List ℕ) (start size k : ℕ) → OnlyListed NoEdition (EditionPromise live s start size k)

@@ -35,7 +35,7 @@ OneReply {R} Permits =
     (t u : List ℕ) (r r′ : R) (t′ u′ : List ℕ) → length t ≡ length u → Permits t r t′ → Permits u r′ u′
     → (r ≡ r′) × (t′ ≡ u′)
 
--- A refusal among the replies that a promise permits is one of document 01's list.
+-- A refusal among the replies that a promise permits is one of the list (`Listed`).
 abbrev pub OnlyListed : {R : Type 0} → (Refusal → R) → (List ℕ → R → List ℕ → Type 0) → Type 0
 OnlyListed refused Permits = (t : List ℕ) (e : Refusal) (t′ : List ℕ) → Permits t (refused e) t′ → Listed e
 

@@ -14,7 +14,7 @@ use Rattle.media_rules.specs.declared.audio.AudioReply.the-variants.{Ref
 abbrev pub OneAudio : Type 0
 OneAudio = (live : Bool) (s : List ℕ) (start size k : ℕ) → OneReply (AudioPromise live s start size k)
 
--- A refusal among the replies that the promise permits is one of document 01's list.
+-- A refusal among the replies that the promise permits is one of the list (`Listed`).
 pub record MediaRefuseListed : Type 0 where
   pub audio : (live : Bool) (s : List ℕ) (start size k : ℕ) → OnlyListed NoAudio (AudioPromise live s start size k)
 

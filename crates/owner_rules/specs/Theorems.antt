@@ -75,7 +75,7 @@ OwnerExactly =
 abbrev pub ownerRefusals : (live : Bool) → List ℕ
 ownerRefusals live = 1 ∷ 2 ∷ 3 ∷ 12 ∷ 14 ∷ 15 ∷ cond live (17 ∷ []) []
 
--- A refusal is one of document 01's list, and of those that the requests name: no body is refused, and no table can be
+-- A refusal is one of the list (`Listed`), and of those that the requests name: no body is refused, and no table can be
 -- full. It shuts out an old mode that knows unknown sizes.
 abbrev pub OwnerRefusals : Type 0
 OwnerRefusals =

@@ -1,5 +1,5 @@
 -- Any two replies that a promise permits are equal (`OneRange`, `OnePayload`, `OneOwner`), and a refusal is one of
--- document 01's list (`PlacesRefuseListed`). Assumes nothing.
+-- the list (`PlacesRefuseListed`). Assumes nothing.
 use Prim.Native.Nat.{ℕ}
 use mathlib.Core.Path.{_≡_, refl, sym, ap, _∙_}
 use Rattle.refusals.specs.Reply.{Reply, accepted, refusal}

@@ -41,7 +41,7 @@ OneOwner =
     → WhosePromise live s start size parent x t r t′ → WhosePromise live s start size parent x u r′ u′
     → (r ≡ r′) × (t′ ≡ u′)
 
--- A refusal that a promise permits is one of document 01's list.
+-- A refusal that a promise permits is one of the list (`Listed`).
 pub record PlacesRefuseListed : Type 0 where
   pub range : (s t : List ℕ) (row : ℕ) (e : Refusal) → RangePromise s t row (NoRange e) → Listed e
   pub owner :

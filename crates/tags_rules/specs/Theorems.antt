@@ -26,7 +26,7 @@ OneUid =
 abbrev pub OneSimple : Type 0
 OneSimple = (live : Bool) (s : List ℕ) (start size k i : ℕ) → OneReply (SimplePromise live s start size k i)
 
--- A refusal among the replies that a promise permits is one of document 01's list.
+-- A refusal among the replies that a promise permits is one of the list (`Listed`).
 pub record TagsRefuseListed : Type 0 where
   pub tag : (live : Bool) (s : List ℕ) (start size k : ℕ) → OnlyListed NoTag (TagPromise live s start size k)
   pub uid :

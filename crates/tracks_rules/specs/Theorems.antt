@@ -22,7 +22,7 @@ use Rattle.tracks_rules.specs.declared.track.TrackReply.the-variants.{Re
 abbrev pub OneTrack : Type 0
 OneTrack = (live : Bool) (s : List ℕ) (start size k : ℕ) → OneReply (TrackPromise live s start size k)
 
--- A refusal among the replies that the promise permits is one of document 01's list.
+-- A refusal among the replies that the promise permits is one of the list (`Listed`).
 pub record TracksRefuseListed : Type 0 where
   pub track : (live : Bool) (s : List ℕ) (start size k : ℕ) → OnlyListed NoTrack (TrackPromise live s start size k)
 
