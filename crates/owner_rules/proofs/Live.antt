@@ -213,12 +213,11 @@ chain-known s start size parent x t side a depth t′ p =
         let (same, deep) = same-told side (o .side) a (o .address) depth (length (o .masters)) i in
         let all = way-known s x 0 parent start size (o .masters) (o .address) _ (k .head) (k .way) (k .stands) in
         let told = chains-lead true s start size parent x t (ownerIs side a depth) (ownerIs side a depth) t′ p g
-            .links l o k in
+        .links l o k in
         let slice : KnownAt s (take (suc (length (o .masters))) t′)
         = subst (λ (u : List ℕ). KnownAt s (take (suc (length (o .masters))) u)) (sym told)
-        (slice-known s (o .masters) (o .address) (zeros (length t)) (length t) all) in
-        (
+        (slice-known s (o .masters) (o .address) (zeros (length t)) (length t) all) in (
           subst (λ (b : ℕ). (h : Header) → headerOf (drop b s) ≡ heading h → unknown h ≡ false) same
-          (taken-known s (o .address) (k .head) (k .stands)),
+              (taken-known s (o .address) (k .head) (k .stands)),
           subst (λ (n : ℕ). KnownAt s (take (suc n) t′)) deep slice,
         )

@@ -267,7 +267,7 @@ module _ (live : Bool) (s : List ℕ) (part numbers : ℕ) where
         by true u =
             let (l, f, i) = step-fault live s stretch at (toStep live) refl (λ h. refl) e k in
             subst Here i (at-fault at (toStep live) (e .cause)
-                (inEndless segment at is u g (not-ended live s stretch at e k)) f)
+            (inEndless segment at is u g (not-ended live s stretch at e k)) f)
         by false u =
             let x = toPass live (seekHeadId ∷ part ∷ []) (behind segment - at) in
             let (l, f, i) = step-fault live s stretch at x refl (λ h. refl) e k in
