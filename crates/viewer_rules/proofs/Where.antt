@@ -26,12 +26,12 @@ use Rattle.owner_rules.proofs.Sound.{owner-honest, chain-honest}
 use Rattle.search_rules.specs.Part.{PartTold, foundPart, absentPart, refused, searchOf, replyOf}
 use Rattle.search_rules.specs.Faults.{SearchComes}
 use Rattle.search_rules.proofs.Faults.{search-honest}
-use Rattle.viewer_rules.specs.Modes.{chosenMode, inMode, ComesIn}
+use Rattle.viewer_rules.specs.Modes.{chosenMode, inMode}
 use Rattle.viewer_rules.specs.declared.mode.Chosen.{Chosen}
 use Rattle.viewer_rules.specs.declared.mode.Chosen.the-variants.{Mode, NoMode}
 use Rattle.viewer_rules.specs.Faces.{partFace, placeFace, ownedFace}
 use Rattle.viewer_rules.specs.Theorems.{TellsWhere, PartTellsWhere, PlaceTellsWhere, OwnerTellsWhere}
-use Rattle.viewer_rules.specs.Theorems.{ChainTellsWhere}
+use Rattle.viewer_rules.specs.Theorems.{ChainTellsWhere, ComesIn}
 use Rattle.viewer_rules.specs.declared.owned.UzOwned.{UzOwned}
 use Rattle.viewer_rules.specs.declared.part.UzPart.{UzPart}
 use Rattle.viewer_rules.specs.declared.whose.UzPlace.{UzPlace}

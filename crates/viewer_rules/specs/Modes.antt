@@ -5,7 +5,6 @@ use mathlib.Core.Bool.{Bool, true, false, cond}
 use lib.Dec.{eqb}
 use Rattle.refusals.specs.Refusals.{badArgument}
 use Rattle.refusals.specs.Reply.{Reply, refusal}
-use Rattle.elements_rules.specs.Faults.{Errand}
 use Rattle.elements_rules.specs.Reading.{Outcome}
 use Rattle.elements_rules.specs.Reading.{refused as refusedReading}
 use Rattle.places_rules.specs.Whose.{askedOf}
@@ -38,8 +37,3 @@ ownerIn mode s start size parent x =
 abbrev pub chainIn : (mode : ℕ) → List ℕ → (start size parent x links : ℕ) → Reply Owned
 chainIn mode s start size parent x links =
     inMode (chosenMode mode) (refusal badArgument) (λ live. chainOf live s start size parent x links)
-
--- Where a call comes in the mode that was chosen: nowhere without one.
-abbrev pub ComesIn : Chosen → (Bool → ℕ → Errand → Type 0) → ℕ → Errand → Type 0
-ComesIn (Mode live) Comes a x = Comes live a x
-ComesIn NoMode Comes a x = ⊥

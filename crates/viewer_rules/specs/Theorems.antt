@@ -28,10 +28,11 @@ use Rattle.search_rules.specs.declared.part.PartReply.{PartReply}
 use Rattle.search_rules.specs.declared.part.PartReply.the-variants.{Found, Absent, Refused as NoPart}
 use Rattle.shown_rules.specs.Shown.{textRange}
 use Rattle.shown_rules.specs.Promise.{TextPromise}
-use Rattle.viewer_rules.specs.Modes.{chosenMode, searchIn, askedIn, ownerIn, chainIn, ComesIn}
+use Rattle.viewer_rules.specs.Modes.{chosenMode, searchIn, askedIn, ownerIn, chainIn}
 use Rattle.viewer_rules.specs.Faces.{partFace, placeFace, ownedFace}
 use Rattle.viewer_rules.specs.Promise.{UzPartPromise, UzRangePromise, UzTextPromise, UzPlacePromise}
 use Rattle.viewer_rules.specs.Promise.{UzOwnerPromise, UzChainPromise}
+use Rattle.viewer_rules.specs.declared.mode.Chosen.{Chosen}
 use Rattle.viewer_rules.specs.declared.mode.Chosen.the-variants.{Mode, NoMode}
 use Rattle.viewer_rules.specs.declared.owned.UzOwned.{UzOwned}
 use Rattle.viewer_rules.specs.declared.part.UzPart.{UzPart}
@@ -139,6 +140,11 @@ pub record Broke (s : List ℕ) (Reached : ℕ → Errand → Type 0) (refused a
 pub record TellsWhere (s : List ℕ) (Reached : ℕ → Errand → Type 0) (refused at : ℕ) : Type 0 where
   pub broke : (refused ≡ 0 → ⊥) → Broke s Reached refused at
   pub fine : refused ≡ 0 → at ≡ 0
+
+-- Where a call comes in the mode that was chosen: nowhere without one.
+abbrev pub ComesIn : Chosen → (Bool → ℕ → Errand → Type 0) → ℕ → Errand → Type 0
+ComesIn (Mode live) Comes a x = Comes live a x
+ComesIn NoMode Comes a x = ⊥
 
 abbrev pub PartTellsWhere : Type 0
 PartTellsWhere =
