@@ -1,4 +1,6 @@
 // The program `ask`: one question a line on standard input, one answer a line on standard output.
+#![tactic(auto)]
+
 mod ask_body;
 mod ask_header;
 mod ask_kind;

@@ -11,7 +11,7 @@ use questions::table::MOST_ASKED;
 const ROOM: usize = 1_048_576;
 
 // Between two reads: how many bytes of an unfinished line the room holds, and whether input may follow.
-#[derive(Drop)]
+#[derive(Clone, Copy)]
 struct State {
     held: usize,
     more: bool,
@@ -19,7 +19,7 @@ struct State {
 
 // After the finished lines were answered: where the unfinished one begins, and whether the answers were
 // written.
-#[derive(Drop)]
+#[derive(Clone, Copy)]
 struct Answered {
     from: usize,
     written: bool,

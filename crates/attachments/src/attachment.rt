@@ -13,7 +13,7 @@ use locate::locate;
 use locate_rules::{Located, Step, Way};
 use refusals::Refusal;
 
-#[derive(Drop)]
+#[derive(Clone, Copy)]
 pub struct Attachment {
     pub description: Content,
     pub name: Content,
@@ -22,7 +22,7 @@ pub struct Attachment {
 }
 
 // The record with how many rows the table holds, or a refusal.
-#[derive(Drop)]
+#[derive(Clone, Copy)]
 pub enum AttachmentReply {
     Attachment { attachment: Attachment, rows: u64 },
     Refused(Refusal),

@@ -2,6 +2,8 @@
 //
 // `body_at` is the public call. The crates above hand an element whose header was read to
 // `read_body`.
+#![tactic(auto)]
+
 mod range;
 mod reply;
 mod typed;

@@ -3,14 +3,14 @@ use header::Cursor;
 use refusals::Cause;
 
 // A part of the recording: the address of its first byte, and how many bytes it has.
-#[derive(Drop)]
+#[derive(Clone, Copy)]
 pub struct Range {
     pub at: u64,
     pub length: u64,
 }
 
 // A value by its case.
-#[derive(Drop)]
+#[derive(Clone, Copy)]
 pub enum Value {
     Integer(i64),
     Unsigned(u64),
@@ -22,7 +22,7 @@ pub enum Value {
 }
 
 // A value, or it is a master.
-#[derive(Drop)]
+#[derive(Clone, Copy)]
 pub enum Body {
     Value(Value),
     Master,
@@ -30,7 +30,7 @@ pub enum Body {
 
 // A body with the place after it, or why there is none. A master's payload is still to be read: the place is where it
 // begins.
-#[derive(Drop)]
+#[derive(Clone, Copy)]
 pub enum BodyRead {
     Read(Body, Cursor),
     Refused(Cause),

@@ -3,7 +3,7 @@ use crate::body::Body;
 use refusals::Refusal;
 
 // The body, or a refusal.
-#[derive(Drop)]
+#[derive(Clone, Copy)]
 pub enum BodyReply {
     Body(Body),
     Refused(Refusal),

@@ -14,7 +14,7 @@ use locate::locate;
 use locate_rules::{Located, Step, Way};
 use refusals::Refusal;
 
-#[derive(Drop)]
+#[derive(Clone, Copy)]
 pub struct Chapter {
     pub uid: Number,
     pub time_start: Number,
@@ -28,7 +28,7 @@ pub struct Chapter {
 }
 
 // The record with how many rows the table holds, or a refusal.
-#[derive(Drop)]
+#[derive(Clone, Copy)]
 pub enum ChapterReply {
     Chapter { chapter: Chapter, rows: u64 },
     Refused(Refusal),

@@ -13,14 +13,14 @@ use locate::locate;
 use locate_rules::{Located, Step, Way};
 use refusals::Refusal;
 
-#[derive(Drop)]
+#[derive(Clone, Copy)]
 pub struct ChapterDisplay {
     pub string: Content,
     pub language: Language,
 }
 
 // The record with how many rows the table holds, or a refusal.
-#[derive(Drop)]
+#[derive(Clone, Copy)]
 pub enum DisplayReply {
     Display { display: ChapterDisplay, rows: u64 },
     Refused(Refusal),

@@ -14,7 +14,7 @@ use locate::locate;
 use locate_rules::{Located, Step, Way};
 use refusals::Refusal;
 
-#[derive(Drop)]
+#[derive(Clone, Copy)]
 pub struct ChapterEdition {
     pub uid: Number,
     pub hidden: Flag,
@@ -25,7 +25,7 @@ pub struct ChapterEdition {
 }
 
 // The record with how many rows the table holds, or a refusal.
-#[derive(Drop)]
+#[derive(Clone, Copy)]
 pub enum EditionReply {
     Edition { edition: ChapterEdition, rows: u64 },
     Refused(Refusal),

@@ -13,7 +13,7 @@ use kinds::{Kind, ids};
 use rowstore::row_at;
 
 // Its number among the chapter's displays, and where its string is; or that none has a set string.
-#[derive(Drop)]
+#[derive(Clone, Copy)]
 pub enum FirstString {
     Absent,
     At { display: u64, string: Range },

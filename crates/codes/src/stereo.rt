@@ -4,19 +4,19 @@ ghost use Rattle.codes.specs.Stereo.{by_order};
 ghost use Rattle.codes.specs.Promise.{StereoModePromise};
 
 // The eye that is shown first.
-#[derive(Drop)]
+#[derive(Clone, Copy)]
 pub enum EyeOrder {
     LeftFirst,
     RightFirst,
 }
 
-#[derive(Drop)]
+#[derive(Clone, Copy)]
 pub enum StereoColors {
     CyanRed,
     GreenMagenta,
 }
 
-#[derive(Drop)]
+#[derive(Clone, Copy)]
 pub enum StereoMode {
     Mono,
     SideBySide(EyeOrder),

@@ -1,7 +1,7 @@
 // The type of a track by its number.
 ghost use Rattle.codes.specs.Promise.{TracktypePromise};
 
-#[derive(Drop)]
+#[derive(Clone, Copy)]
 pub enum Tracktype {
     Video,
     Audio,

@@ -2,6 +2,8 @@
 //
 // `read` is the public call. The crates above that answer from the rows fill a cleared table by `fill`; others
 // read elements without rows by `element_header` and `master_body`.
+#![tactic(auto)]
+
 mod element;
 mod reply;
 mod step;

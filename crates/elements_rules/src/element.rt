@@ -3,7 +3,7 @@ use header::Cursor;
 use refusals::Refusal;
 
 // What stands above elements: their parent's id, its row number plus 1 (0 for none), and their own depth.
-#[derive(Drop)]
+#[derive(Clone, Copy)]
 pub struct Above {
     pub id: u32,
     pub row: usize,
@@ -11,7 +11,7 @@ pub struct Above {
 }
 
 // How many rows there are now, and the place after what was read; or a refusal.
-#[derive(Drop)]
+#[derive(Clone, Copy)]
 pub enum ElementRead {
     Read { rows: usize, next: Cursor },
     Refused(Refusal),

@@ -2,7 +2,7 @@
 use refusals::Refusal;
 
 // How many rows there are, or a refusal.
-#[derive(Drop)]
+#[derive(Clone, Copy)]
 pub enum ReadReply {
     Rows(u64),
     Refused(Refusal),

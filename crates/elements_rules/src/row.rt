@@ -1,7 +1,7 @@
 // A row, and how elements are read.
 
 // An element in the table.
-#[derive(Drop)]
+#[derive(Clone, Copy)]
 pub struct Row {
     pub id: u64,
     // The parent's row number plus 1; 0 for none.
@@ -20,7 +20,7 @@ pub struct Row {
 
 // How elements are read: with rows, or without; and in live mode, which knows unknown sizes, or in old mode, which
 // takes every size as the number that it is (document 02, C-18).
-#[derive(Drop)]
+#[derive(Clone, Copy)]
 pub struct Mode {
     pub keep: bool,
     pub live: bool,

@@ -2,6 +2,8 @@
 //
 // For the crates above, which answer from rows that were read: each field is taken from the last direct child of its id
 // and kind.
+#![tactic(auto)]
+
 mod field;
 
 pub use field::{

@@ -3,14 +3,14 @@ use elements_rules::Row;
 
 // The rows below a master: rows `parent` up to before `end`, where `parent` is the master's row number plus 1, or 0 for
 // the payload that was read.
-#[derive(Drop)]
+#[derive(Clone, Copy)]
 pub struct Below {
     pub parent: usize,
     pub end: usize,
 }
 
 // A direct child: its row's number, and the row; or that there is none.
-#[derive(Drop)]
+#[derive(Clone, Copy)]
 pub enum Child {
     Absent,
     At { number: usize, row: Row },

@@ -1,13 +1,13 @@
 // What a field holds, by its kind; or that it is unset.
 use bodies_rules::Range;
 
-#[derive(Drop)]
+#[derive(Clone, Copy)]
 pub enum Number {
     Unset,
     Is(u64),
 }
 
-#[derive(Drop)]
+#[derive(Clone, Copy)]
 pub enum Flag {
     Unset,
     No,
@@ -15,13 +15,13 @@ pub enum Flag {
 }
 
 // A text or bytes: a part of the recording.
-#[derive(Drop)]
+#[derive(Clone, Copy)]
 pub enum Content {
     Unset,
     At(Range),
 }
 
-#[derive(Drop)]
+#[derive(Clone, Copy)]
 pub enum Language {
     Unset,
     Iso(Range),
@@ -29,21 +29,21 @@ pub enum Language {
 }
 
 // The value of a simple tag.
-#[derive(Drop)]
+#[derive(Clone, Copy)]
 pub enum TagValue {
     Unset,
     Text(Range),
     Binary(Range),
 }
 
-#[derive(Drop)]
+#[derive(Clone, Copy)]
 pub enum Real {
     Unset,
     Is(f64),
 }
 
 // Nanoseconds from 2001-01-01.
-#[derive(Drop)]
+#[derive(Clone, Copy)]
 pub enum Date {
     Unset,
     Is(i64),

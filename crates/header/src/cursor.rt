@@ -7,14 +7,14 @@ ghost use Rattle.header.specs.Reads.{width_at, number_at, vint_at, header_at, oc
 use refusals::{Cause, Refusal};
 
 // A place: how many bytes stand before it. It may lie past the recording's end.
-#[derive(Drop)]
+#[derive(Clone, Copy)]
 pub struct Cursor {
     pub at: u64,
 }
 
 // A header: the payload's size, the id with its marker, and how many bytes the header has. Size and length stand apart,
 // since a processor waits where two numbers are written one by one and read as one (bench/README.md).
-#[derive(Drop)]
+#[derive(Clone, Copy)]
 pub struct Header {
     pub size: u64,
     pub id: u32,
@@ -22,7 +22,7 @@ pub struct Header {
 }
 
 // An element whose header was read: where its header is, where its payload begins, and the header.
-#[derive(Drop)]
+#[derive(Clone, Copy)]
 pub struct Headed {
     pub place: Cursor,
     pub payload: Cursor,
@@ -30,14 +30,14 @@ pub struct Headed {
 }
 
 // A big-endian number, or the end of the recording before its last byte.
-#[derive(Drop)]
+#[derive(Clone, Copy)]
 pub enum NumberRead {
     Number(u64, Cursor),
     Ends,
 }
 
 // A variable-size integer: its octets, and all their bits as one number.
-#[derive(Drop)]
+#[derive(Clone, Copy)]
 pub enum VintRead {
     Vint {
         octets: u64,
@@ -51,7 +51,7 @@ pub enum VintRead {
 }
 
 // The element that a header tells, or a refusal.
-#[derive(Drop)]
+#[derive(Clone, Copy)]
 pub enum HeaderRead {
     Read(Headed),
     Refused(Refusal),

@@ -1,6 +1,8 @@
 // The header of an element: an id and a size (document 01, Headers; RFC 8794, sections 4 to 6).
 //
 // `header_at` is the public call. The crates above read on from place to place by `Cursor`.
+#![tactic(auto)]
+
 mod cursor;
 mod reply;
 

@@ -8,7 +8,7 @@ use refusals::{Cause, Refusal};
 pub const MOST_BYTES: u64 = 4_294_967_295;
 
 // The header, or a refusal.
-#[derive(Drop)]
+#[derive(Clone, Copy)]
 pub enum HeaderReply {
     Header(Header),
     Refused(Refusal),

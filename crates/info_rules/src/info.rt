@@ -2,7 +2,7 @@
 use fields_rules::{Content, Date, Number, Real};
 use refusals::Refusal;
 
-#[derive(Drop)]
+#[derive(Clone, Copy)]
 pub struct Info {
     pub uid: Content,
     pub prev_uid: Content,
@@ -20,7 +20,7 @@ pub struct Info {
 }
 
 // The record with how many rows the table holds, or a refusal.
-#[derive(Drop)]
+#[derive(Clone, Copy)]
 pub enum InfoReply {
     Info { info: Info, rows: u64 },
     Refused(Refusal),

@@ -6,7 +6,7 @@ ghost use Rattle.kinds.specs.Kinds.{number_of};
 pub const MASTER: u64 = 1;
 
 // What the body of an element holds.
-#[derive(Drop)]
+#[derive(Clone, Copy)]
 pub enum Kind {
     Master,
     Int,

@@ -3,7 +3,7 @@ use fields_rules::Below;
 use refusals::Refusal;
 
 // How to go on from a master.
-#[derive(Drop)]
+#[derive(Clone, Copy)]
 pub enum Step {
     Here,
     // Here, but only for index 0.
@@ -15,7 +15,7 @@ pub enum Step {
 }
 
 // A step for each level, from the payload that was read.
-#[derive(Drop)]
+#[derive(Clone, Copy)]
 pub struct Way {
     pub first: Step,
     pub second: Step,
@@ -23,21 +23,21 @@ pub struct Way {
 }
 
 // A master: its row number plus 1, or 0 for the payload that was read; or that there is none.
-#[derive(Drop)]
+#[derive(Clone, Copy)]
 pub enum Spot {
     Absent,
     At(usize),
 }
 
 // The rows below the master that a way leads to, or that it leads to none.
-#[derive(Drop)]
+#[derive(Clone, Copy)]
 pub enum Found {
     Absent,
     At(Below),
 }
 
 // The rows below the master that was asked for, and how many rows there are in all; or a refusal.
-#[derive(Drop)]
+#[derive(Clone, Copy)]
 pub enum Located {
     At { master: Below, rows: usize },
     Refused(Refusal),

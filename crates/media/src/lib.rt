@@ -2,6 +2,8 @@
 //
 // The question takes the place of an E1 payload, reads it into a lent table and builds the record asked for.
 // The builders are for the crates above, which ask many records of one read.
+#![tactic(auto)]
+
 mod audio;
 mod stereo;
 mod video;

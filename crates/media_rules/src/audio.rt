@@ -3,7 +3,7 @@ use fields_rules::{Number, Real};
 use refusals::Refusal;
 
 // By value; the sample rate in Hz is a 64-bit float.
-#[derive(Drop)]
+#[derive(Clone, Copy)]
 pub struct Audio {
     pub sample_rate: Real,
     pub channels: Number,
@@ -11,7 +11,7 @@ pub struct Audio {
 }
 
 // The record with how many rows the table holds, or a refusal.
-#[derive(Drop)]
+#[derive(Clone, Copy)]
 pub enum AudioReply {
     Audio { audio: Audio, rows: u64 },
     Refused(Refusal),

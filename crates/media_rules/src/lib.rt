@@ -1,4 +1,6 @@
 // What the settings of a track are (document 01, Records; document 02, C-11), audio and video.
+#![tactic(auto)]
+
 mod audio;
 mod stereo;
 mod video;

@@ -1,7 +1,7 @@
 // A stereo mode that may be unset.
 use codes::StereoMode;
 
-#[derive(Drop)]
+#[derive(Clone, Copy)]
 pub enum Stereo {
     Unset,
     Is(StereoMode),

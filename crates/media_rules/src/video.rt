@@ -3,7 +3,7 @@ use crate::stereo::Stereo;
 use fields_rules::{Flag, Number, Real};
 
 // By value; the gamma is a 64-bit float.
-#[derive(Drop)]
+#[derive(Clone, Copy)]
 pub struct Video {
     pub pixel_width: Number,
     pub pixel_height: Number,

@@ -1,6 +1,8 @@
 // The bodies that are a number (document 01, Bodies; RFC 8794, section 7): integers, dates and floats.
 //
 // For the crates above, which read a body by its kind, or the float or date of a row.
+#![tactic(auto)]
+
 mod float;
 mod integer;
 

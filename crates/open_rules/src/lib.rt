@@ -1,5 +1,7 @@
 // What `open` tells of a whole recording (document 02, C-14): its five parts, the promise of the call, and its
 // theorems.
+#![tactic(auto)]
+
 mod parts;
 mod reply;
 mod turns;

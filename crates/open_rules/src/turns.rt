@@ -7,7 +7,7 @@ use seekhead_rules::Positions;
 
 // What the seek heads tell: where the segment starts, the latest position of each part, how many heads were read, and
 // the address of the last one.
-#[derive(Drop)]
+#[derive(Clone, Copy)]
 pub struct Seeking {
     pub start: u64,
     pub links: Positions,
@@ -17,7 +17,7 @@ pub struct Seeking {
 
 // Before the first seek head: at an address among the segment's children, or at a child that was read. After the heads:
 // so many of the parts were sought. Or the call ends with a refusal.
-#[derive(Drop)]
+#[derive(Clone, Copy)]
 pub enum Stage {
     From { segment: Headed, at: u64 },
     Behind { segment: Headed, child: Headed },
@@ -26,7 +26,7 @@ pub enum Stage {
 }
 
 // The part that is read next, and where `open` stands then; or the reply.
-#[derive(Drop)]
+#[derive(Clone, Copy)]
 pub enum Turn {
     Read {
         which: Which,

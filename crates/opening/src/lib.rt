@@ -1,5 +1,7 @@
 // The turns of `open` (document 02, C-14): which part it reads next, by the walk over the segment's children and by the
 // seek heads. No table is touched here.
+#![tactic(auto)]
+
 mod parts;
 mod start;
 mod turns;

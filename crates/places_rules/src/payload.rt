@@ -3,7 +3,7 @@ use bodies_rules::Range;
 use refusals::Refusal;
 
 // Where a row's payload is, or a refusal.
-#[derive(Drop)]
+#[derive(Clone, Copy)]
 pub enum RangeReply {
     Range(Range),
     Refused(Refusal),

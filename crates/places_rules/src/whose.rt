@@ -2,7 +2,7 @@
 use refusals::Refusal;
 
 // The row that holds the address by its header or by its payload, and how many rows there are; or a refusal.
-#[derive(Drop)]
+#[derive(Clone, Copy)]
 pub enum WhoseReply {
     Header { row: u64, rows: u64 },
     Payload { row: u64, rows: u64 },
@@ -10,7 +10,7 @@ pub enum WhoseReply {
 }
 
 // What of a row holds an address.
-#[derive(Drop)]
+#[derive(Clone, Copy)]
 pub enum Holder {
     Header,
     Payload,

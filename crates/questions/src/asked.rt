@@ -13,7 +13,7 @@ use words::{Count, Named, Spelt};
 
 // What the words spell, and how many bytes of the recording and numbers of the table the call is lent.
 // A line that spells something else is not good.
-#[derive(Drop)]
+#[derive(Clone, Copy)]
 pub struct Asked {
     pub good: bool,
     // Whether the question is in live mode.

@@ -8,7 +8,7 @@ use words::Spelt;
 
 // How many bytes of the recording, and how many numbers of each table the call is lent. A line that spells something
 // else is not good.
-#[derive(Drop)]
+#[derive(Clone, Copy)]
 pub struct AskedOpen {
     pub good: bool,
     // Whether the question is in live mode.

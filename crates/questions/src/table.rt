@@ -7,7 +7,7 @@ use words::Count;
 pub const MOST_ASKED: usize = 36_000;
 
 // How many numbers the table has, where the word tells it.
-#[derive(Drop)]
+#[derive(Clone, Copy)]
 pub enum Given {
     Numbers(usize),
     Bad,

@@ -2,7 +2,7 @@
 ghost use Rattle.refusals.specs.Promise.{NumberPromise, IdPromise};
 
 // One case for each number of document 01's list, as document 02 (C-18) extends it, and two for 3.
-#[derive(Drop)]
+#[derive(Clone, Copy)]
 pub enum Cause {
     // 1: a byte needed lies beyond the recording.
     PastEnd,
@@ -44,7 +44,7 @@ pub enum Cause {
 // What a call answers when it refuses: why, and the address of the header that was being read. Where that header itself
 // was bad it is where it began; for 8 it is the last head that was read, for 10 and 11 the head that was not. 14 and 15
 // tell of what the caller gave, and have 0.
-#[derive(Drop)]
+#[derive(Clone, Copy)]
 pub struct Refusal {
     pub address: u64,
     pub cause: Cause,

@@ -1,4 +1,6 @@
 // The answers of the program `ask` to the questions for records, track types, shown text and labels.
+#![tactic(auto)]
+
 mod ask_attachment;
 mod ask_audio;
 mod ask_chapter;

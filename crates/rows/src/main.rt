@@ -1,5 +1,7 @@
 // Lists the recording on standard input: its four parts and their rows (document 01, 'Program `rows`'; document 02,
 // C-18).
+#![tactic(auto)]
+
 use lines::input::{Got, read_more};
 use listing::{PAGE, listing};
 
@@ -49,7 +51,7 @@ fn read_and_list(live: bool) {
 }
 
 // What the program's arguments ask for.
-#[derive(Drop)]
+#[derive(Clone, Copy)]
 enum Wish {
     Plain,
     Live,

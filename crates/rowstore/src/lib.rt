@@ -1,5 +1,7 @@
 // The lent table and its rows: the table is cleared, and its length tested; a row is kept, closed behind its children,
 // and taken out again.
+#![tactic(auto)]
+
 mod row;
 mod table;
 

@@ -12,7 +12,7 @@ use pages::{put, put_decimal, put_hexadecimal};
 use rowstore::row_at;
 
 // Where a word begins and ends.
-#[derive(Drop)]
+#[derive(Clone, Copy)]
 pub struct Cut {
     pub from: usize,
     pub end: usize,

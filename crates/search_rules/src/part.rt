@@ -3,7 +3,7 @@ use refusals::Refusal;
 
 // The payload's address and size, how many rows it has, and how many seek heads were read; or that the part is absent;
 // or a refusal.
-#[derive(Drop)]
+#[derive(Clone, Copy)]
 pub enum PartReply {
     Found {
         at: u64,
@@ -18,7 +18,7 @@ pub enum PartReply {
 }
 
 // The id that a part's children are read under.
-#[derive(Drop)]
+#[derive(Clone, Copy)]
 pub enum Parent {
     Id(u32),
     NoPart,

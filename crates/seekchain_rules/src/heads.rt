@@ -4,7 +4,7 @@ use refusals::Refusal;
 use seekhead_rules::Positions;
 
 // The head that an entry leads to, or that there is none, or a refusal.
-#[derive(Drop)]
+#[derive(Clone, Copy)]
 pub enum NextHead {
     Next(Headed),
     Last,
@@ -13,7 +13,7 @@ pub enum NextHead {
 
 // The latest positions of the wanted ids over all heads, how many heads were read, and the address of the last one; or
 // a refusal.
-#[derive(Drop)]
+#[derive(Clone, Copy)]
 pub enum HeadsRead {
     Read {
         parts: Positions,

@@ -1,5 +1,7 @@
 // What the chain of linked seek heads is (document 01, Seek tables and the search): which heads are read, and what
 // their entries lead to.
+#![tactic(auto)]
+
 mod heads;
 mod lookup;
 

@@ -2,7 +2,7 @@
 use refusals::Refusal;
 
 // A set of wanted ids, of up to five: a search for a part wants one. 0 stands where no id is wanted.
-#[derive(Drop)]
+#[derive(Clone, Copy)]
 pub struct Wanted {
     pub first: u32,
     pub second: u32,
@@ -12,14 +12,14 @@ pub struct Wanted {
 }
 
 // The latest position of an id, if there is one.
-#[derive(Drop)]
+#[derive(Clone, Copy)]
 pub enum Latest {
     Nowhere,
     At(u64),
 }
 
 // The latest position of each wanted id.
-#[derive(Drop)]
+#[derive(Clone, Copy)]
 pub struct Positions {
     pub first: Latest,
     pub second: Latest,
@@ -29,14 +29,14 @@ pub struct Positions {
 }
 
 // The positions of the wanted ids over all heads so far, and that of a further seek head by this head's own entries.
-#[derive(Drop)]
+#[derive(Clone, Copy)]
 pub struct Seektable {
     pub parts: Positions,
     pub head: Latest,
 }
 
 // The table with a head's entries, or a refusal.
-#[derive(Drop)]
+#[derive(Clone, Copy)]
 pub enum HeadRead {
     Read(Seektable),
     Refused(Refusal),

@@ -1,4 +1,6 @@
 // What one seek head is (document 01, Seek tables and the search): its entries, and the positions that they give.
+#![tactic(auto)]
+
 mod head;
 mod seek;
 mod skim;

@@ -3,7 +3,7 @@ use bodies_rules::Body;
 use refusals::Refusal;
 
 // The body of an element, or the refusal of the element.
-#[derive(Drop)]
+#[derive(Clone, Copy)]
 pub enum SkimRead {
     Read(Body),
     Refused(Refusal),

@@ -2,6 +2,8 @@
 // children, and by its seek heads.
 //
 // The crate of the search reads the part that `look_up` finds. `open` goes on from each child that it meets.
+#![tactic(auto)]
+
 mod meeting;
 mod segment;
 mod walk;

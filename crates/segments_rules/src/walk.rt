@@ -4,21 +4,21 @@ use refusals::Refusal;
 use seekchain_rules::PartPlace;
 
 // What a child of the segment does to the search: it ends it, or is passed over.
-#[derive(Drop)]
+#[derive(Clone, Copy)]
 pub enum Visit {
     Ends(PartPlace),
     Over,
 }
 
 // The parts that a walk looks for: one by its id, or every part of the recording.
-#[derive(Drop)]
+#[derive(Clone, Copy)]
 pub enum Aim {
     One(u32),
     Every,
 }
 
 // The first child that is met: a seek head, or a part that is looked for; or that there is none; or a refusal.
-#[derive(Drop)]
+#[derive(Clone, Copy)]
 pub enum Met {
     Head(Headed),
     Part(Headed),

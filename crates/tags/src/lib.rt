@@ -2,6 +2,8 @@
 //
 // A record question takes the place of a part's payload, reads it into a lent table and builds the record asked for.
 // The builders are for the crates above, which ask many records of one read.
+#![tactic(auto)]
+
 mod simple;
 mod tag;
 mod uid;

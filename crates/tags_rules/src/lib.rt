@@ -1,4 +1,6 @@
 // What the records of Tags are (document 01, Records): tags, what they apply to, and their simple tags.
+#![tactic(auto)]
+
 mod simple;
 mod tag;
 mod uid;

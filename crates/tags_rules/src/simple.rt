@@ -2,7 +2,7 @@
 use fields_rules::{Content, Flag, Language, TagValue};
 use refusals::Refusal;
 
-#[derive(Drop)]
+#[derive(Clone, Copy)]
 pub struct SimpleTag {
     pub name: Content,
     pub language: Language,
@@ -11,7 +11,7 @@ pub struct SimpleTag {
 }
 
 // The record with how many rows the table holds, or a refusal.
-#[derive(Drop)]
+#[derive(Clone, Copy)]
 pub enum SimpleReply {
     Simple { tag: SimpleTag, rows: u64 },
     Refused(Refusal),

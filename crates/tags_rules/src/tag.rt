@@ -3,7 +3,7 @@ use fields_rules::{Content, Number};
 use refusals::Refusal;
 
 // What a tag applies to: the target number as it stands, and how many uids each list has.
-#[derive(Drop)]
+#[derive(Clone, Copy)]
 pub struct Target {
     pub target_type_value: Number,
     pub target_type: Content,
@@ -13,13 +13,13 @@ pub struct Target {
     pub attachments: u64,
 }
 
-#[derive(Drop)]
+#[derive(Clone, Copy)]
 pub enum Targets {
     Unset,
     Set(Target),
 }
 
-#[derive(Drop)]
+#[derive(Clone, Copy)]
 pub struct Tag {
     pub targets: Targets,
     // How many simple tags it has.
@@ -27,7 +27,7 @@ pub struct Tag {
 }
 
 // The record with how many rows the table holds, or a refusal.
-#[derive(Drop)]
+#[derive(Clone, Copy)]
 pub enum TagReply {
     Tag { tag: Tag, rows: u64 },
     Refused(Refusal),

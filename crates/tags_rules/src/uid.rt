@@ -1,7 +1,7 @@
 // The lists of uids of a tag's target, and the reply of `uid_at`.
 use refusals::Refusal;
 
-#[derive(Drop)]
+#[derive(Clone, Copy)]
 pub enum UidList {
     Track,
     Edition,
@@ -10,7 +10,7 @@ pub enum UidList {
 }
 
 // The uid with how many rows the table holds, or a refusal.
-#[derive(Drop)]
+#[derive(Clone, Copy)]
 pub enum UidReply {
     Uid { uid: u64, rows: u64 },
     Refused(Refusal),

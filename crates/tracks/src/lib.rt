@@ -2,6 +2,8 @@
 //
 // The question takes the place of a Tracks payload, reads it into a lent table and builds the record asked for.
 // The builders are for the crates above, which ask many records of one read.
+#![tactic(auto)]
+
 mod settings;
 mod track;
 mod typed;

@@ -1,7 +1,7 @@
 // The settings of a track: audio, video or none.
 use media_rules::{Audio, Video};
 
-#[derive(Drop)]
+#[derive(Clone, Copy)]
 pub enum Settings {
     None,
     Video(Video),
@@ -9,7 +9,7 @@ pub enum Settings {
 }
 
 // The master that decides, by its row's number.
-#[derive(Drop)]
+#[derive(Clone, Copy)]
 pub enum Deciding {
     None,
     Video(usize),

@@ -4,7 +4,7 @@ use crate::typed::Typed;
 use fields_rules::{Content, Flag, Language, Number};
 use refusals::Refusal;
 
-#[derive(Drop)]
+#[derive(Clone, Copy)]
 pub struct Track {
     pub number: Number,
     pub uid: Number,
@@ -31,7 +31,7 @@ pub struct Track {
 }
 
 // The record with how many rows the table holds, or a refusal.
-#[derive(Drop)]
+#[derive(Clone, Copy)]
 pub enum TrackReply {
     Track { track: Track, rows: u64 },
     Refused(Refusal),

@@ -1,7 +1,7 @@
 // A track's type that may be unset.
 use codes::Tracktype;
 
-#[derive(Drop)]
+#[derive(Clone, Copy)]
 pub enum Typed {
     Unset,
     Is(Tracktype),

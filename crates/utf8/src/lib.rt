@@ -1,4 +1,6 @@
 // Whether bytes are UTF-8 (RFC 3629, section 4): one pass, eight bytes at a time over ASCII.
+#![tactic(auto)]
+
 ghost use Rattle.std.specs.Prelude.{◌≡◌, true, ◌&&◌, [], ◌+◌, ◌*◌, ◌^◌, ◌<◌, ◌≤◌, length, drop, replicate};
 ghost use Rattle.utf8.specs.Utf8.{utf8_tail, utf8_char, behind, goes_on};
 ghost use Rattle.utf8.specs.Leads.{noted};
@@ -6,7 +8,7 @@ ghost use Rattle.utf8.specs.Promise.{Utf8Promise};
 
 // What a first byte tells of its character: how many bytes it has (0: no character begins so), and the
 // range of the second byte, where there is one.
-#[derive(Drop)]
+#[derive(Clone, Copy)]
 struct Lead {
     octets: usize,
     low: u8,

@@ -2,6 +2,8 @@
 // address question, with a table and without, for the kit's viewer in C.
 //
 // A slice crosses as a pointer and a count, an answer as a struct of numbers. include/uzrafmed.h is the C side.
+#![tactic(auto)]
+
 mod mode;
 mod opened;
 mod owned;

@@ -2,7 +2,7 @@
 
 // `uz_part` of include/uzrafmed.h.
 #[repr(C)]
-#[derive(Drop)]
+#[derive(Clone, Copy)]
 pub struct UzPart {
     // 0, or the number of the refusal; then every other number is 0, but the id for 8 and the refusal's address.
     pub refused: u64,

@@ -2,7 +2,7 @@
 use refusals::Refusal;
 
 // The place behind an element, or the refusal that ended the way there.
-#[derive(Drop)]
+#[derive(Clone, Copy)]
 pub enum Passed {
     At(u64),
     Refused(Refusal),

@@ -4,14 +4,14 @@ use refusals::Refusal;
 
 // What a walk goes over: elements up to an end that is known; or what an element of that id and of unknown size holds,
 // up to where it ends, and at the latest up to an end that is known.
-#[derive(Drop)]
+#[derive(Clone, Copy)]
 pub enum Stretch {
     Sized(u64),
     Endless { id: u32, end: u64 },
 }
 
 // The element at a place of a walk, or that the walk is at its end, or a refusal.
-#[derive(Drop)]
+#[derive(Clone, Copy)]
 pub enum ChildRead {
     Child(Headed),
     End,

@@ -1,4 +1,6 @@
 // The words of a line: how they are parted, and the numbers and bytes that they spell.
+#![tactic(auto)]
+
 ghost use Rattle.std.specs.Prelude.{◌≡◌, ◌≤◌, length};
 ghost use Rattle.words.specs.Words.{Few, First, Same, word_of};
 
@@ -6,21 +8,21 @@ ghost use Rattle.words.specs.Words.{Few, First, Same, word_of};
 const MOST: usize = 65536;
 
 // What a word spells, where it is a decimal number.
-#[derive(Drop)]
+#[derive(Clone, Copy)]
 pub enum Count {
     Is(u64),
     Bad,
 }
 
 // What a word spells, where it is an id in hexadecimal digits.
-#[derive(Drop)]
+#[derive(Clone, Copy)]
 pub enum Named {
     Is(u32),
     Bad,
 }
 
 // How many bytes a word spells, where it is hexadecimal digits or `-`.
-#[derive(Drop)]
+#[derive(Clone, Copy)]
 pub enum Spelt {
     Bytes(usize),
     Bad,

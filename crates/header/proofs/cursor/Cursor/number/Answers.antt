@@ -1,0 +1,25 @@
+-- `Cursor::number` meets its contract: the bytes are all there, or the recording ends. Assumes nothing.
+use mathlib.Core.Path.{ap, ◌∙◌, sym}
+use native.Mathlib.Omega.{arith}
+use Prim.Native.Nat.{ℕ, ◌+◌}
+use Rattle.header.specs.declared.cursor.NumberRead.TheVariants.{Number}
+use Rattle.header.proofs.Vints.{number_ends, number_there}
+use Rattle.header.proofs.cursor.Cursor.number.Goals as goal
+
+pub returns-then-length-at : goal.returns-then-length-at
+returns-then-length-at c =
+    let a = c.args in
+    (sym (number_ends a.recording.now a.self.at a.n (omega arith)), tt)
+
+pub returns-then-length-at-2 : goal.returns-then-length-at-2
+returns-then-length-at-2 c =
+    let a = c.args in
+    (sym (number_ends a.recording.now a.self.at a.n (omega arith)), tt)
+
+pub returns : goal.returns
+returns c =
+    let a = c.args in (
+      ap (λ (v : ℕ). Number v (record { at = a.self.at + a.n })) c.big_endian-value.ensures.0
+          ∙ sym (number_there a.recording.now a.self.at a.n (omega arith)),
+      c.big_endian-value.ensures.1,
+    )

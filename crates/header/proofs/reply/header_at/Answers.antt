@@ -1,0 +1,34 @@
+-- `header_at` meets its promise: 14 for an argument out of bounds, else what `Cursor::header` reads.
+-- Assumes nothing.
+use mathlib.Core.Path.{ap, ◌∙◌, sym}
+use native.Mathlib.Omega.{arith}
+use Rattle.header.proofs.Replies.{read_reply, reply_too_long, reply_past_end, reply_read}
+use Rattle.header.proofs.reply.header_at.Goals as goal
+
+pub returns-then-length-gt-MOST_BYTES : goal.returns-then-length-gt-MOST_BYTES
+returns-then-length-gt-MOST_BYTES c =
+    let a = c.args in
+    record { reply = reply_too_long a.recording.now a.at (omega arith) }
+
+pub returns-then-length-at : goal.returns-then-length-at
+returns-then-length-at c =
+    let a = c.args in
+    record { reply = reply_past_end a.recording.now a.at (omega arith) (omega arith) }
+
+pub returns-in-Read : goal.returns-in-Read
+returns-in-Read c =
+    let a = c.args in
+    record {
+      reply =
+          ap read_reply (sym c.in-Read.is ∙ c.header.ensures)
+          ∙ reply_read a.recording.now a.at (omega arith) (omega arith);
+    }
+
+pub returns-in-Refused : goal.returns-in-Refused
+returns-in-Refused c =
+    let a = c.args in
+    record {
+      reply =
+          ap read_reply (sym c.in-Refused.is ∙ c.header.ensures)
+          ∙ reply_read a.recording.now a.at (omega arith) (omega arith);
+    }
