@@ -31,7 +31,7 @@ any_found {A} f (y ∷ l) e = go (f y) refl (any_found f l) e
 
 found_any : {A : Type 0} (f : A → Bool) {x : A} (l : List A) → f x ≡ true → Memᴰ x l → any_of f l ≡ true
 unfolding any_of
-found_any f [] h m = absurd (Memᴰ.not_nil m)
+found_any f [] h m = absurd (Memᴰ.not-nil m)
 found_any f (y ∷ l) h m =
     ⊎_elim
     (λ e. let q : f y ≡ true = sym (ap f e) ∙ h in rw q)
@@ -57,7 +57,7 @@ further a g =
 
 begun : (l : List Alternative) (b : ℕ) (rs : List Range) → Memᴰ rs (behind l b) → Begun l b rs
 unfolding behind
-begun [] b rs m = absurd (Memᴰ.not_nil m)
+begun [] b rs m = absurd (Memᴰ.not-nil m)
 begun ([] ∷ l) b rs m = further [] (begun l b rs m)
 begun ((range low high ∷ qs) ∷ l) b rs m = go (within (range low high) b) refl (begun l b rs) m
   where
@@ -81,7 +81,7 @@ begun ((range low high ∷ qs) ∷ l) b rs m = go (within (range low high) b) re
 kept : (low high b : ℕ) (rs : List Range) → low ≤ b → b ≤ high
     → (l : List Alternative) → Memᴰ (range low high ∷ rs) l → Memᴰ rs (behind l b)
 unfolding behind
-kept low high b rs f t [] m = absurd (Memᴰ.not_nil m)
+kept low high b rs f t [] m = absurd (Memᴰ.not-nil m)
 kept low high b rs f t (a ∷ l) m =
     ⊎_elim
     (λ e. subst (λ (y : Alternative). Memᴰ rs (behind (y ∷ l) b)) e here)
