@@ -20,7 +20,7 @@ use Rattle.seekhead_rules.specs.declared.head.Wanted.{Wanted}
 use Rattle.seekhead_rules.specs.declared.head.Positions.{Positions}
 use Rattle.seekhead_rules.specs.declared.head.Seektable.{Seektable}
 use Rattle.seekhead_rules.specs.declared.head.HeadRead.TheVariants.{Read as HeadIs, Refused as HeadRefused}
-use Rattle.seekhead_rules.proofs.Positions.{positions_append, positions_none}
+use Rattle.seekhead_rules.proofs.PositionLaws.{positions_append, positions_none}
 use Rattle.seekhead_rules.proofs.Levels.{told_read, told_stopped}
 use Rattle.seekhead_rules.proofs.Members.{children, children_law}
 use Rattle.seekchain_rules.specs.Heads.{Heads, Chain, chained, broken, with_head, most_heads, next_head, on_next}

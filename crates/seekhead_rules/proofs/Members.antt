@@ -31,7 +31,7 @@ use Rattle.seekhead_rules.specs.declared.head.Seektable.{Seektable}
 use Rattle.seekhead_rules.specs.declared.head.HeadRead.{HeadRead}
 use Rattle.seekhead_rules.specs.declared.head.HeadRead.TheVariants.{Read as HeadIs, Refused as HeadRefused}
 use Rattle.header.proofs.Inside.{header_there}
-use Rattle.seekhead_rules.proofs.Positions.{latest_append, positions_append, positions_none}
+use Rattle.seekhead_rules.proofs.PositionLaws.{latest_append, positions_append, positions_none}
 use Rattle.seekhead_rules.proofs.Levels.{Level, Lawful, told_read, told_stopped}
 use Rattle.seekhead_rules.proofs.Skims.{by_elements}
 

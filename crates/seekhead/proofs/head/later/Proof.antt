@@ -1,7 +1,7 @@
 -- `later`: the latest position of an id, after one more entry. Assumes nothing.
 use Rattle.seekhead.proofs.head.later.Statement.{statement}
 use Rattle.seekhead.proofs.head.later.Tie as tie
-use Rattle.seekhead_rules.proofs.Positions.{later_same, later_other}
+use Rattle.seekhead_rules.proofs.PositionLaws.{later_same, later_other}
 
 returns : tie.Need-returns
 returns c =

@@ -4,7 +4,7 @@ use Rattle.seekhead.proofs.seek.last_four.Statement.{statement}
 use Rattle.seekhead.proofs.seek.last_four.Tie as tie
 use mathlib.Core.Path.{◌∙◌}
 use Rattle.header.proofs.BigEndian.{fits_in}
-use Rattle.seekhead_rules.proofs.Positions.{few, last_octets}
+use Rattle.seekhead_rules.proofs.PositionLaws.{few, last_octets}
 
 cast-result : tie.Need-overflow-cast-result
 cast-result c =
