@@ -35,7 +35,7 @@ above [] = true
 above (range low high ∷ rs) = leb 1 low && above rs
 
 none_zero : {rs : List Range} {c : List ℕ} → Matches rs c → T (above rs) → Memᴰ 0 c → ⊥
-none_zero end t m = Memᴰ.not_nil m
+none_zero end t m = Memᴰ.not-nil m
 none_zero (next {low} {high} {b} {rs} l h ms) t m =
     ⊎_elim
     (λ z. let least = leb→le 1 low (both_left (leb 1 low) (above rs) t) in let y : ⊥ = omega arith in y)
@@ -53,7 +53,7 @@ all_apart [] = true
 all_apart (a ∷ others) = apart a && all_apart others
 
 one_apart : {a : Alternative} (l : List Alternative) → T (all_apart l) → Memᴰ a l → T (apart a)
-one_apart [] t m = absurd (Memᴰ.not_nil m)
+one_apart [] t m = absurd (Memᴰ.not-nil m)
 one_apart (x ∷ l) t m =
     ⊎_elim
     (λ e. subst (λ (y : Alternative). T (apart y)) (sym e) (both_left (apart x) (all_apart l) t))
@@ -75,7 +75,7 @@ single b = by (eqb b 0) refl
     by false e = inr (λ m. eqb-false b 0 e (sym (Memᴰ.eq_of_singleton m)))
 
 matched : {a : Alternative} {c : List ℕ} → Matches a c → T (apart a) → ZeroAlone c
-matched end t = inr Memᴰ.not_nil
+matched end t = inr Memᴰ.not-nil
 matched (next {low} {high} {b} l h end) t = single b
 matched (next l h (next l' h' ms)) t = inr (none_zero (next l h (next l' h' ms)) t)
 

@@ -28,7 +28,7 @@ past b text e = rw (ne_eqb b 0 e)
 
 pub before_zero : (text : List ℕ) → BeforeZero text (shown text)
 unfolding shown
-before_zero [] = record { rest = []; begins = refl; clean = Memᴰ.not_nil; stops = inl refl }
+before_zero [] = record { rest = []; begins = refl; clean = Memᴰ.not-nil; stops = inl refl }
 before_zero (b ∷ text) = by (eqb b 0) refl (before_zero text)
   where
     by : (t : Bool) → eqb b 0 ≡ t → BeforeZero text (shown text) → BeforeZero (b ∷ text) (shown (b ∷ text))
@@ -38,7 +38,7 @@ before_zero (b ∷ text) = by (eqb b 0) refl (before_zero text)
         (record {
           rest = b ∷ text;
           begins = refl;
-          clean = Memᴰ.not_nil;
+          clean = Memᴰ.not-nil;
           stops = inr (text, ap (λ (x : ℕ). x ∷ text) zero);
         })
     by false e later =

@@ -1,24 +1,8 @@
 -- `Tracktype::new` meets its contract: each number is an arm of its own. Assumes nothing.
-use mathlib.Core.Path.{refl}
-use borrow.Author.Tests.{ne_eqb}
+use Rattle.std.proofs.Common.{rules, tests}
 use Rattle.codes.specs.Tracktypes.{type_in}
 use Rattle.codes.proofs.Unique.{type_at}
 use Rattle.codes.proofs.tracktype.Tracktype.new.Goals as goal
-
-pub returns-in-1 : goal.returns-in-1
-unfolding type_in
-returns-in-1 c =
-    let other = c.in_default in
-    rw (
-      ne_eqb _ _ other.0.0.0.0.0.0.1,
-      ne_eqb _ _ other.0.0.0.0.0.1,
-      ne_eqb _ _ other.0.0.0.0.1,
-      ne_eqb _ _ other.0.0.0.1,
-      ne_eqb _ _ other.0.0.1,
-      ne_eqb _ _ other.0.1,
-      ne_eqb _ _ other.1,
-    )
-    refl
 
 pub returns-in-1 : goal.returns-in-1
 returns-in-1 c = search type_at
@@ -40,3 +24,7 @@ returns-in-18 c = search type_at
 
 pub returns-in-32 : goal.returns-in-32
 returns-in-32 c = search type_at
+
+pub returns-in_default : goal.returns-in_default
+unfolding type_in
+returns-in_default c = search (tests, rules)
