@@ -10,6 +10,7 @@ use kinds::{Kind, MASTER, ids};
 const CHAPTERTRANSLATE: u32 = 0x6924;
 
 // Whether an id that is a master by the list stays one under this parent.
+#[tactic(auto, unfolding(kinds::specs::Kinds::keeps, kinds::specs::Kinds::member))]
 fn stays_master(id: u32, parent: u32) -> bool
     ensures { result ≡ stays_master id parent }
 {
