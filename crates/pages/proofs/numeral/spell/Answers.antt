@@ -1,8 +1,5 @@
 -- `spell` meets its contract: the digits from the last to the first. Assumes nothing.
-use Prim.Native.Nat.{◌-◌}
 use native.Mathlib.Omega.{arith}
-use mathlib.Core.Path.{sym, ◌∙◌}
-use lib.ListN.{length-set}
 use native.Mathlib.Nat.{mod-lt, div-lt_self}
 use Rattle.pages.proofs.Numerals.{spelling_starts, spelling_goes_on, spelling_ends}
 use Rattle.pages.proofs.numeral.spell.Goals as goal
@@ -24,11 +21,11 @@ bounds-text-first c =
 pub loop-rest-smaller : goal.loop-rest-smaller
 loop-rest-smaller c =
     let b = c.requires in
-    div-lt_self {n = c.loop-rest.rest} {k = c.args.base} (omega arith) b.1.0
+    div-lt_self {n = c.loop-rest.rest} {k = c.args.base} (omega arith) b.lt_base
 
 pub loop-rest-preserved : goal.loop-rest-preserved
 loop-rest-preserved c =
-    spelling_goes_on _ c.requires.1.0 _ _ _ _ _ c.loop-rest-test.true c.glyph.ensures
+    spelling_goes_on _ c.requires.lt_base _ _ _ _ _ c.loop-rest-test.true c.glyph.ensures
     c.loop-rest.invariant
 
 pub bounds-text-first-2 : goal.bounds-text-first-2
@@ -39,19 +36,17 @@ bounds-text-first-2 c =
     let n = i.some in
     omega arith
 
-pub UNKNOWN_same_length : goal.UNKNOWN_same_length
-UNKNOWN_same_length c =
-    length-set c.loop-rest.text (c.loop-rest.first - 1) c.glyph-2.result ∙
-    c.loop-rest.invariant.long ∙ sym c.requires.0
-
 pub returns : goal.returns
 returns c =
     let i = c.loop-rest.invariant in
     let f = i.few in
-    (omega arith, spelling_ends _ c.requires.1.0 _ _ _ _ _ c.loop-rest-test.false c.glyph-2.ensures i)
+    record {
+      upper_bound = omega arith;
+      text_after = spelling_ends _ c.requires.lt_base _ _ _ _ _ c.loop-rest-test.false c.glyph-2.ensures i;
+    }
 
 pub loop-rest-init : goal.loop-rest-init
-loop-rest-init c = spelling_starts _ c.requires.1.0 _ _ c.requires.0 c.requires.1.1.1
+loop-rest-init c = spelling_starts _ c.requires.lt_base _ _ c.requires.text_len c.requires.value_bound
 
 pub overflow_sub-first : goal.overflow_sub-first
 overflow_sub-first c = let i = c.loop-rest.invariant.some in omega arith

@@ -1,5 +1,4 @@
 -- `spell` meets its contract: the digits from the last to the first. Assumes nothing.
-use Prim.Native.Nat.{◌-◌}
 use Rattle.pages.proofs.Numerals.{Spelling}
 use Rattle.pages.proofs.numeral.spell.Given as goal
 

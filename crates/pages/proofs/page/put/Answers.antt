@@ -1,5 +1,4 @@
 -- `put` meets its contract: a copy, byte by byte. Assumes nothing.
-use Prim.Native.Nat.{◌-◌}
 use native.Mathlib.Omega.{arith}
 use lib.Seq.{paste-zero}
 use Rattle.pages.proofs.Pages.{copied, copied_on, copied_long}
@@ -26,11 +25,6 @@ loop-i-preserved c =
     let p = c.requires in
     let t = c.loop-i-test.true in
     (omega arith, copied_on _ _ _ _ _ (omega arith) t i.1)
-
-pub UNKNOWN_same_length : goal.UNKNOWN_same_length
-UNKNOWN_same_length c =
-    let i = c.loop-i.invariant in
-    copied_long _ _ _ _ _ c.requires i.0 i.1
 
 pub returns : goal.returns
 returns c =

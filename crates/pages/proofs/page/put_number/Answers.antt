@@ -5,5 +5,7 @@ use Rattle.pages.proofs.page.put_number.Goals as goal
 
 pub returns : goal.returns
 returns c =
-    labelled_number _ _ _ _ _ _ _ _ _ _ c.requires.0 c.put-from.ensures c.put.ensures
-    (whole_end c.spell-first.new.1.1.0 c.spell-first.result c.spell-first.auto.1.1.0 ∙ c.spell-first.ensures.1)
+    let spelt = whole_end c.spell-first.new.text c.spell-first.result c.spell-first.auto.text
+    ∙ c.spell-first.ensures.text_after in
+    let whole = labelled_number _ _ _ _ _ _ _ _ _ _ c.requires.label_in_bounds c.put-from.ensures c.put.ensures spelt in
+    record { wrote = whole.0; upper_bound = whole.1 }
