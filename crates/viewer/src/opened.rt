@@ -80,8 +80,7 @@ fn opened_face(reply: OpenReply) -> UzOpened
     }
 }
 
-#[unsafe(no_mangle)]
-pub extern "C" fn uz_open(
+pub fn uz_open(
     recording: &[u8],
     info: &mut [u64],
     tracks: &mut [u64],

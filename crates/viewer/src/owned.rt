@@ -55,8 +55,7 @@ fn no_mode() -> OwnerReply
     })
 }
 
-#[unsafe(no_mangle)]
-pub extern "C" fn uz_owner(
+pub fn uz_owner(
     recording: &[u8],
     start: u64,
     size: u64,
@@ -72,8 +71,7 @@ pub extern "C" fn uz_owner(
     }
 }
 
-#[unsafe(no_mangle)]
-pub extern "C" fn uz_owner_chain(
+pub fn uz_owner_chain(
     recording: &[u8],
     start: u64,
     size: u64,

@@ -59,8 +59,7 @@ fn part_face(reply: PartReply) -> UzPart
     }
 }
 
-#[unsafe(no_mangle)]
-pub extern "C" fn uz_find_part(recording: &[u8], part: u32, table: &mut [u64], mode: u32) -> UzPart
+pub fn uz_find_part(recording: &[u8], part: u32, table: &mut [u64], mode: u32) -> UzPart
     ensures { UzPartPromise mode recording.now part
         table.old result table.new }
 {

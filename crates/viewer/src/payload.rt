@@ -5,8 +5,7 @@ use crate::range::range_face;
 use payloads::payload_range;
 use viewer_rules::UzRange;
 
-#[unsafe(no_mangle)]
-pub extern "C" fn uz_row_payload(recording: &[u8], table: &[u64], row: u64) -> UzRange
+pub fn uz_row_payload(recording: &[u8], table: &[u64], row: u64) -> UzRange
     ensures { UzRangePromise recording.now table.now row result }
 {
     range_face(payload_range(recording, table, row))

@@ -5,8 +5,7 @@ use crate::range::range_face;
 use shown::text_range;
 use viewer_rules::UzRange;
 
-#[unsafe(no_mangle)]
-pub extern "C" fn uz_shown_text(recording: &[u8], table: &[u64], row: u64) -> UzRange
+pub fn uz_shown_text(recording: &[u8], table: &[u64], row: u64) -> UzRange
     ensures { UzTextPromise recording.now table.now row result }
 {
     range_face(text_range(recording, table, row))

@@ -44,8 +44,7 @@ fn place_face(reply: WhoseReply) -> UzPlace
     }
 }
 
-#[unsafe(no_mangle)]
-pub extern "C" fn uz_whose_byte(
+pub fn uz_whose_byte(
     recording: &[u8],
     start: u64,
     size: u64,
