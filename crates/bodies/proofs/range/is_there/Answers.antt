@@ -5,18 +5,14 @@ use Prim.Native.Nat.{◌+◌}
 use lib.ListN.{length}
 use borrow.Author.Tests.{lt-leb}
 use Rattle.bodies_rules.proofs.Ends.{same_room}
-use Rattle.bodies.proofs.range.is_there.Statement.{statement}
-use Rattle.bodies.proofs.range.is_there.Tie as tie
+use Rattle.bodies.proofs.range.is_there.Goals as goal
 
-returns : tie.Need-returns
-returns c =
-    let a = c.before.args in
+pub returns-then-length-at : goal.returns-then-length-at
+returns-then-length-at c =
+    let a = c.args in
     sym (lt-leb (a.place.at + a.size) (length a.recording.now) (omega arith))
 
-returns-2 : tie.Need-returns-2
-returns-2 c =
-    let a = c.before.args in
+pub returns : goal.returns
+returns c =
+    let a = c.args in
     same_room a.place.at a.size (length a.recording.now) (omega arith)
-
-pub is-there-spec : {M : Type 1} → statement M
-is-there-spec = tie.close (tie.spec returns returns-2)
