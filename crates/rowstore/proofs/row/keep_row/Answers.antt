@@ -5,7 +5,8 @@ use Rattle.rowstore.proofs.row.keep_row.Goals as goal
 
 pub returns-then-mode : goal.returns-then-mode
 returns-then-mode c =
-    let kept = kept_row c.args.mode c.args.table.now _ _ c.args.row c.if-mode.true c.if-n-table.false c.put_row.ensures in
+    let kept =
+    kept_row c.args.mode c.args.table.now _ _ c.args.row c.if-mode.true c.if-n-table.false c.put_row.ensures in
     record { value = kept.0; table_after = kept.1 }
 
 pub returns-then-n-table : goal.returns-then-n-table

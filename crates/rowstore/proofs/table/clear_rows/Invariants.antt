@@ -7,8 +7,10 @@ use Rattle.elements_rules.specs.Promise.{zeros}
 use Rattle.rowstore.proofs.table.clear_rows.Given as goal
 
 abbrev pub invariant-loop-i : goal.invariant-loop-i
-invariant-loop-i l = (l.i ≤ l.used) × (l.used ≡ l.rows * 8) × (l.used ≤ length l.initial.table) × (length l.table ≡ length l.initial.table) × (l.table ≡ zeros l.i ++
-    drop l.i l.initial.table)
+invariant-loop-i l =
+    (l.i ≤ l.used) × (l.used ≡ l.rows * 8) × (l.used ≤ length l.initial.table)
+    × (length l.table ≡ length l.initial.table)
+    × (l.table ≡ zeros l.i ++ drop l.i l.initial.table)
 
 abbrev pub decreases-loop-i : goal.decreases-loop-i
 decreases-loop-i l = l.used - l.i
