@@ -1,0 +1,13 @@
+-- `number_field` meets its contract. Assumes nothing.
+use Rattle.fields_rules.proofs.Picked.{last_holds}
+use Rattle.fields_rules.proofs.Taken.{number_unset, number_is}
+use Rattle.fields.proofs.field.number_field.Goals as goal
+
+pub uint_in-requires : goal.uint_in-requires
+uint_in-requires c = search last_holds
+
+pub returns-in-Absent : goal.returns-in-Absent
+returns-in-Absent c = search number_unset
+
+pub returns-in-At : goal.returns-in-At
+returns-in-At c = search number_is
