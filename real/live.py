@@ -307,7 +307,7 @@ class Judge:
             self.chapters(name, answers, info, probed, data)
         opened = self.opened(name)
         self.whole_open(name, answers, opened, info, data)
-        self.viewed(name, answers, opened)
+        self.viewed(name, answers)
 
     def opened(self, name):
         return self.changed_open(self.call('--live', '--open', name)[0])
@@ -365,9 +365,9 @@ class Judge:
 
     # ---- The viewer ----
 
-    def viewed(self, name, answers, opened):
-        """The viewer in live mode has the same parts, its status is 1 if one is refused, or all at once, or something
-        is remarked, and it says in words what happened to each part that is not found."""
+    def viewed(self, name, answers):
+        """The viewer in live mode has the same parts, its status is 1 if one is refused or something is remarked, and
+        it says in words what happened to each part that is not found."""
         words = ('viewer', name)
         if words not in self.kept:
             done = subprocess.run([*self.viewer, '--live', '--json', name], stdin=subprocess.DEVNULL,
@@ -376,11 +376,6 @@ class Judge:
                                    stderr=subprocess.PIPE)
             self.kept[words] = done.returncode, json.loads(done.stdout), plain.stderr.decode()
         status, told, said = self.kept[words]
-        if (told['open'].get('refused'), told['open'].get('refused_at')) != (opened.refused, opened.refused_at):
-            self.fail(name, 'the viewer has another refusal of all parts at once')
-        place = (told['info'].get('at'), told['info'].get('size')) if told['info']['state'] == 'found' else None
-        if place != (opened.parts['Info'].place() if opened.refused is None else None):
-            self.fail(name, 'the viewer has another Info')
         for answer, part in zip(answers, told['parts']):
             refused = answer.refused and 'refused'
             if part['state'] != (refused or answer.state()) or part.get('refused') != answer.refused or \
@@ -389,7 +384,7 @@ class Judge:
             segment = 'has no segment' in said or 'no Matroska' in said or 'has no bytes' in said
             if answer.state() != 'found' and part['name'] not in said and not segment:
                 self.fail(name, 'the viewer does not say what happened to %s' % part['name'])
-        if status != (1 if told['remarks'] or opened.refused or any(a.refused for a in answers) else 0):
+        if status != (1 if told['remarks'] or any(a.refused for a in answers) else 0):
             self.fail(name, 'the viewer\'s status is %d' % status)
         self.counts['viewed'] += 1
 
@@ -476,7 +471,7 @@ class Judge:
             if ('viewer', cut) not in self.kept:
                 make.write(cut, data[:length])
             answers = [Answer(line) for line in self.call('--live', cut)]
-            self.viewed(cut, [self.changed(a) for a in answers], self.opened(cut))
+            self.viewed(cut, [self.changed(a) for a in answers])
 
     def all(self, made):
         for name in made.names:

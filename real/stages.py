@@ -7,18 +7,15 @@
 #
 # It prints the recordings of which something is unexplained, the findings by reason, and a summary; FOLDER/stages.txt
 # has each finding in a line. What a finding is, compare.py tells. The status is 1 if anything is unexplained.
-import datetime
 import json
 import os
 import re
-import struct
 import subprocess
 import sys
 import zlib
 
 import tools
-from against import Against, DEFAULTS, INFO, PARTS, PLAIN, Tally, before_zero, shown_number
-from opened import EPOCH, IDS, LABELS, Opening
+from against import Against, DEFAULTS, PARTS, PLAIN, Tally, before_zero, shown_number
 
 CRC = 0xBF
 ONES = 2 ** 64 - 1
@@ -70,20 +67,8 @@ REFUSALS = refusals()
 ELEMENTS = element_names()
 
 
-# The fields of Info: the key of our JSON, mkvinfo's label, mkvmerge's name, and the word of our lines or None.
-INFO_FIELDS = [('title', 'Title', 'title', 'title'), ('duration', 'Duration', 'duration', 'duration'),
-               ('scale', 'Timestamp scale', None, 'scale'), ('date', 'Date', 'date_utc', 'date'),
-               ('muxing_app', 'Multiplexing application', 'muxing_application', 'muxing app'),
-               ('writing_app', 'Writing application', 'writing_application', 'writing app'),
-               ('uid', 'Segment UID', 'segment_uid', None),
-               ('previous', 'Previous segment UID', 'previous_segment_uid', None),
-               ('next', 'Next segment UID', 'next_segment_uid', None)]
-# What it says where not all parts can be read at once.
-APART = 'not all parts can be read at once: each was searched for by itself, and Info is not shown'
-
-
 class Part:
-    """A part, as the JSON tells it, or all parts at once."""
+    """A part, as the JSON tells it."""
 
     def __init__(self, told):
         self.name, self.id, self.state = told['name'], int(told['id'], 16), told['state']
@@ -91,7 +76,7 @@ class Part:
         self.at, self.size, self.rows = told.get('at'), told.get('size'), told.get('rows')
         self.stands, self.meaning, self.next = told.get('stands'), told.get('meaning'), told.get('next')
         self.entry, self.refused_at, self.there = told.get('entry'), told.get('refused_at'), told.get('there')
-        self.where, self.searched = told.get('where'), told.get('searched')
+        self.where = told.get('where')
         self.answer = self.state if self.refused is None else 'refused %d' % self.refused
 
     def found(self):
@@ -118,61 +103,26 @@ def text_of(field):
     return '-' if field is None else escaped(field['value'])
 
 
-def clock(nanoseconds):
-    """In hours, minutes, seconds and milliseconds, cut."""
-    seconds, rest = divmod(nanoseconds, 10 ** 9)
-    return '%d:%02d:%02d.%03d' % (seconds // 3600, seconds // 60 % 60, seconds % 60, rest // 10 ** 6)
-
-
 def time_of(field):
-    return '-' if field is None else clock(field['value'])
-
-
-def utc_of(nanoseconds):
-    """A date in words, cut to milliseconds."""
-    return (EPOCH + datetime.timedelta(milliseconds=nanoseconds // 10 ** 6)).isoformat(
-        timespec='milliseconds') + 'Z'
-
-
-def float_of(number):
-    """A float in the fewest digits behind the point that tell it."""
-    return next(words for words in ('%.*f' % (digits, number) for digits in range(21)) if float(words) == number)
+    """In hours, minutes, seconds and milliseconds, cut."""
+    if field is None:
+        return '-'
+    seconds, rest = divmod(field['value'], 10 ** 9)
+    return '%d:%02d:%02d.%03d' % (seconds // 3600, seconds // 60 % 60, seconds % 60, rest // 10 ** 6)
 
 
 class Text:
     """The lines that have to be shown. `hexed` tells whether addresses have their hexadecimal form too."""
 
-    def __init__(self, told, hexed, info):
-        self.told, self.hexed, self.info = told, hexed, info
+    def __init__(self, told, hexed):
+        self.told, self.hexed = told, hexed
         self.atoms = [atom for edition in told['editions'] for atom in edition['atoms']]
 
     def address(self, number):
         return '%d/0x%X' % (number, number) if self.hexed else str(number)
 
-    def info_lines(self):
-        """Of each field the address of its header, which mkvinfo's element has, and what it holds."""
-        told = self.told['info']
-        out = ['info payload %s+%d' % (self.address(told['at']), told['size'])] if told['state'] == 'found' else []
-        for key, label, _, word in INFO_FIELDS if out else []:
-            field = told[key]
-            if word is None:
-                continue
-            there = [e.at for e in self.info.children if e.label == label][-1:]
-            value = '-'
-            if key == 'duration' and field:
-                value = '%s %s' % (float_of(field['value']), clock(told['nanoseconds']))
-            elif field:
-                value = {'scale': str(field['value']), 'date': field.get('utc')}.get(key) or text_of(field)
-            out.append('  %s %s %s' % (self.address(there[0]) if there else '-', word, value))
-        return out
-
-    def elsewhere_lines(self):
-        return ['%s has its payload at %s, read with all parts at once; the search for %s alone finds one at %s' % (
-            part['name'], self.address(part['at']), part['name'], self.address(part['searched']))
-                for part in self.told['parts'] if 'searched' in part]
-
     def lines(self):
-        out = self.info_lines() + self.elsewhere_lines()
+        out = []
         for edition in self.told['editions']:
             uid = edition['uid']
             marks = [word for word in ('default', 'hidden', 'ordered') if value_of(edition[word])]
@@ -240,7 +190,7 @@ class Text:
 
 # ---- The comparison ----
 
-class Viewed(Opening, Against):
+class Viewed(Against):
     """What the viewer shows of one recording, against the tools."""
 
     def __init__(self, name, folder, view, said=None):
@@ -334,101 +284,8 @@ class Viewed(Opening, Against):
                 self.find('plain master', '%s at %d: %d elements' % (child.label, child.at, len(child.children)))
         return out
 
-    def whole(self, told, due):
-        """All parts at once: read or refused, as mkvinfo's facts make due."""
-        whole = Part({'name': 'all parts at once', 'id': '0', **told})
-        if not due.reason:
-            self.same('all parts at once', told, {'state': 'read', 'heads': due.heads}, 'open read')
-            return whole
-        self.keys('all parts at once', told, 'state', 'refused', 'refused_at', 'there', 'meaning', 'where', 'next', *(
-            ['entry'] if due.refused == 8 else []))
-        self.same('all parts at once: state', whole.state, 'refused', 'open refused')
-        for ours, theirs in ((whole.refused, due.refused), (whole.refused_at, due.at)):
-            if theirs is not None:
-                self.same('all parts at once: refused', ours, theirs)
-        if due.refused == 8:
-            self.same('all parts at once: entry', whole.entry, '%X' % IDS[due.label])
-        self.refused_words(whole)
-        self.find('open: refused', '%r at %r, %s: %s' % (whole.refused, whole.refused_at, due.reason, due.what))
-        return whole
-
-    def refused_words(self, part):
-        self.same(part.name + ' words', (part.meaning, part.where, part.next), REFUSALS.get(part.refused))
-        self.same(part.name + ' there', part.there, self.there(part.refused_at))
-
-    def information(self, told, due, whole):
-        """Info: our part, mkvinfo's element or None, and our rows."""
-        element = None if due.reason else due.elements.get('Info')
-        part = Part({'name': 'Info', 'id': '%X' % INFO, 'refused': whole.refused, **{
-            key: told.get(key) for key in ('state', 'at', 'size', 'rows', 'stands')}})
-        self.same('Info state', part.state, 'refused' if due.reason else 'found' if element else 'absent', 'Info')
-        if part.state != 'found' or element is None:
-            self.keys('Info', told, 'state', 'stands')
-            self.same('Info stands', part.stands, self.stands('Info'))
-            return part, None, []
-        rows = self.rows_below(element, part.at)
-        self.same('Info place', (part.at, part.size, part.rows), (element.at + element.header(), element.data,
-                                                                 len(rows)))
-        self.keys('Info', told, 'state', 'at', 'size', 'rows', 'families', 'nanoseconds', *[
-            key for key, _, _, _ in INFO_FIELDS])
-        about = self.tools.identified['container']['properties']
-        for key, label, name, _ in INFO_FIELDS:
-            what, ours, last = 'Info ' + key, told[key], self.children(element, label)[-1:]
-            theirs = about.get(name) if name else None
-            if key in ('uid', 'previous', 'next'):
-                self.seen(what, ours, element, label)
-                self.same(what, None if ours is None else self.text((ours['at'], ours['length'])).hex(), theirs)
-            elif key == 'duration':
-                self.seen(what, ours, element, label)
-                stored = self.payload(last[0]) if last else b''
-                self.same(what, value_of(ours), struct.unpack('>f' if len(stored) == 4 else '>d', stored)[0] if last
-                          else None)
-                self.same(what + ' in nanoseconds', told['nanoseconds'], tools.time_of(last[0].value) if last else None)
-                if value_of(ours) == 0 and theirs is None:
-                    self.find('no duration', 'at %d' % last[0].at)
-                else:
-                    self.same(what + ' by mkvmerge', told['nanoseconds'], theirs)
-            elif key == 'date':
-                self.date(ours, last, theirs)
-            elif key == 'scale':
-                self.number(what, ours, element, label, shown_number(last[0]) if last else None, key)
-            else:
-                self.words(what, ours, element, label, theirs)
-        self.same('Info families', [(one['at'], one['length']) for one in told['families']],
-                  [(e.at + e.header(), e.data) for e in self.children(element, 'Family UID')])
-        for one in told['families']:
-            self.keys('Info family', one, 'at', 'length')
-        return part, element, rows
-
-    def date(self, ours, last, theirs):
-        """The nanoseconds that stand at mkvinfo's place, and the words, which mkvmerge has in whole seconds."""
-        if not self.same('Info date is set', ours is not None, bool(last)) or not last:
-            self.same('Info date by mkvmerge', None, theirs)
-            return
-        self.keys('Info date', ours, 'at', 'length', 'value', 'utc')
-        self.same('Info date place', (ours['at'], ours['length']), (last[0].at + last[0].header(), last[0].data),
-                  'places')
-        self.same('Info date', ours['value'], int.from_bytes(self.payload(last[0]), 'big', signed=True), 'dates')
-        self.same('Info date in words', ours['utc'], utc_of(ours['value']))
-        # mkvmerge cuts towards 2001, and the words to the millisecond before.
-        whole = ours['value'] - ours['value'] % 10 ** 9 + (10 ** 9 if ours['value'] < 0 and
-                                                          ours['value'] % 10 ** 9 else 0)
-        self.same('Info date by mkvmerge', utc_of(whole).replace('.000Z', 'Z'), theirs)
-
-    def searched(self, part, element):
-        """A part of the JSON as its search has it: where it differs, mkvinfo has the element."""
-        if part.searched is None:
-            return part, element, None
-        other = [e for e in self.tools.info.level1(part.name) if e.at + e.header() == part.searched]
-        if not self.same(part.name + ' by its search', [e.at for e in other], [self.stands_for(
-                self.tools.info.level1(part.name), self.tools.info.heads(), None, False)]):
-            return part, element, None
-        return Part({'name': part.name, 'id': '%X' % part.id, 'state': 'found', 'heads': 0, 'at': part.searched,
-                     'size': other[0].data}), other[0], self.rows_below(other[0], part.searched)
-
-    def parts(self, told, opened):
-        """The four parts: our answers with mkvinfo's element, or None where it is not to be compared. `opened`: they
-        are those that were read all at once."""
+    def parts(self, told):
+        """The four parts: our answers with mkvinfo's element, or None where it is not to be compared."""
         out = []
         self.same('the names of the parts', [(p['name'], p['id']) for p in told['parts']],
                   [(label, '%X' % ident) for label, (ident, _) in PARTS.items()])
@@ -437,46 +294,34 @@ class Viewed(Opening, Against):
             self.keys(label, one, 'name', 'id', 'state', *(
                 ('heads', 'at', 'size', 'rows') if part.found() else ('heads', 'stands') if part.refused is None else
                 ('refused', 'refused_at', 'there', 'meaning', 'where', 'next', 'stands')),
-                *(['entry'] if part.refused == 8 else []), *(['searched'] if self.is_elsewhere(part, opened) else []))
+                *(['entry'] if part.refused == 8 else []))
             self.same(label + ' state', part.state, 'found' if part.found() else 'absent' if part.refused is None else
                       'refused')
-            element = self.place(label, part, opened)
+            element = self.place(label, part)
             rows = self.rows_below(element, part.at) if element is not None else []
             if element is not None:
                 self.same(label + ' rows', part.rows, len(rows))
             if not part.found():
                 self.same(label + ' stands', part.stands, self.stands(label))
             if part.refused is not None:
-                self.refused_words(part)
+                self.same(label + ' words', (part.meaning, part.where, part.next), REFUSALS.get(part.refused))
+                self.same(label + ' there', part.there, self.there(part.refused_at))
             if part.refused == 8:
                 # The entry whose position is too large: in these recordings the part's own.
                 self.same(label + ' entry', part.entry, one['id'])
             out.append((part, element, rows))
         return out
 
-    def is_elsewhere(self, part, opened):
-        """Whether the search has the part from another place than it was read from with all parts at once."""
-        info = self.tools.info
-        shown, heads = info.level1(part.name), info.heads()
-        if not opened or not part.found() or not shown:
-            return False
-        entries = [where for head in heads for number, where in info.entries(head) if number == part.id]
-        named = entries[-1] if entries else None
-        elsewhere = len({self.stands_for(shown, heads, named, way) for way in (False, True)}) > 1
-        if elsewhere:
-            self.find('open: replaced' if named is not None else 'open: last', '%s at %d' % (part.name, part.at))
-        return elsewhere
-
     def stands(self, label):
         """Where mkvinfo shows the part in the segment, if not behind an element of unknown size. Of a segment without
         bytes it shows nothing; then the bytes behind it tell."""
         info = self.tools.info
         if info.segment.data == 0:
-            shown = [at for at, ident in self.behind(info.start()) if ident == IDS[label]]
+            shown = [at for at, ident in self.behind(info.start()) if ident == PARTS[label][0]]
             return shown[0] if shown else None
         children = info.level1()
         opened = [k for k, e in enumerate(children) if e.size is None][:1]
-        shown = [e.at for e in children[:opened[0] if opened else None] if e.label == LABELS[label]]
+        shown = [e.at for e in children[:opened[0] if opened else None] if e.label == label]
         return shown[0] if shown else None
 
     def behind(self, at):
@@ -504,7 +349,7 @@ class Viewed(Opening, Against):
         for e in opened:
             out += [('unknown size', e.label, str(e.at))] if astray else []
             out += [('in a frame', part.name, str(part.at), e.label, str(e.at)) for part, _, _ in parts
-                    if part.name in PARTS and part.found() and part.heads == 0 and part.at > e.at]
+                    if part.found() and part.heads == 0 and part.at > e.at]
         for part, element, _ in parts:
             out += self.on_part(part, element, start)
         return out
@@ -513,11 +358,10 @@ class Viewed(Opening, Against):
         """The remarks on one part: of each part the first beside the one that is shown, unless they are the same."""
         info, out, stands = self.tools.info, [], self.stands(part.name)
         entries = [where for head in info.heads() for number, where in info.entries(head) if number == part.id]
-        # A refusal of Info is that of all parts at once, which may be about another entry.
-        if part.refused == 8 and entries and entries[-1] - start == ONES and part.entry in (None, '%X' % part.id):
+        if part.refused == 8 and entries and entries[-1] - start == ONES:
             out.append(('unfilled', part.name))
         if part.found():
-            others = [e for e in info.level1(LABELS[part.name]) if element is not None and e is not element and
+            others = [e for e in info.level1(part.name) if element is not None and e is not element and
                       self.text((e.at + e.header(), e.data)) != self.text((part.at, part.size))]
             return out + [('twice', part.name, str(element.at), str(e.at)) for e in others[:1]]
         if stands is None:
@@ -531,45 +375,23 @@ class Viewed(Opening, Against):
         return out
 
     def remarks(self, told, parts):
-        """The remarks of the JSON, which are those that the file deserves."""
-        said = [self.understood(one) for one in told]
+        """The remarks of the JSON, which are those that the file deserves. Answers the refusals that they explain."""
+        said, explained = [], set()
+        for one in told['remarks']:
+            self.keys('remark', one, 'remark', 'next')
+            for name, pattern, refusals in REMARKS:
+                match = re.fullmatch(pattern, one['remark'])
+                if match:
+                    said.append((name, *match.groups()))
+                    explained |= refusals
+                    if name == 'elsewhere':
+                        explained |= {part.refused for part, _, _ in parts if part.name == match.group(1)}
+                    break
+            else:
+                self.fail('a remark that is not understood: %r' % one['remark'])
         self.same('remarks', said, self.expected(parts))
         self.counts['remarks'] += len(said)
-
-    def understood(self, one):
-        """The name of a remark, and what it tells."""
-        self.keys('remark', one, 'remark', 'next')
-        for name, pattern, _ in REMARKS:
-            match = re.fullmatch(pattern, one['remark'])
-            if match:
-                return (name, *match.groups())
-        self.fail('a remark that is not understood: %r' % one['remark'])
-        return None
-
-    def searched_remarks(self, told, parts):
-        """The remarks where the parts are those of the searches, without Info. Their words are those of the JSON, but
-        of two parts the search may have the other one."""
-        words, out = {self.understood(one): one for one in told}, []
-        for due in self.expected(parts):
-            if due not in words and due[0] == 'twice':
-                _, name, shown, hidden = due
-                one = words.get(('twice', name, hidden, shown), {'remark': '', 'next': None})
-                other = {shown: hidden, hidden: shown}
-                out.append({**one, 'remark': re.sub(r'\d+', lambda m: other.get(m.group(), m.group()), one['remark'])})
-            elif due in words:
-                out.append(words[due])
-            else:
-                self.fail('a remark that the searches deserve, and not all parts at once: %r' % (due,))
-        return out
-
-    def explained(self, remarks, parts):
-        """The refusals that remarks explain better than their own words."""
-        out = set()
-        for name, *told in map(self.understood, remarks):
-            out |= next(refusals for known, _, refusals in REMARKS if known == name)
-            if name == 'elsewhere':
-                out |= {part.refused for part, _, _ in parts if part.name == told[0]}
-        return out
+        return explained
 
     def there(self, at):
         """The id of the header at an address, in digits; None where there is none."""
@@ -595,24 +417,18 @@ class Viewed(Opening, Against):
         walked = any(part.state == 'absent' and not info.heads() for part, _, _ in parts)
         return NOTE if endless and walked and info.segment.data != 0 else None
 
-    def absences(self, told, parts):
-        """The first lines on standard error of the plain form: absent parts, and what is worth a note."""
+    def errors(self, told, parts, explained, plain):
+        """The lines on standard error: absent parts in the plain form, refused parts, remarks, and each advice once."""
         absent = [part.name for part, _, _ in parts if part.state == 'absent' and part.stands is None]
-        out = ['not in the recording: ' + ', '.join(absent)] if absent and self.tools.info.segment.data != 0 else []
-        out += [told['note']] if told['note'] else []
-        return self.said(out + [APART] if told['open']['state'] == 'refused' else out)
-
-    def errors(self, parts, whole, remarks, explained):
-        """The lines on standard error: refused parts and all at once, remarks, and each advice once. `parts` are the
-        four, and `whole` is None where the searches are asked alone."""
-        refused = [part for part in [*(part for part, _, _ in parts), whole] if part and part.refused is not None]
-        out = [self.refusal(part) for part in refused] + [one['remark'] for one in remarks]
-        advice = [one['next'] for one in remarks if one['next']]
-        advice += [part.next for part in refused if part.refused not in explained]
-        return self.said(out + ['what to do: ' + one for one in dict.fromkeys(advice)])
-
-    def said(self, lines):
-        return ''.join('stages: %s: %s\n' % (self.name, line) for line in lines)
+        out = ['not in the recording: ' + ', '.join(absent)] if plain and absent and \
+            self.tools.info.segment.data != 0 else []
+        out += [told['note']] if plain and told['note'] else []
+        out += [self.refusal(part) for part, _, _ in parts if part.refused is not None]
+        out += [one['remark'] for one in told['remarks']]
+        advice = [one['next'] for one in told['remarks'] if one['next']]
+        advice += [part.next for part, _, _ in parts if part.refused is not None and part.refused not in explained]
+        out += ['what to do: ' + one for one in dict.fromkeys(advice)]
+        return ''.join('stages: %s: %s\n' % (self.name, line) for line in out)
 
     # ---- Chapters ----
 
@@ -844,8 +660,8 @@ class Viewed(Opening, Against):
                 behind = ', but the file ends at %d' % len(self.bytes)
             match = IN_FILE.fullmatch(lines.pop(0) if lines else '')
             self.same('address %d: in the file' % address, match and match.groups(), (
-                None if k > 0 else 'header' if address < start else 'payload', self.bytes[at:at + width].hex().upper(),
-                str(at), str(width + size), str(start), str(data), behind))
+                None if k > 0 else 'header' if address < start else 'payload', self.bytes[at:at + width].hex().upper(), str(at), str(width + size),
+                str(start), str(data), behind))
 
     def entry_line(self, line, seek, address):
         """A line on a seek entry: where it leads, and what stands there."""
@@ -974,26 +790,19 @@ class Viewed(Opening, Against):
         except ValueError as fault:
             self.fail('status %d, and the JSON can\'t be read: %s' % (status, fault))
             return self
-        self.keys('the JSON', told, 'length', 'mode', 'open', 'parts', 'remarks', 'note', 'info', 'editions', 'tags',
-                  'tracks', 'attachments')
+        self.keys('the JSON', told, 'length', 'mode', 'parts', 'remarks', 'note', 'editions', 'tags', 'tracks',
+                  'attachments')
         self.same('length', told['length'], len(self.bytes))
         self.same('mode', told['mode'], 'plain')
         self.texts(told)
-        due = self.due(False)
-        whole = self.whole(told['open'], due)
-        parts = self.parts(told, not due.reason)
-        info = self.information(told['info'], due, whole)
-        info[0].entry = whole.entry
+        parts = self.parts(told)
         self.same('note', told['note'], self.note(parts))
-        odd = bool(told['remarks']) or whole.refused is not None
-        five = [*parts, info]
-        self.remarks(told['remarks'], five)
-        if due.refused is None and due.reason:
-            self.same('all parts at once: refused as a search', (whole.refused, whole.refused_at) in [
-                (part.refused, part.refused_at) for part, _, _ in parts], True)
-        faults = self.errors(parts, whole, told['remarks'], self.explained(told['remarks'], five))
+        odd = bool(told['remarks']) or any(part.refused is not None for part, _, _ in parts)
+        explained = self.remarks(told, parts)
+        # The same lines for each way of asking, but that the plain one tells absent parts too.
+        self.faults = self.errors(told, parts, explained, False)
         self.same('status', status, 1 if odd else 0)
-        self.same('standard error', err, faults)
+        self.same('standard error', err, self.faults)
         for (part, element, _), key, compare in zip(parts, ('tracks', 'attachments', 'editions', 'tags'),
                                                     (self.tracks, self.attachments, self.chapters, self.tags)):
             if element is not None:
@@ -1007,14 +816,9 @@ class Viewed(Opening, Against):
             what = ' '.join(['plain', *words])
             status, out, err = self.ask(*words)
             self.same(what + ': status', status, 1 if odd else 0)
-            self.same(what + ': standard error', err, self.absences(told, five) + faults)
-            self.same_lines(what, out, Text(told, bool(words), info[1]).lines())
-        # An address is looked for in what the searches find.
-        alone = [self.searched(part, element) if part.searched else (part, element, rows)
-                 for part, element, rows in parts]
-        remarks = self.searched_remarks(told['remarks'], alone)
-        self.faults = self.errors(alone, None, remarks, self.explained(remarks, alone))
-        self.addresses(alone)
+            self.same(what + ': standard error', err, self.errors(told, parts, explained, True))
+            self.same_lines(what, out, Text(told, bool(words)).lines())
+        self.addresses(parts)
         return self
 
     def same_lines(self, what, out, expected):

@@ -7,13 +7,12 @@
 #include <string.h>
 
 // What to do next: each advice once, first those of the remarks.
-static void tell_nexts(const part all[PARTS], const part *other, const remarks *odd) {
+static void tell_nexts(const part all[], unsigned count, const remarks *odd) {
     const char *told[MOST_REMARKS + PARTS + 1];
     unsigned past = 0;
-    for (unsigned i = 0; i < odd->count + PARTS + (other != NULL); i++) {
+    for (unsigned i = 0; i < odd->count + count; i++) {
         const char *next = NULL;
-        const part *of = i < odd->count + PARTS ? &all[i - odd->count] : other;
-        uint64_t number = i < odd->count ? UZ_ACCEPTED : of->reply.refused;
+        uint64_t number = i < odd->count ? UZ_ACCEPTED : all[i - odd->count].reply.refused;
         if (i < odd->count)
             next = odd->all[i].next;
         else if (odd->segment && number != UZ_ACCEPTED && !odd->explained[number])
@@ -28,21 +27,15 @@ static void tell_nexts(const part all[PARTS], const part *other, const remarks *
     }
 }
 
-static int tell_part(const part *of) {
-    return of->reply.refused != UZ_ACCEPTED
-               ? tell_refused(of, of->reply.refused, of->reply.id, of->reply.refused_at)
-               : 0;
-}
-
 // That there is no segment says all of the four parts, but not of the file.
-int tell_faults(const part all[PARTS], const part *other, const remarks *odd) {
+int tell_faults(const part all[], unsigned count, const remarks *odd) {
     int status = odd->count > 0;
-    for (unsigned i = 0; odd->segment && i < PARTS; i++)
-        status |= tell_part(&all[i]);
-    if (other != NULL)
-        status |= tell_part(other);
+    for (unsigned i = odd->segment ? 0 : PARTS; i < count; i++)
+        if (all[i].reply.refused != UZ_ACCEPTED)
+            status = tell_refused(&all[i], all[i].reply.refused, all[i].reply.id,
+                                  all[i].reply.refused_at);
     for (unsigned i = 0; i < odd->count; i++)
         fault(all->from->name, odd->all[i].words);
-    tell_nexts(all, other, odd);
+    tell_nexts(all, count, odd);
     return status;
 }

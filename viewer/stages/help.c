@@ -6,10 +6,10 @@
 const char help_text[] =
     "usage: stages [--live] [--hex] FILE [ADDRESS], or stages [--live] --json FILE\n"
     "\n"
-    "Shows title, length, boot stages, bench settings, tracks and attached files of a Matroska\n"
-    "recording, each with its address: the number of bytes before it in the file.\n"
+    "Shows the boot stages, bench settings, tracks and attached files of a Matroska recording,\n"
+    "each with its address: the number of bytes before it in the file.\n"
     "\n"
-    "  stages FILE           Info, editions and their stages by time, tags, tracks, attachments\n"
+    "  stages FILE           editions and their stages by time, then tags, tracks and attachments\n"
     "  stages --json FILE    the same as JSON, in file order, with every address\n"
     "  stages FILE ADDRESS   whose byte that is; decimal, or hexadecimal after 0x\n"
     "  --live                for a recording that was streamed, or whose recorder was stopped:\n"

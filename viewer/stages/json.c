@@ -1,11 +1,9 @@
 // Writes JSON. A shown text keeps every byte: what JSON can't hold as it is, is escaped.
 #include "json.h"
 
-#include "show.h"
 #include "unproved.h"
 
 #include <inttypes.h>
-#include <math.h>
 #include <stdio.h>
 #include <string.h>
 
@@ -69,23 +67,16 @@ void json_null(const char *key) {
     fputs("null", stdout);
 }
 
-// Opens a field with its place; null, and false, for NO_ROW.
-static bool place(const char *key, const part *in, uint64_t row) {
+static void field(const char *key, const part *in, uint64_t row, bool flag) {
     if (row == NO_ROW) {
         json_null(key);
-        return false;
+        return;
     }
     uz_range range = payload_of(in, row);
+    uz_range shown = text_of(in, row);
     json_open(key, '{', false);
     json_number("at", range.at);
     json_number("length", range.length);
-    return true;
-}
-
-static void field(const char *key, const part *in, uint64_t row, bool flag) {
-    if (!place(key, in, row))
-        return;
-    uz_range shown = text_of(in, row);
     if (flag) {
         member("value", false);
         fputs(number_in(in, row) != 0 ? "true" : "false", stdout);
@@ -104,29 +95,6 @@ void json_field(const char *key, const part *in, uint64_t row) {
 
 void json_flag(const char *key, const part *in, uint64_t row) {
     field(key, in, row, true);
-}
-
-void json_float(const char *key, const part *in, uint64_t row) {
-    char words[WORDS_ROOM];
-    if (!place(key, in, row))
-        return;
-    if (isfinite(float_in(in, row))) {
-        member("value", false);
-        float_words(float_in(in, row), words);
-        fputs(words, stdout);
-    }
-    json_close('}');
-}
-
-void json_date(const char *key, const part *in, uint64_t row) {
-    char words[WORDS_ROOM];
-    if (!place(key, in, row))
-        return;
-    member("value", false);
-    printf("%" PRId64, date_in(in, row));
-    date_words(date_in(in, row), words);
-    json_word("utc", words);
-    json_close('}');
 }
 
 void json_nested(const part *in, uint64_t row, unsigned level) {

@@ -21,11 +21,6 @@ void json_null(const char *key);
 void json_field(const char *key, const part *in, uint64_t row);
 void json_flag(const char *key, const part *in, uint64_t row);
 
-// A float and a date, by their rows, likewise. A float that is no finite number has no value; a
-// date is told in nanoseconds, and as a date.
-void json_float(const char *key, const part *in, uint64_t row);
-void json_date(const char *key, const part *in, uint64_t row);
-
 // How an atom or a simple tag is nested: the address of the one that holds it, null on level 0, and
 // the level.
 void json_nested(const part *in, uint64_t row, unsigned level);

@@ -1,8 +1,7 @@
-// Asks the reader for the parts, one by one and all at once, and hands out what their rows hold.
+// Asks the reader for the four parts, and hands out what its rows hold.
 #include "parts.h"
 
 static uint64_t tables[PARTS][UZ_MOST_NUMBERS];
-static uint64_t opened[ALL_PARTS][UZ_MOST_NUMBERS];
 
 void find_parts(const recording *from, part all[PARTS]) {
     static const struct {
@@ -24,53 +23,6 @@ void find_parts(const recording *from, part all[PARTS]) {
         all[i].reply = uz_find_part(from->bytes, (size_t)from->length, all[i].id, all[i].table,
                                     UZ_MOST_NUMBERS, from->mode);
     }
-}
-
-// What is told of a part by an opened recording, as the search tells it.
-static uz_part part_in(uz_found of, uint64_t heads) {
-    return (uz_part){
-        .found = of.found, .at = of.at, .size = of.size, .rows = of.rows, .heads = heads};
-}
-
-void open_parts(const recording *from, opening *to) {
-    find_parts(from, to->all);
-    to->all[INFO_PART] = (part){.name = "Info",
-                                .id = UZ_INFO,
-                                .parent = UZ_UNDER_INFO,
-                                .from = from,
-                                .table = opened[INFO_PART]};
-    for (unsigned i = 0; i < PARTS; i++)
-        to->searched[i] = to->all[i].reply;
-    uz_opened said = uz_open(from->bytes, (size_t)from->length, opened[INFO_PART], UZ_MOST_NUMBERS,
-                             opened[TRACKS_PART], UZ_MOST_NUMBERS, opened[ATTACHMENTS_PART],
-                             UZ_MOST_NUMBERS, opened[CHAPTERS_PART], UZ_MOST_NUMBERS,
-                             opened[TAGS_PART], UZ_MOST_NUMBERS, from->mode);
-    to->whole = (part){.name = "all parts at once",
-                       .from = from,
-                       .reply = {.refused = said.refused,
-                                 .id = said.id,
-                                 .refused_at = said.refused_at,
-                                 .heads = said.heads}};
-    to->all[INFO_PART].reply = to->whole.reply;
-    if (!is_opened(to))
-        return;
-    const uz_found found[ALL_PARTS] = {[TRACKS_PART] = said.tracks,
-                                       [ATTACHMENTS_PART] = said.attachments,
-                                       [CHAPTERS_PART] = said.chapters,
-                                       [TAGS_PART] = said.tags,
-                                       [INFO_PART] = said.info};
-    for (unsigned i = 0; i < ALL_PARTS; i++) {
-        to->all[i].reply = part_in(found[i], said.heads);
-        to->all[i].table = opened[i];
-    }
-}
-
-bool is_opened(const opening *of) {
-    return of->whole.reply.refused == UZ_ACCEPTED;
-}
-
-bool is_elsewhere(const opening *of, unsigned i) {
-    return is_opened(of) && of->searched[i].at != of->all[i].reply.at;
 }
 
 uz_owned owner_in(const part *in, uint64_t address, uint64_t chain[UZ_MOST_LINKS]) {

@@ -1,11 +1,9 @@
-// The parts of a recording, read by the reader and each held in a table of its own.
+// The four parts of a recording, each found by the reader and held in a table of its own.
 #ifndef PARTS_H
 #define PARTS_H
 
 #include "recording.h"
 #include "uzrafmed.h"
-
-#include <stdbool.h>
 
 // A part: what it is, and what the reader says of it.
 typedef struct {
@@ -20,25 +18,8 @@ typedef struct {
 #define PARTS 4
 enum { TRACKS_PART, ATTACHMENTS_PART, CHAPTERS_PART, TAGS_PART };
 
-// Asks for the four parts, in the order above, each by a search of its own.
+// Asks for the four parts, in the order above.
 void find_parts(const recording *from, part all[PARTS]);
-
-// The recording opened, that is all parts read at once. Info comes behind the four.
-#define INFO_PART PARTS
-#define ALL_PARTS (PARTS + 1)
-typedef struct {
-    part whole; // its reply has the refusal, if there is one, and else the heads
-    part all[ALL_PARTS];
-    uz_part searched[PARTS]; // what the search for each of the four says
-} opening;
-
-// Opens it. Where that is refused, so is Info, and the four parts are those of the searches.
-void open_parts(const recording *from, opening *to);
-
-bool is_opened(const opening *of);
-
-// Whether opening and search name different places for one of the four.
-bool is_elsewhere(const opening *of, unsigned i);
 
 // The element of a part that holds a byte, by the headers alone, and the addresses of the headers
 // from the outermost element down to it. An absent or refused part has no bytes, and is refused.

@@ -61,10 +61,9 @@ static void on_no_segment(const recording *from, uint64_t end, remarks *to) {
 
 // A segment of unknown size: plain mode goes astray there, and live mode comes to the end of the
 // file.
-static void on_endless(const recording *from, const part all[], unsigned count, bool astray,
-                       remarks *to) {
+static void on_endless(const recording *from, const part all[PARTS], bool astray, remarks *to) {
     bool cut = false;
-    for (unsigned i = 0; i < count; i++)
+    for (unsigned i = 0; i < PARTS; i++)
         cut = cut || all[i].reply.refused == UZ_PAST_END;
     if (!(from->mode == UZ_LIVE ? cut : astray))
         return;
@@ -79,11 +78,11 @@ static void on_endless(const recording *from, const part all[], unsigned count, 
     to->explained[UZ_PAST_END] = true;
 }
 
-static void on_segment(const recording *from, const header *segment, const part all[],
-                       unsigned count, bool astray, remarks *to) {
+static void on_segment(const recording *from, const header *segment, const part all[PARTS],
+                       bool astray, remarks *to) {
     uint64_t end = segment->payload + segment->size;
     if (segment->unknown) {
-        on_endless(from, all, count, astray, to);
+        on_endless(from, all, astray, to);
     } else if (segment->size == 0 && segment->payload < from->length) {
         add(to,
             "ffmpeg -i FILE -map 0 -c copy NEW.mkv saves film and attached files; chapters and "
@@ -140,11 +139,11 @@ typedef struct {
 
 // Goes over the children of the segment, in plain mode up to one whose size is not known; `endless`
 // is set if that is a Cluster.
-static void walk(const recording *from, const header *segment, const part all[], unsigned count,
-                 bool astray, standing stand[ALL_PARTS], bool *endless, remarks *to) {
+static void walk(const recording *from, const header *segment, const part all[PARTS], bool astray,
+                 standing stand[PARTS], bool *endless, remarks *to) {
     header child = {0, 0, 0, 0, false};
     while (next_in_segment(from, segment, &child)) {
-        for (unsigned i = 0; i < count; i++) {
+        for (unsigned i = 0; i < PARTS; i++) {
             if (child.id != all[i].id)
                 continue;
             bool found = all[i].reply.found != 0;
@@ -235,7 +234,7 @@ static void on_another(const part *of, const standing *stand, remarks *to) {
 static void on_elsewhere(const recording *from, const header *segment, const part *of,
                          uint64_t stands, remarks *to) {
     seek_entry entry;
-    const char *stale = of->id == UZ_INFO ? remux : uz_refusal_words(UZ_STALE_ENTRY).next;
+    const char *stale = uz_refusal_words(UZ_STALE_ENTRY).next;
     uint64_t number = of->reply.refused;
     if (number == UZ_ACCEPTED && to->unfinished) {
         add(to, NULL, "%s stands at %" PRIu64 "; it is not shown, being outside the segment",
@@ -258,9 +257,9 @@ static void on_elsewhere(const recording *from, const header *segment, const par
     }
 }
 
-void find_remarks(const recording *from, const part all[], unsigned count, remarks *to) {
+void find_remarks(const recording *from, const part all[PARTS], remarks *to) {
     header segment;
-    standing stand[ALL_PARTS] = {{0, 0}, {0, 0}, {0, 0}, {0, 0}, {0, 0}};
+    standing stand[PARTS] = {{0, 0}, {0, 0}, {0, 0}, {0, 0}};
     memset(to, 0, sizeof *to);
     to->segment = find_segment(from, &segment);
     // On the way to a segment an unknown size says by itself what is wrong.
@@ -274,14 +273,14 @@ void find_remarks(const recording *from, const part all[], unsigned count, remar
     }
     bool astray = false;
     bool endless = segment.unknown;
-    for (unsigned i = 0; i < count; i++)
+    for (unsigned i = 0; i < PARTS; i++)
         astray = astray || is_astray(&all[i]);
-    on_segment(from, &segment, all, count, astray, to);
+    on_segment(from, &segment, all, astray, to);
     // A segment that was never given its size is gone over up to the end of the file.
     if (to->unfinished)
         segment.size = from->length - segment.payload;
-    walk(from, &segment, all, count, astray, stand, &endless, to);
-    for (unsigned i = 0; i < count; i++) {
+    walk(from, &segment, all, astray, stand, &endless, to);
+    for (unsigned i = 0; i < PARTS; i++) {
         on_unfilled(from, &segment, &all[i], to);
         on_cut_entry(from, &segment, &all[i], to);
         if (stand[i].hidden != 0 && all[i].reply.found != 0)

@@ -21,7 +21,7 @@ typedef struct {
     // The segment has no size yet, so that absent parts say nothing.
     bool unfinished;
     // The header of a part that stands in the segment and is not found, else 0.
-    uint64_t stands[ALL_PARTS];
+    uint64_t stands[PARTS];
     // The refusals that a remark explains better than their own words.
     bool explained[UZ_UNKNOWN_SIZE + 1];
     // What is worth a line though nothing is wrong; else empty.
@@ -31,8 +31,6 @@ typedef struct {
 // Looks at the file where the reader's replies leave something open: a file that is no Matroska or
 // was not finished, one that ends before its segment does, parts that a seek head hides or leads
 // past, parts that are there more than once, sizes that are not known and call for live mode.
-// `all` has the four parts, and if `count` is one more, Info, which is refused if all parts at once
-// are.
-void find_remarks(const recording *from, const part all[], unsigned count, remarks *to);
+void find_remarks(const recording *from, const part all[PARTS], remarks *to);
 
 #endif

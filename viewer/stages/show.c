@@ -2,8 +2,6 @@
 #include "show.h"
 
 #include <inttypes.h>
-#include <math.h>
-#include <stdlib.h>
 
 bool addresses_in_hex = false;
 
@@ -61,48 +59,6 @@ void show_time(uint64_t nanoseconds) {
     uint64_t minutes = seconds / 60;
     printf("%" PRIu64 ":%02" PRIu64 ":%02" PRIu64 ".%03" PRIu64, minutes / 60, minutes % 60,
            seconds % 60, milliseconds % 1000);
-}
-
-void float_words(double number, char words[WORDS_ROOM]) {
-    double size = number < 0 ? -number : number;
-    bool plain = size == 0 || (size >= 1e-4 && size < 1e15);
-    if (isnan(number)) {
-        snprintf(words, WORDS_ROOM, "nan");
-        return;
-    }
-    for (int digits = 0; digits <= 20; digits++) {
-        snprintf(words, WORDS_ROOM, plain ? "%.*f" : "%.*e", digits, number);
-        if (strtod(words, NULL) == number)
-            return;
-    }
-}
-
-static int days_in(int64_t year, int month) {
-    static const int days[12] = {31, 28, 31, 30, 31, 30, 31, 31, 30, 31, 30, 31};
-    bool leap = (year % 4 == 0 && year % 100 != 0) || year % 400 == 0;
-    return days[month] + (month == 1 && leap);
-}
-
-void date_words(int64_t nanoseconds, char words[WORDS_ROOM]) {
-    const int64_t in_a_day = INT64_C(86400000);
-    int64_t milliseconds = nanoseconds / 1000000 - (nanoseconds % 1000000 < 0);
-    int64_t day = milliseconds / in_a_day - (milliseconds % in_a_day < 0);
-    int64_t left = milliseconds - day * in_a_day;
-    int64_t year = 2001;
-    int month = 0;
-    // Of 400 years each has its length again, so that no date is before the first of them.
-    for (; day < 0; year -= 400)
-        day += 146097;
-    while (day >= days_in(year, month)) {
-        day -= days_in(year, month);
-        month = (month + 1) % 12;
-        year += month == 0;
-    }
-    snprintf(words, WORDS_ROOM,
-             "%04" PRId64 "-%02d-%02d"
-             "T%02d:%02d:%02d.%03dZ",
-             year, month + 1, (int)day + 1, (int)(left / 3600000), (int)(left / 60000 % 60),
-             (int)(left / 1000 % 60), (int)(left % 1000));
 }
 
 void show_indent(unsigned levels) {

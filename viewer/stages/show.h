@@ -31,13 +31,6 @@ void show_both(FILE *out, uint64_t address);
 // A time in nanoseconds as h:mm:ss.mmm, cut and not rounded.
 void show_time(uint64_t nanoseconds);
 
-// A float in the fewest digits that give it back, with an exponent where it is very large or small,
-// or nan, inf or -inf; and a date in nanoseconds from
-// 2001-01-01 on as YYYY-MM-DDThh:mm:ss.mmmZ, cut and not rounded.
-#define WORDS_ROOM 64
-void float_words(double number, char words[WORDS_ROOM]);
-void date_words(int64_t nanoseconds, char words[WORDS_ROOM]);
-
 // Two spaces for each level.
 void show_indent(unsigned levels);
 

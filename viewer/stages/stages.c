@@ -5,7 +5,6 @@
 #include "chapters.h"
 #include "faults.h"
 #include "help.h"
-#include "info.h"
 #include "json.h"
 #include "parts.h"
 #include "remarks.h"
@@ -21,57 +20,32 @@
 
 // The parts that are not there, in one line on standard error, and what is worth a note. That is no
 // fault.
-static void tell_absent(const opening *of, const remarks *odd) {
+static void tell_absent(const part all[PARTS], const remarks *odd) {
     char words[80] = "not in the recording:";
     size_t length = strlen(words);
     size_t before = length;
-    for (unsigned i = 0; i < ALL_PARTS; i++)
-        if (of->all[i].reply.refused == UZ_ACCEPTED && of->all[i].reply.found == 0 &&
-            odd->stands[i] == 0)
+    for (unsigned i = 0; i < PARTS; i++)
+        if (all[i].reply.refused == UZ_ACCEPTED && all[i].reply.found == 0 && odd->stands[i] == 0)
             length += (size_t)snprintf(words + length, sizeof words - length, "%s %s",
-                                       length > before ? "," : "", of->all[i].name);
+                                       length > before ? "," : "", all[i].name);
     if (length > before && !odd->unfinished)
-        fault(of->whole.from->name, words);
+        fault(all->from->name, words);
     if (odd->note[0] != '\0')
-        fault(of->whole.from->name, odd->note);
-    if (!is_opened(of) && odd->segment)
-        fault(of->whole.from->name, "not all parts can be read at once: each was searched for by "
-                                    "itself, and Info is not shown");
-}
-
-// A line for each part that is shown from another place than its search leads to.
-static void tell_elsewhere(const opening *of) {
-    for (unsigned i = 0; i < PARTS; i++) {
-        if (!is_elsewhere(of, i))
-            continue;
-        printf("%s has its payload at ", of->all[i].name);
-        show_address(of->all[i].reply.at);
-        printf(", read with all parts at once; the search for %s alone finds one at ",
-               of->all[i].name);
-        show_address(of->searched[i].at);
-        putchar('\n');
-    }
-}
-
-// What is wrong with the recording; without a segment the remark says it.
-static int tell_wrong(const opening *of, const remarks *odd) {
-    return tell_faults(of->all, odd->segment ? &of->whole : NULL, odd);
+        fault(all->from->name, odd->note);
 }
 
 static int list(const recording *from) {
-    opening of;
+    part all[PARTS];
     remarks odd;
-    open_parts(from, &of);
-    find_remarks(from, of.all, ALL_PARTS, &odd);
-    tell_info(&of.all[INFO_PART]);
-    tell_elsewhere(&of);
-    tell_chapters(&of.all[CHAPTERS_PART]);
-    tell_tags(of.all);
-    tell_tracks(&of.all[TRACKS_PART]);
-    tell_attachments(&of.all[ATTACHMENTS_PART]);
+    find_parts(from, all);
+    find_remarks(from, all, &odd);
+    tell_chapters(&all[CHAPTERS_PART]);
+    tell_tags(all);
+    tell_tracks(&all[TRACKS_PART]);
+    tell_attachments(&all[ATTACHMENTS_PART]);
     fflush(stdout);
-    tell_absent(&of, &odd);
-    return tell_wrong(&of, &odd);
+    tell_absent(all, &odd);
+    return tell_faults(all, PARTS, &odd);
 }
 
 // An id as it is written everywhere else, in hexadecimal digits.
@@ -102,21 +76,7 @@ static void json_refusal(const part *of) {
     json_word("next", words.next);
 }
 
-// All parts at once: how many heads were read, or the refusal.
-static void json_whole(const part *of) {
-    json_open("open", '{', true);
-    if (of->reply.refused != UZ_ACCEPTED) {
-        json_word("state", "refused");
-        json_refusal(of);
-    } else {
-        json_word("state", "read");
-        json_number("heads", of->reply.heads);
-    }
-    json_close('}');
-}
-
-// `searched`: where the search finds it, if that is elsewhere, else 0.
-static void json_part(const part *of, uint64_t stands, uint64_t searched) {
+static void json_part(const part *of, uint64_t stands) {
     json_open(NULL, '{', true);
     json_word("name", of->name);
     json_id("id", of->id);
@@ -136,28 +96,21 @@ static void json_part(const part *of, uint64_t stands, uint64_t searched) {
     } else {
         json_null("stands");
     }
-    if (searched != 0)
-        json_number("searched", searched);
     json_close('}');
 }
 
-static void json_parts(const opening *of, const remarks *odd) {
-    json_open("parts", '[', true);
-    for (unsigned i = 0; i < PARTS; i++)
-        json_part(&of->all[i], odd->stands[i], is_elsewhere(of, i) ? of->searched[i].at : 0);
-    json_close(']');
-}
-
 static int list_json(const recording *from) {
-    opening of;
+    part all[PARTS];
     remarks odd;
-    open_parts(from, &of);
-    find_remarks(from, of.all, ALL_PARTS, &odd);
+    find_parts(from, all);
+    find_remarks(from, all, &odd);
     json_open(NULL, '{', false);
     json_number("length", from->length);
     json_word("mode", from->mode == UZ_LIVE ? "live" : "plain");
-    json_whole(&of.whole);
-    json_parts(&of, &odd);
+    json_open("parts", '[', true);
+    for (unsigned i = 0; i < PARTS; i++)
+        json_part(&all[i], odd.stands[i]);
+    json_close(']');
     json_open("remarks", '[', true);
     for (unsigned i = 0; i < odd.count; i++) {
         json_open(NULL, '{', true);
@@ -170,14 +123,13 @@ static int list_json(const recording *from) {
         json_word("note", odd.note);
     else
         json_null("note");
-    json_info(&of.all[INFO_PART], odd.stands[INFO_PART]);
-    json_chapters(&of.all[CHAPTERS_PART]);
-    json_tags(&of.all[TAGS_PART]);
-    json_tracks(&of.all[TRACKS_PART]);
-    json_attachments(&of.all[ATTACHMENTS_PART]);
+    json_chapters(&all[CHAPTERS_PART]);
+    json_tags(&all[TAGS_PART]);
+    json_tracks(&all[TRACKS_PART]);
+    json_attachments(&all[ATTACHMENTS_PART]);
     json_end();
     fflush(stdout);
-    return tell_wrong(&of, &odd);
+    return tell_faults(all, PARTS, &odd);
 }
 
 static int answer(const arguments *asked) {

@@ -3,8 +3,6 @@
 
 #include "ids.h"
 
-#include <string.h>
-
 uint64_t first_row(uint64_t parent) {
     return parent == NO_ROW ? 0 : parent + 1;
 }
@@ -74,34 +72,6 @@ uint64_t number_in(const part *in, uint64_t row) {
 
 bool flag_in(const part *in, uint64_t row, bool unset) {
     return row == NO_ROW ? unset : number_in(in, row) != 0;
-}
-
-// The bits of a float are those of the machine's, in the order of the number.
-double float_in(const part *in, uint64_t row) {
-    uint64_t bits = number_in(in, row);
-    uint32_t half = (uint32_t)bits;
-    float single = 0;
-    double number = 0;
-    if (payload_of(in, row).length == sizeof number) {
-        memcpy(&number, &bits, sizeof number);
-        return number;
-    }
-    memcpy(&single, &half, sizeof single);
-    return (double)single;
-}
-
-int64_t date_in(const part *in, uint64_t row) {
-    uint64_t bits = number_in(in, row);
-    int64_t date = 0;
-    memcpy(&date, &bits, sizeof date);
-    return date;
-}
-
-uint64_t nanoseconds_of(double duration, uint64_t scale) {
-    double product = duration * (double)scale;
-    if (!(product > 0))
-        return 0;
-    return product < 18446744073709551616.0 ? (uint64_t)product : UINT64_MAX;
 }
 
 uint64_t next_string(const part *in, uint64_t atom, uint64_t from, uint64_t *display) {

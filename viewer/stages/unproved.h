@@ -1,9 +1,8 @@
 // What the viewer works out itself because the C face has no call for it yet: the children of a
-// row, the row of an owner, the number, float or date in a row, a duration in nanoseconds, a
-// chapter's first display, whether a text is a label, a tag's value, a track's type, a header, the
-// walk over the segment's children with the endings of live mode, and the entries of seek heads.
-// None of this is proved. The reader has a proved form of each but the duration, and this file goes
-// when the C face has it too.
+// row, the row of an owner, the number in a row, a chapter's first display, whether a text is a
+// label, a tag's value, a track's type, a header, the walk over the segment's children with the
+// endings of live mode, and the entries of seek heads. None of this is proved. The reader has a
+// proved form of each, and this file goes when the C face has it too.
 #ifndef UNPROVED_H
 #define UNPROVED_H
 
@@ -45,14 +44,6 @@ uint64_t tag_value(const part *in, uint64_t simple);
 // The unsigned number in a row of up to eight bytes; a flag is set if it is not 0.
 uint64_t number_in(const part *in, uint64_t row);
 bool flag_in(const part *in, uint64_t row, bool unset);
-
-// The float in a row of four or eight bytes, and the signed number in one of eight: a date.
-double float_in(const part *in, uint64_t row);
-int64_t date_in(const part *in, uint64_t row);
-
-// A duration in nanoseconds, by the timestamp scale: what is negative or no number is 0, and what
-// is larger than 2^64-1 is that.
-uint64_t nanoseconds_of(double duration, uint64_t scale);
 
 // The string of a chapter's first display that has one, from row `from` on as for next_child, and
 // the display itself.

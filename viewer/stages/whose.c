@@ -71,19 +71,20 @@ static bool tell_in_file(part *file, uint64_t address) {
 }
 
 int tell_whose(const recording *from, uint64_t address) {
-    part all[PARTS];
-    // The file itself, as one payload without an end.
-    part file = {.name = "file", .from = from, .reply = {.size = UINT64_MAX}};
+    // Behind the four parts the file itself, as one payload without an end.
+    part all[PARTS + 1] = {
+        [PARTS] = {.name = "file", .from = from, .reply = {.size = UINT64_MAX}},
+    };
     remarks odd;
     find_parts(from, all);
-    find_remarks(from, all, PARTS, &odd);
+    find_remarks(from, all, &odd);
     int status = odd.count > 0;
     bool held = tell_seek_head(from, address, &status);
-    held = tell_parts(all, address) || tell_in_file(&file, address) || held;
+    held = tell_parts(all, address) || tell_in_file(&all[PARTS], address) || held;
     if (!held) {
         show_address(address);
         puts(" lies in no part that could be read");
     }
     fflush(stdout);
-    return tell_faults(all, &file, &odd) | status;
+    return tell_faults(all, PARTS + 1, &odd) | status;
 }
