@@ -1,0 +1,9 @@
+-- `spot_of` meets its contract. Assumes nothing.
+use Rattle.locate_rules.proofs.Ways.{spot_fits, spot_at}
+use Rattle.locate.proofs.steps.spot_of.Goals as goal
+
+pub overflow_add-result : goal.overflow_add-result
+overflow_add-result c = search spot_fits
+
+pub returns-in-At : goal.returns-in-At
+returns-in-At c = search spot_at
