@@ -1,0 +1,41 @@
+-- `whose_byte` meets its contract: 14, 15, the reading into the cleared table, the walk over its rows. Assumes nothing.
+use mathlib.Core.Path.{sym, ◌∙◌}
+use Rattle.elements_rules.proofs.Whole.{zeros_as, allowed_as, as_lent}
+use Rattle.places_rules.proofs.Asked.{asked_broken, asked_outside, asked_refused, asked_rows, asked_found}
+use Rattle.places.proofs.whose.whose_byte.Goals as goal
+
+pub returns-then-not-is_allowed : goal.returns-then-not-is_allowed
+returns-then-not-is_allowed c =
+    let a = sym (c.is_allowed.ensures ∙ allowed_as _ _ c.clear.auto.table) ∙ c.if-not-is_allowed.true in
+    asked_broken _ _ _ _ _ _ _ _ a c.clear.ensures
+
+pub returns-then-not-is_within : goal.returns-then-not-is_within
+returns-then-not-is_within c =
+    let a = sym (c.is_allowed.ensures ∙ allowed_as _ _ c.clear.auto.table) ∙ c.if-not-is_allowed.false in
+    let w = sym c.is_within.ensures ∙ c.if-not-is_within.true in
+    asked_outside _ _ _ _ _ _ _ _ a w c.clear.ensures
+
+pub fill-requires : goal.fill-requires
+fill-requires c =
+    record {
+      table_value = sym c.is_allowed.ensures ∙ c.if-not-is_allowed.false;
+      table_value_2 = c.clear.ensures ∙ zeros_as (sym c.clear.auto.table);
+    }
+
+pub find-requires : goal.find-requires
+find-requires c =
+    asked_rows _ _ _ _ _ _ _ _ (c.in-Rows.ensures)
+
+pub returns-in-Refused : goal.returns-in-Refused
+returns-in-Refused c =
+    let a = sym (c.is_allowed.ensures ∙ allowed_as _ _ c.clear.auto.table) ∙ c.if-not-is_allowed.false in
+    let w = sym c.is_within.ensures ∙ c.if-not-is_within.false in
+    let p = c.in-Refused.ensures in
+    asked_refused _ _ _ _ _ _ _ _ a w _ (as_lent _ _ _ _ _ _ _ _ _ c.clear.auto.table p)
+
+pub returns-in-Rows : goal.returns-in-Rows
+returns-in-Rows c =
+    let a = sym (c.is_allowed.ensures ∙ allowed_as _ _ c.clear.auto.table) ∙ c.if-not-is_allowed.false in
+    let w = sym c.is_within.ensures ∙ c.if-not-is_within.false in
+    let p = c.in-Rows.ensures in
+    asked_found _ _ _ _ _ _ _ _ a w _ _ (as_lent _ _ _ _ _ _ _ _ _ c.clear.auto.table p) c.find.ensures
