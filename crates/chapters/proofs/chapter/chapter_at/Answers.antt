@@ -1,0 +1,13 @@
+-- `chapter_at` meets its contract: the master is found, and its fields are told. Assumes nothing.
+use Rattle.chapters.specs.Records.{chapter_of}
+use Rattle.locate_rules.proofs.Told.{readable_at, told_refused, told_below}
+use Rattle.chapters.proofs.chapter.chapter_at.Goals as goal
+
+pub chapter_in-requires : goal.chapter_in-requires
+chapter_in-requires c = search readable_at
+
+pub returns-in-Refused : goal.returns-in-Refused
+returns-in-Refused c = search told_refused
+
+pub returns-in-At : goal.returns-in-At
+returns-in-At c = search (told_below chapter_of)

@@ -1,0 +1,17 @@
+-- `string_of` meets its contract: the string below the display's row. Assumes nothing.
+use Prim.Native.Nat.{ℕ}
+use mathlib.Core.List.{List}
+use Rattle.kinds.specs.declared.kind.Kind.TheVariants.{Utf8}
+use Rattle.elements_rules.specs.declared.row.Row.{Row}
+use Rattle.fields_rules.specs.Fields.{content_of}
+use Rattle.locate_rules.proofs.Inner.{inner_readable, inner_fields}
+use Rattle.chapters.proofs.first.string_of.Goals as goal
+
+pub returns : goal.returns
+returns c =
+    let s = c.args.recording.now in
+    inner_fields (λ (y : ℕ) (x : List Row). content_of s y x 0x85 Utf8) _ _ _ c.rows_below-master.ensures
+    c.content_field.ensures
+
+pub content_field-requires : goal.content_field-requires
+content_field-requires c = search inner_readable
