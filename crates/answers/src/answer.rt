@@ -2,10 +2,11 @@
 use crate::told::Told;
 use crate::{rows, told};
 use lines::{numbers, out};
+use std::alloc::AllocError;
 
 // The answer to a line that is no question.
-pub fn bad(out: &mut [u8; 65536], held: usize) -> usize {
-    out::put(out, held, b"bad question")
+pub fn bad(out: &mut Vec<u8>) -> Result<(), AllocError> {
+    out::put(out, b"bad question")
 }
 
 // What is told. `entry` is the question's line in the list of questions: its name, its form, and the words of its
@@ -15,21 +16,17 @@ pub fn put_told(
     entry: &[u8],
     bytes: &[u8],
     table: &[u64],
-    out: &mut [u8; 65536],
-    held: usize,
-) -> usize {
+    out: &mut Vec<u8>,
+) -> Result<(), AllocError> {
     let count = told[0];
-    let mut now = held;
-    let mut k: usize = 0;
-    while k < 32 {
+    for k in 0..32usize {
         if (k as u64) < count {
             let at = 5 + 5 * k;
-            now = put_words(k, entry, told[at], told[at + 1], out, now);
-            now = put_value(told[at + 2], told[at + 3], told[at + 4], bytes, out, now);
+            put_words(k, entry, told[at], told[at + 1], out)?;
+            put_value(told[at + 2], told[at + 3], told[at + 4], bytes, out)?;
         }
-        k += 1;
     }
-    put_ending(count, told[1], told[2], told[3], told[4], table, out, now)
+    put_ending(count, told[1], told[2], told[3], told[4], table, out)
 }
 
 // The word of a cell behind `before` others, and its sign.
@@ -38,12 +35,11 @@ fn put_words(
     entry: &[u8],
     word: u64,
     sign: u64,
-    out: &mut [u8; 65536],
-    held: usize,
-) -> usize {
-    let n = put_word(before as u64, word_of(entry, word), out, held);
+    out: &mut Vec<u8>,
+) -> Result<(), AllocError> {
+    put_word(before as u64, word_of(entry, word), out)?;
     let signs = b" unset no yes nan iso ietf text binary";
-    put_word(sign, words::word(signs, sign as usize), out, n)
+    put_word(sign, words::word(signs, sign as usize), out)
 }
 
 // The words of the answer stand behind the question's name and its form.
@@ -55,35 +51,41 @@ fn word_of(entry: &[u8], word: u64) -> &[u8] {
 }
 
 // A word, and a space in front of it where `gap` is not 0.
-fn put_word(gap: u64, word: &[u8], out: &mut [u8; 65536], held: usize) -> usize {
+fn put_word(gap: u64, word: &[u8], out: &mut Vec<u8>) -> Result<(), AllocError> {
     if gap == 0 {
-        return out::put(out, held, word);
+        return out::put(out, word);
     }
-    let n = out::put(out, held, b" ");
-    out::put(out, n, word)
+    out::put(out, b" ")?;
+    out::put(out, word)
 }
 
 // A value behind its word.
-fn put_value(kind: u64, a: u64, b: u64, bytes: &[u8], out: &mut [u8; 65536], held: usize) -> usize {
+fn put_value(
+    kind: u64,
+    a: u64,
+    b: u64,
+    bytes: &[u8],
+    out: &mut Vec<u8>,
+) -> Result<(), AllocError> {
     let gap = b" ";
     match kind {
-        told::DECIMAL => numbers::put_decimal(out, held, gap, a),
-        told::NEGATIVE => numbers::put_decimal(out, held, b" -", a),
-        told::HEX => numbers::put_hex(out, held, gap, a, b as usize),
-        told::RANGE => put_range(a, b, out, held),
-        told::BYTES => numbers::put_bytes(out, held, gap, bytes),
+        told::DECIMAL => numbers::put_decimal(out, gap, a),
+        told::NEGATIVE => numbers::put_decimal(out, b" -", a),
+        told::HEX => numbers::put_hex(out, gap, a, b as usize),
+        told::RANGE => put_range(a, b, out),
+        told::BYTES => numbers::put_bytes(out, gap, bytes),
         told::RANGE_BYTES => {
-            let n = put_range(a, b, out, held);
-            numbers::put_bytes(out, n, gap, bytes)
+            put_range(a, b, out)?;
+            numbers::put_bytes(out, gap, bytes)
         }
-        _ => held,
+        _ => Ok(()),
     }
 }
 
 // ` ADDRESS+LENGTH`
-fn put_range(address: u64, length: u64, out: &mut [u8; 65536], held: usize) -> usize {
-    let n = numbers::put_decimal(out, held, b" ", address);
-    numbers::put_decimal(out, n, b"+", length)
+fn put_range(address: u64, length: u64, out: &mut Vec<u8>) -> Result<(), AllocError> {
+    numbers::put_decimal(out, b" ", address)?;
+    numbers::put_decimal(out, b"+", length)
 }
 
 // What follows the cells, of which there are `before`.
@@ -94,20 +96,19 @@ fn put_ending(
     b: u64,
     c: u64,
     table: &[u64],
-    out: &mut [u8; 65536],
-    held: usize,
-) -> usize {
+    out: &mut Vec<u8>,
+) -> Result<(), AllocError> {
     match ending {
         told::ROWS | told::REST => {
-            let n = put_word(before, b"rows", out, held);
-            rows::put_rows(a, ending == told::ROWS, table, out, n)
+            put_word(before, b"rows", out)?;
+            rows::put_rows(a, ending == told::ROWS, table, out)
         }
-        told::REFUSED => put_refused(a, b, c, out, held),
+        told::REFUSED => put_refused(a, b, c, out),
         told::UNREAD => {
-            let n = put_refused(a, b, c, out, held);
-            rows::put_zeros(b" table ", table, 0, out, n)
+            put_refused(a, b, c, out)?;
+            rows::put_zeros(b" table ", table, 0, out)
         }
-        _ => held,
+        _ => Ok(()),
     }
 }
 
@@ -116,18 +117,17 @@ pub fn put_refused(
     number: u64,
     id: u64,
     address: u64,
-    out: &mut [u8; 65536],
-    held: usize,
-) -> usize {
-    let n = numbers::put_decimal(out, held, b"refused ", number);
-    let named = put_named(number, id, out, n);
-    numbers::put_decimal(out, named, b" at ", address)
+    out: &mut Vec<u8>,
+) -> Result<(), AllocError> {
+    numbers::put_decimal(out, b"refused ", number)?;
+    put_named(number, id, out)?;
+    numbers::put_decimal(out, b" at ", address)
 }
 
 // The id that 8 carries.
-fn put_named(number: u64, id: u64, out: &mut [u8; 65536], held: usize) -> usize {
+fn put_named(number: u64, id: u64, out: &mut Vec<u8>) -> Result<(), AllocError> {
     if number == 8 {
-        return numbers::put_hex(out, held, b" ", id, 1);
+        return numbers::put_hex(out, b" ", id, 1);
     }
-    held
+    Ok(())
 }

@@ -7,6 +7,7 @@ use lines::{numbers, out};
 use open_rules::{OpenReply, Part, Parts};
 use questions::open::{AskedOpen, asked_open};
 use questions::table::MOST_ASKED;
+use std::alloc::AllocError;
 
 // The answer to a line whose question, at the place `name`, is `open`.
 pub fn open(
@@ -18,9 +19,8 @@ pub fn open(
     attachments: &mut [u64; MOST_ASKED],
     chapters: &mut [u64; MOST_ASKED],
     tags: &mut [u64; MOST_ASKED],
-    out: &mut [u8; 65536],
-    held: usize,
-) -> usize
+    out: &mut Vec<u8>,
+) -> Result<(), AllocError>
     requires { name ≤ 1 }
 {
     let asked = asked_open(
@@ -34,7 +34,7 @@ pub fn open(
         tags,
     );
     if !asked.good {
-        return bad(out, held);
+        return bad(out);
     }
     lend(
         asked,
@@ -45,7 +45,6 @@ pub fn open(
         chapters,
         tags,
         out,
-        held,
     )
 }
 
@@ -58,9 +57,8 @@ fn lend(
     attachments: &mut [u64],
     chapters: &mut [u64],
     tags: &mut [u64],
-    out: &mut [u8; 65536],
-    held: usize,
-) -> usize
+    out: &mut Vec<u8>,
+) -> Result<(), AllocError>
     requires { (asked.bytes ≤ length recording.now) × (asked.info ≤ length info.old)
         × (asked.tracks ≤ length tracks.old) × (asked.attachments ≤ length attachments.old)
         × (asked.chapters ≤ length chapters.old) × (asked.tags ≤ length tags.old) }
@@ -80,7 +78,6 @@ fn lend(
         &mut chapters[..fourth],
         &mut tags[..fifth],
         out,
-        held,
     )
 }
 
@@ -93,9 +90,8 @@ fn put_open(
     attachments: &mut [u64],
     chapters: &mut [u64],
     tags: &mut [u64],
-    out: &mut [u8; 65536],
-    held: usize,
-) -> usize {
+    out: &mut Vec<u8>,
+) -> Result<(), AllocError> {
     match open::open(recording, live, info, tracks, attachments, chapters, tags) {
         OpenReply::Refused(refusal) => put_unopened(
             refusal,
@@ -105,11 +101,10 @@ fn put_open(
             chapters,
             tags,
             out,
-            held,
         ),
         OpenReply::Read { parts, heads } => {
-            let n = numbers::put_decimal(out, held, b"heads ", heads);
-            put_parts(parts, info, tracks, attachments, chapters, tags, out, n)
+            numbers::put_decimal(out, b"heads ", heads)?;
+            put_parts(parts, info, tracks, attachments, chapters, tags, out)
         }
     }
 }
@@ -122,26 +117,30 @@ fn put_parts(
     attachments: &[u64],
     chapters: &[u64],
     tags: &[u64],
-    out: &mut [u8; 65536],
-    held: usize,
-) -> usize {
+    out: &mut Vec<u8>,
+) -> Result<(), AllocError> {
     let first = parts.info;
     let second = parts.tracks;
     let third = parts.attachments;
     let fourth = parts.chapters;
     let fifth = parts.tags;
-    let n = put_part(b" info", first, info, out, held);
-    let n = put_part(b" tracks", second, tracks, out, n);
-    let n = put_part(b" attachments", third, attachments, out, n);
-    let n = put_part(b" chapters", fourth, chapters, out, n);
-    put_part(b" tags", fifth, tags, out, n)
+    put_part(b" info", first, info, out)?;
+    put_part(b" tracks", second, tracks, out)?;
+    put_part(b" attachments", third, attachments, out)?;
+    put_part(b" chapters", fourth, chapters, out)?;
+    put_part(b" tags", fifth, tags, out)
 }
 
 // A part behind its name.
-fn put_part(name: &[u8], part: Part, table: &[u64], out: &mut [u8; 65536], held: usize) -> usize {
-    let n = out::put(out, held, name);
+fn put_part(
+    name: &[u8],
+    part: Part,
+    table: &[u64],
+    out: &mut Vec<u8>,
+) -> Result<(), AllocError> {
+    out::put(out, name)?;
     match part {
-        Part::Absent => put_absent(table, out, n),
-        Part::Found { at, size, rows } => put_found(at, size, rows, table, out, n),
+        Part::Absent => put_absent(table, out),
+        Part::Found { at, size, rows } => put_found(at, size, rows, table, out),
     }
 }

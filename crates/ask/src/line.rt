@@ -19,6 +19,7 @@ use questions::asked::{Asked, asked_of, name_place};
 use questions::list::entry_of;
 use questions::table::MOST_ASKED;
 use replies::{label, record, shown_bytes};
+use std::alloc::AllocError;
 
 // The questions that are answered with bytes, by their numbers in the list.
 const LABEL: usize = 6;
@@ -42,12 +43,11 @@ pub fn answer(
     attachments: &mut [u64; MOST_ASKED],
     chapters: &mut [u64; MOST_ASKED],
     tags: &mut [u64; MOST_ASKED],
-    out: &mut [u8; 65536],
-    held: usize,
-) -> usize {
+    out: &mut Vec<u8>,
+) -> Result<(), AllocError> {
     let name = name_place(line);
     if words::same(words::word(line, name), b"open") {
-        let n = open(
+        open(
             line,
             name,
             recording,
@@ -57,9 +57,8 @@ pub fn answer(
             chapters,
             tags,
             out,
-            held,
-        );
-        return out::put(out, n, b"\n");
+        )?;
+        return out::put(out, b"\n");
     }
     let list = b"\
         header ab id size length\n\
@@ -88,8 +87,8 @@ pub fn answer(
         info astkb uid previous next families title duration scale date muxing writing\n\
         family astkib uid\n\
         shown asptrb text\n";
-    let n = put_answer(list, line, recording, table, out, held);
-    out::put(out, n, b"\n")
+    put_answer(list, line, recording, table, out)?;
+    out::put(out, b"\n")
 }
 
 // The answer by the line of its question in the list.
@@ -98,9 +97,8 @@ fn put_answer(
     line: &[u8],
     recording: &mut [u8; 65536],
     table: &mut [u64; MOST_ASKED],
-    out: &mut [u8; 65536],
-    held: usize,
-) -> usize {
+    out: &mut Vec<u8>,
+) -> Result<(), AllocError> {
     let name = name_place(line);
     let entry = entry_of(list, words::word(line, name));
     let from = entry.from;
@@ -113,10 +111,10 @@ fn put_answer(
         table,
     );
     if !asked.good {
-        return bad(out, held);
+        return bad(out);
     }
     if asked.live && entry.number < FIRST_LIVE {
-        return bad(out, held);
+        return bad(out);
     }
     lend(
         entry.number,
@@ -126,7 +124,6 @@ fn put_answer(
         recording,
         table,
         out,
-        held,
     )
 }
 
@@ -138,9 +135,8 @@ fn lend(
     asked: Asked,
     recording: &[u8],
     table: &mut [u64],
-    out: &mut [u8; 65536],
-    held: usize,
-) -> usize
+    out: &mut Vec<u8>,
+) -> Result<(), AllocError>
     requires { (asked.bytes ≤ length recording.now) × (asked.numbers ≤ length table.old) }
 {
     let bytes = asked.bytes;
@@ -153,7 +149,6 @@ fn lend(
         &recording[..bytes],
         &mut table[..numbers],
         out,
-        held,
     )
 }
 
@@ -165,15 +160,14 @@ fn reply(
     asked: Asked,
     recording: &[u8],
     table: &mut [u64],
-    out: &mut [u8; 65536],
-    held: usize,
-) -> usize {
+    out: &mut Vec<u8>,
+) -> Result<(), AllocError> {
     if question == LABEL {
-        return label(asked, words::word(line, 2), recording, out, held);
+        return label(asked, words::word(line, 2), recording, out);
     }
     let told = base(question, asked, recording, table);
     let bytes = bytes_of(question, asked, recording, table);
-    put_told(told, entry, bytes, table, out, held)
+    put_told(told, entry, bytes, table, out)
 }
 
 // What the answer tells, by the number of the question.

@@ -15,6 +15,8 @@ mod ask_whose;
 mod line;
 mod stream;
 
-fn main() {
-    stream::answer_all();
+use std::io;
+
+fn main(rt: HostRuntime) -> io::Result<()> {
+    stream::answer_all(rt.alloc(), &mut rt.reader(), &mut io::writer(&rt))
 }

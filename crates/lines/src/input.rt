@@ -1,28 +1,26 @@
-// Standard input, read piece by piece into room that is lent.
-ghost use Rattle.std.specs.Prelude.{◌≡◌, ◌+◌, ◌≤◌, length, take, drop};
+// Input, read piece by piece into room that is lent.
+ghost use Rattle.std.specs.Prelude.{◌≡◌, ◌+◌, ◌≤◌, length, take, drop, IfOk};
 ghost use Rattle.lines.specs.Bounds.{Behind};
 
-// What one read brought: bytes behind those held, the end of the input, or a failure.
+use std::io;
+use std::io::Read;
+
+// What one read brought: bytes behind those held, or the end of the input.
 #[derive(Clone, Copy)]
 pub enum Got {
     Bytes(usize),
     Ended,
-    Failed,
 }
 
-pub fn read_more(room: &mut [u8], held: usize) -> Got
+pub fn read_more<R: Read>(input: &mut R, room: &mut [u8], held: usize) -> io::Result<Got>
     requires { held ≤ length room.old }
-    ensures { Behind held (length room.old) result }
+    ensures { IfOk result (Behind held (length room.old)) }
 {
-    let got = libc::read(0, &mut room[held..]);
-    if got < 0 {
-        return Got::Failed;
-    }
-    let n = io::count(got, &room[held..]);
+    let n = input.read(&mut room[held..])?;
     if n == 0 {
-        return Got::Ended;
+        return Ok(Got::Ended);
     }
-    Got::Bytes(n)
+    Ok(Got::Bytes(n))
 }
 
 // Moves the n bytes from `from` on to the start of the room.

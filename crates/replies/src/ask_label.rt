@@ -5,6 +5,7 @@ use fields_rules::Content;
 use labels::stage_label;
 use lines::numbers;
 use questions::asked::Asked;
+use std::alloc::AllocError;
 use words::Spelt;
 
 // `word` is LABEL, which is spelt into room of its own.
@@ -12,14 +13,13 @@ pub fn label(
     asked: Asked,
     word: &[u8],
     recording: &[u8],
-    out: &mut [u8; 65536],
-    held: usize,
-) -> usize {
+    out: &mut Vec<u8>,
+) -> Result<(), AllocError> {
     let mut room = [0u8; 65536];
     let spelt = words::spell(word, &mut room);
     match spelt {
-        Spelt::Bad => bad(out, held),
-        Spelt::Bytes(length) => label_told(asked, recording, &room, length, out, held),
+        Spelt::Bad => bad(out),
+        Spelt::Bytes(length) => label_told(asked, recording, &room, length, out),
     }
 }
 
@@ -29,15 +29,14 @@ fn label_told<'a>(
     recording: &'a [u8],
     room: &'a [u8; 65536],
     length: usize,
-    out: &mut [u8; 65536],
-    held: usize,
-) -> usize {
+    out: &mut Vec<u8>,
+) -> Result<(), AllocError> {
     let whole: &[u8] = room;
     if whole.len() < length {
-        return bad(out, held);
+        return bad(out);
     }
     let shown = stage_label(recording, content_of(asked), &whole[0..length]);
-    numbers::put_bytes(out, held, b"label ", shown)
+    numbers::put_bytes(out, b"label ", shown)
 }
 
 // RANGE

@@ -2,52 +2,54 @@
 // C-18).
 #![tactic(auto)]
 
+ghost use Rattle.std.specs.Prelude.{◌≤◌, length, IfOk};
+
 use lines::input::{Got, read_more};
 use listing::{PAGE, listing};
+use std::env::{Env, FillError};
+use std::io;
+use std::io::{Read, Write};
 
 // One byte more than a recording that is listed may have, so that a longer one is seen to be longer.
 const ROOM: usize = 65537;
 
-// Reads until the room is full or the input ends. A count beyond the room says that a read failed.
-fn read_recording(room: &mut [u8]) -> usize {
+// Reads until the room is full or the input ends, and answers how many bytes the room holds.
+fn read_recording<R: Read>(input: &mut R, room: &mut [u8]) -> io::Result<usize>
+    ensures { IfOk result (λ held. held ≤ length room.old) }
+{
     let mut held: usize = 0;
     while held < room.len() {
-        match read_more(room, held) {
+        match read_more(input, room, held)? {
             Got::Bytes(n) => {
                 held += n;
             }
             Got::Ended => {
-                return held;
-            }
-            Got::Failed => {
-                return ROOM + 1;
+                return Ok(held);
             }
         }
     }
-    held
+    Ok(held)
 }
 
-// Writes the listing to standard output by way of the page, and answers whether all was written.
-fn list(recording: &[u8], live: bool, page: &mut [u8; PAGE]) -> bool {
+// Writes the listing by way of the page.
+fn list<W: Write>(
+    recording: &[u8],
+    live: bool,
+    page: &mut [u8; PAGE],
+    output: &mut W,
+) -> io::Result<()> {
     let n = listing(recording, live, page);
     let text: &[u8] = page;
-    io::write_all(1, &text[..n])
+    output.write_all(&text[..n])
 }
 
-// Reads and lists. What can't be read is not listed. That, and a failed write, is told on standard error: a program
-// can't set its exit status.
-fn read_and_list(live: bool) {
+// Reads and lists. What can't be read is not listed.
+fn read_and_list<R: Read, W: Write>(live: bool, input: &mut R, output: &mut W) -> io::Result<()> {
     let mut room = [0u8; ROOM];
-    let held = read_recording(&mut room);
-    if ROOM < held {
-        io::write_all(2, b"rows: standard input can't be read\n");
-        return;
-    }
+    let held = read_recording(input, &mut room)?;
     let whole: &[u8] = &room;
     let mut page = [0u8; PAGE];
-    if !list(&whole[..held], live, &mut page) {
-        io::write_all(2, b"rows: standard output can't be written\n");
-    }
+    list(&whole[..held], live, &mut page, output)
 }
 
 // What the program's arguments ask for.
@@ -58,39 +60,36 @@ enum Wish {
     Wrong,
 }
 
-// Whether a word is the one that asks for live mode.
-fn is_live(word: &[u8; 6]) -> bool {
-    word[0] == b'-'
-        && word[1] == b'-'
-        && word[2] == b'l'
-        && word[3] == b'i'
-        && word[4] == b'v'
-        && word[5] == b'e'
-}
-
 // Without an argument the listing is document 01's; with the one argument `--live` it is in live mode.
-fn asked() -> Wish {
-    let count = os::arg_count();
-    if count < 2 {
-        return Wish::Plain;
-    }
-    if count > 2 {
-        return Wish::Wrong;
-    }
+fn asked(rt: &impl Env) -> Wish {
     let mut word = [0u8; 6];
-    let n = os::arg(1, &mut word);
-    if n == 6 && is_live(&word) {
-        return Wish::Live;
+    match rt.arg(1, &mut word) {
+        Err(FillError::NotPresent) => Wish::Plain,
+        Err(FillError::TooLong) => Wish::Wrong,
+        Ok(n) => {
+            if is_live(&word[..n]) && is_last(rt, 1) {
+                return Wish::Live;
+            }
+            Wish::Wrong
+        }
     }
-    Wish::Wrong
 }
 
-fn main() {
-    match asked() {
-        Wish::Plain => read_and_list(false),
-        Wish::Live => read_and_list(true),
-        Wish::Wrong => {
-            io::write_all(2, b"rows: the one argument that is known is --live\n");
-        }
+// Whether a word is the one that asks for live mode.
+fn is_live(word: &[u8]) -> bool {
+    word == b"--live".as_slice()
+}
+
+// Whether no argument follows that one.
+fn is_last(rt: &impl Env, number: usize) -> bool {
+    let mut word = [0u8; 1];
+    matches!(rt.arg(number + 1, &mut word), Err(FillError::NotPresent))
+}
+
+fn main(rt: HostRuntime) -> io::Result<()> {
+    match asked(&rt) {
+        Wish::Plain => read_and_list(false, &mut rt.reader(), &mut io::writer(&rt)),
+        Wish::Live => read_and_list(true, &mut rt.reader(), &mut io::writer(&rt)),
+        Wish::Wrong => eprintln!(rt; "rows: the one argument that is known is --live"),
     }
 }
