@@ -1,0 +1,12 @@
+-- `track_at` meets its contract: the master is found, and its fields are told. Assumes nothing.
+use Rattle.locate_rules.proofs.Told.{stands_at, told_refused, told_found}
+use Rattle.tracks.proofs.track.track_at.Goals as goal
+
+pub track_in-requires : goal.track_in-requires
+track_in-requires c = search stands_at
+
+pub returns-in-Refused : goal.returns-in-Refused
+returns-in-Refused c = search told_refused
+
+pub returns-in-At : goal.returns-in-At
+returns-in-At c = search told_found

@@ -1,0 +1,16 @@
+-- `typed_of` meets its contract: a set number by its type. Assumes nothing.
+use mathlib.Core.Path.{ap}
+use Rattle.fields_rules.specs.Values.{number}
+use Rattle.media_rules.proofs.Said.{said_unset, said_is}
+use Rattle.codes.specs.Tracktypes.{type_number}
+use Rattle.codes.specs.declared.tracktype.Tracktype.{Tracktype}
+use Rattle.tracks_rules.specs.Typed.{typed}
+use Rattle.tracks.proofs.typed.typed_of.Goals as goal
+
+pub returns-in-Unset : goal.returns-in-Unset
+returns-in-Unset c = search said_unset
+
+pub returns-in-Is : goal.returns-in-Is
+unfolding typed
+returns-in-Is c =
+    said_is typed c.in-Is.is (ap (λ (x : Tracktype). number (type_number x)) c.new.ensures)
