@@ -10,8 +10,8 @@ use Rattle.seekchain.proofs.heads.contains.Goals as goal
 pub returns-then-seen-i : goal.returns-then-seen-i
 returns-then-seen-i c =
     sym (sym c.loop-i.invariant.1 ∙ member_here c.args.address (take c.args.n c.args.seen.now)
-    c.loop-i.i (omega (arith, (length-take-le c.args.n c.args.seen.now c.requires))) (get_or-take c.args.n c.args.seen.now c.loop-i.i 0
-    (omega arith) ∙ c.if-seen-i.true))
+    c.loop-i.i (omega (arith, (length-take-le c.args.n c.args.seen.now c.requires)))
+    (get_or-take c.args.n c.args.seen.now c.loop-i.i 0 (omega arith) ∙ c.if-seen-i.true))
 
 pub loop-i-preserved : goal.loop-i-preserved
 loop-i-preserved c = (
