@@ -2,7 +2,8 @@
 use mathlib.Core.Path.{refl, sym, ◌∙◌}
 use borrow.Author.Tests.{eq-eqb, ne_eqb}
 use Rattle.walks_rules.proofs.Steps.{stepped_on}
-use Rattle.segments_rules.proofs.MetTurns.{turn_refused, turn_ended, turn_head, turn_part, turn_lost, turn_again, turn_less}
+use Rattle.segments_rules.proofs.MetTurns.{turn_refused, turn_ended, turn_head, turn_part, turn_lost, turn_again}
+use Rattle.segments_rules.proofs.MetTurns.{turn_less}
 use Rattle.segments.proofs.meeting.meet.Goals as goal
 
 pub loop-refusal-init : goal.loop-refusal-init
@@ -26,7 +27,8 @@ returns-then-id-eq-SEEKHEAD c =
 pub returns-then-aims_at : goal.returns-then-aims_at
 returns-then-aims_at c =
     turn_part _ _ _ _ _ _ _ c.stretch_of-stretch.ensures (c.loop-refusal.invariant _ c.stretch_of-stretch.ensures) _
-    (sym c.child_at.ensures ∙ c.in-Child.is) (ne_eqb _ _ c.if-id-eq-SEEKHEAD.false) (sym c.aims_at.ensures ∙ c.if-aims_at.true)
+    (sym c.child_at.ensures ∙ c.in-Child.is) (ne_eqb _ _ c.if-id-eq-SEEKHEAD.false)
+    (sym c.aims_at.ensures ∙ c.if-aims_at.true)
 
 pub past_child-requires : goal.past_child-requires
 past_child-requires c =
@@ -37,7 +39,8 @@ past_child-requires c =
 pub returns-in-Refused-past_child : goal.returns-in-Refused-past_child
 returns-in-Refused-past_child c =
     turn_lost _ _ _ _ _ _ _ c.stretch_of-stretch.ensures (c.loop-refusal.invariant _ c.stretch_of-stretch.ensures) _
-    (sym c.child_at.ensures ∙ c.in-Child.is) (ne_eqb _ _ c.if-id-eq-SEEKHEAD.false) (sym c.aims_at.ensures ∙ c.if-aims_at.false) _
+    (sym c.child_at.ensures ∙ c.in-Child.is) (ne_eqb _ _ c.if-id-eq-SEEKHEAD.false)
+    (sym c.aims_at.ensures ∙ c.if-aims_at.false) _
     c.past_child.ensures _ c.in-Refused-past_child.is
 
 pub loop-refusal-smaller : goal.loop-refusal-smaller
@@ -49,4 +52,5 @@ pub loop-refusal-preserved : goal.loop-refusal-preserved
 loop-refusal-preserved c =
     λ segment i.
     turn_again _ _ _ segment _ _ _ i (c.loop-refusal.invariant segment i) _ (sym c.child_at.ensures ∙ c.in-Child.is)
-    (ne_eqb _ _ c.if-id-eq-SEEKHEAD.false) (sym c.aims_at.ensures ∙ c.if-aims_at.false) _ c.past_child.ensures _ c.in-At.is
+    (ne_eqb _ _ c.if-id-eq-SEEKHEAD.false) (sym c.aims_at.ensures ∙ c.if-aims_at.false) _ c.past_child.ensures _
+    c.in-At.is
