@@ -60,13 +60,7 @@ fn put_word(gap: u64, word: &[u8], out: &mut Vec<u8>) -> Result<(), AllocError> 
 }
 
 // A value behind its word.
-fn put_value(
-    kind: u64,
-    a: u64,
-    b: u64,
-    bytes: &[u8],
-    out: &mut Vec<u8>,
-) -> Result<(), AllocError> {
+fn put_value(kind: u64, a: u64, b: u64, bytes: &[u8], out: &mut Vec<u8>) -> Result<(), AllocError> {
     let gap = b" ";
     match kind {
         told::DECIMAL => numbers::put_decimal(out, gap, a),

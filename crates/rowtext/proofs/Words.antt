@@ -1,12 +1,13 @@
 -- The words for the kinds, as `put_kind` cuts them out of one text. Assumes nothing.
 use Prim.Native.Nat.{ℕ, ◌+◌, ◌-◌, ◌≤◌}
 use mathlib.Core.Path.{◌≡◌, refl}
+use Rattle.std.proofs.Common.{◌≢◌}
 use mathlib.Core.Bool.{Bool, true, false, ◌&&◌}
 use mathlib.Core.List.{List, [], ◌++◌}
 use native.Mathlib.Omega.{arith}
 use lib.ListN.{length, take, drop}
 use lib.Dec.{leb}
-use borrow.Author.Tests.{leb-true}
+use borrow.Author.Tests.{leb-true, ne_eqb}
 use Rattle.pages.specs.Text.{ascii}
 use Rattle.pages.specs.Page.{Wrote}
 use Rattle.rowtext.specs.Cuts.{Cuts, kind_words}
@@ -35,14 +36,29 @@ cut_is {kind} {k} {from} {end} e t says =
     both false b q = let z : ◌≡◌ {A = ℕ} 0 1 = cc in absurd (omega arith)
 
 -- A number that is no kind's has no word: the space alone is cut.
-pub no_word : (kind : ℕ) → kind_word kind ≡ [] → Cuts kind (record { from = 0; end = 1 })
-no_word kind e =
+pub no_word :
+    (kind : ℕ) → kind ≢ 1 → kind ≢ 2 → kind ≢ 3 → kind ≢ 4 → kind ≢ 5 → kind ≢ 6 → kind ≢ 7 → kind ≢ 8
+    → Cuts kind (record { from = 0; end = 1 })
+unfolding kind_word
+no_word kind a b c d e f g h =
+    let none : kind_word kind ≡ [] =
+    rw (
+      ne_eqb _ _ a,
+      ne_eqb _ _ b,
+      ne_eqb _ _ c,
+      ne_eqb _ _ d,
+      ne_eqb _ _ e,
+      ne_eqb _ _ f,
+      ne_eqb _ _ g,
+      ne_eqb _ _ h,
+    )
+    refl in
     record {
       low = omega arith;
       high = omega arith;
       few = omega arith;
-      short = rw e (omega arith);
-      says = rw e refl;
+      short = rw none (omega arith);
+      says = rw none refl;
     }
 
 -- What was cut out and put is the word of that kind.
