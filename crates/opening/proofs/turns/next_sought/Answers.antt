@@ -12,7 +12,8 @@ overflow_add-sought c =
 
 pub returns-in-Refused : goal.returns-in-Refused
 returns-in-Refused c =
-    seek_stopped _ _ _ _ _ _ c.loop-sought.invariant c.loop-sought-test.true _ _ _ _ c.which_at-which.ensures c.id_of-id.ensures
+    seek_stopped _ _ _ _ _ _ c.loop-sought.invariant c.loop-sought-test.true _ _ _ _
+    c.which_at-which.ensures c.id_of-id.ensures
     c.link_of-link.ensures c.part_at.ensures _ c.in-Refused.is
 
 pub loop-sought-smaller : goal.loop-sought-smaller
@@ -21,12 +22,14 @@ loop-sought-smaller c =
 
 pub loop-sought-preserved : goal.loop-sought-preserved
 loop-sought-preserved c =
-    seek_on _ _ _ _ _ _ c.loop-sought.invariant c.loop-sought-test.true _ _ _ _ c.which_at-which.ensures c.id_of-id.ensures
+    seek_on _ _ _ _ _ _ c.loop-sought.invariant c.loop-sought-test.true _ _ _ _
+    c.which_at-which.ensures c.id_of-id.ensures
     c.link_of-link.ensures c.part_at.ensures _ c.in-Absent.is
 
 pub returns-in-Found : goal.returns-in-Found
 returns-in-Found c =
-    seek_found _ _ _ _ _ _ c.loop-sought.invariant c.loop-sought-test.true _ _ _ _ c.which_at-which.ensures c.id_of-id.ensures
+    seek_found _ _ _ _ _ _ c.loop-sought.invariant c.loop-sought-test.true _ _ _ _
+    c.which_at-which.ensures c.id_of-id.ensures
     c.link_of-link.ensures c.part_at.ensures _ _ c.in-Found.is
 
 pub returns : goal.returns
