@@ -1,0 +1,43 @@
+-- `read_part` meets its contract: each part is an arm of its own. Assumes nothing.
+use Rattle.open_rules.proofs.Lending.{into_info, into_tracks, into_attachments, into_chapters, into_tags}
+use Rattle.open.proofs.lent.read_part.Goals as goal
+
+pub read_again-requires : goal.read_again-requires
+read_again-requires c =
+    rw c.in-Info.is at c.requires
+
+pub read_again-requires-in-Tracks : goal.read_again-requires-in-Tracks
+read_again-requires-in-Tracks c =
+    rw c.in-Tracks.is at c.requires
+
+pub read_again-requires-in-Attachments : goal.read_again-requires-in-Attachments
+read_again-requires-in-Attachments c =
+    rw c.in-Attachments.is at c.requires
+
+pub read_again-requires-in-Chapters : goal.read_again-requires-in-Chapters
+read_again-requires-in-Chapters c =
+    rw c.in-Chapters.is at c.requires
+
+pub read_again-requires-in-Tags : goal.read_again-requires-in-Tags
+read_again-requires-in-Tags c =
+    rw c.in-Tags.is at c.requires
+
+pub returns-in-Info : goal.returns-in-Info
+returns-in-Info c =
+    into_info _ _ _ _ _ _ _ _ _ _ _ _ c.in-Info.is c.read_again.ensures
+
+pub returns-in-Tracks : goal.returns-in-Tracks
+returns-in-Tracks c =
+    into_tracks _ _ _ _ _ _ _ _ _ _ _ _ c.in-Tracks.is c.read_again-in-Tracks.ensures
+
+pub returns-in-Attachments : goal.returns-in-Attachments
+returns-in-Attachments c =
+    into_attachments _ _ _ _ _ _ _ _ _ _ _ _ c.in-Attachments.is c.read_again-in-Attachments.ensures
+
+pub returns-in-Chapters : goal.returns-in-Chapters
+returns-in-Chapters c =
+    into_chapters _ _ _ _ _ _ _ _ _ _ _ _ c.in-Chapters.is c.read_again-in-Chapters.ensures
+
+pub returns-in-Tags : goal.returns-in-Tags
+returns-in-Tags c =
+    into_tags _ _ _ _ _ _ _ _ _ _ _ _ c.in-Tags.is c.read_again-in-Tags.ensures

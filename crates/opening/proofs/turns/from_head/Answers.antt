@@ -1,0 +1,12 @@
+-- `from_head`: all linked heads are read, then the parts are sought. Assumes nothing.
+use mathlib.Core.Path.{sym, ◌∙◌}
+use Rattle.open_rules.proofs.Going.{head_broken, head_read}
+use Rattle.opening.proofs.turns.from_head.Goals as goal
+
+pub returns-in-Refused : goal.returns-in-Refused
+returns-in-Refused c =
+    head_broken _ _ _ _ _ _ (sym c.in-Refused.is ∙ c.linked_heads.ensures)
+
+pub returns-in-Read : goal.returns-in-Read
+returns-in-Read c =
+    head_read _ _ _ _ _ _ _ _ (sym c.in-Read.is ∙ c.linked_heads.ensures) c.next_sought.result c.next_sought.ensures

@@ -1,0 +1,37 @@
+-- `next_sought`: the parts in their order, to the next that an entry names. Assumes nothing.
+use native.Mathlib.Omega.{arith}
+use Rattle.open_rules.proofs.Going.{seeks_none, seek_over, seek_stopped, seek_on, seek_found}
+use Rattle.opening.proofs.turns.next_sought.Goals as goal
+
+pub loop-sought-init : goal.loop-sought-init
+loop-sought-init c = seeks_none _ _ _ _ _
+
+pub overflow_add-sought : goal.overflow_add-sought
+overflow_add-sought c =
+    omega (arith, c.loop-sought-test.true)
+
+pub returns-in-Refused : goal.returns-in-Refused
+returns-in-Refused c =
+    seek_stopped _ _ _ _ _ _ c.loop-sought.invariant c.loop-sought-test.true _ _ _ _
+    c.which_at-which.ensures c.id_of-id.ensures
+    c.link_of-link.ensures c.part_at.ensures _ c.in-Refused.is
+
+pub loop-sought-smaller : goal.loop-sought-smaller
+loop-sought-smaller c =
+    omega (arith, c.loop-sought-test.true)
+
+pub loop-sought-preserved : goal.loop-sought-preserved
+loop-sought-preserved c =
+    seek_on _ _ _ _ _ _ c.loop-sought.invariant c.loop-sought-test.true _ _ _ _
+    c.which_at-which.ensures c.id_of-id.ensures
+    c.link_of-link.ensures c.part_at.ensures _ c.in-Absent.is
+
+pub returns-in-Found : goal.returns-in-Found
+returns-in-Found c =
+    seek_found _ _ _ _ _ _ c.loop-sought.invariant c.loop-sought-test.true _ _ _ _
+    c.which_at-which.ensures c.id_of-id.ensures
+    c.link_of-link.ensures c.part_at.ensures _ _ c.in-Found.is
+
+pub returns : goal.returns
+returns c =
+    seek_over _ _ _ _ _ _ c.loop-sought.invariant c.loop-sought-test.false
