@@ -60,6 +60,17 @@ enum Wish {
     Wrong,
 }
 
+// Whether a word is the one that asks for live mode.
+fn is_live(word: &[u8]) -> bool {
+    word == b"--live".as_slice()
+}
+
+// Whether there is an argument of that number.
+fn is_there(rt: &impl Env, number: usize) -> bool {
+    let mut word = [0u8; 1];
+    !matches!(rt.arg(number, &mut word), Err(FillError::NotPresent))
+}
+
 // Without an argument the listing is document 01's; with the one argument `--live` it is in live mode.
 fn asked(rt: &impl Env) -> Wish {
     let mut word = [0u8; 6];
@@ -67,23 +78,12 @@ fn asked(rt: &impl Env) -> Wish {
         Err(FillError::NotPresent) => Wish::Plain,
         Err(FillError::TooLong) => Wish::Wrong,
         Ok(n) => {
-            if is_live(&word[..n]) && is_last(rt, 1) {
+            if is_live(&word[..n]) && !is_there(rt, 2) {
                 return Wish::Live;
             }
             Wish::Wrong
         }
     }
-}
-
-// Whether a word is the one that asks for live mode.
-fn is_live(word: &[u8]) -> bool {
-    word == b"--live".as_slice()
-}
-
-// Whether no argument follows that one.
-fn is_last(rt: &impl Env, number: usize) -> bool {
-    let mut word = [0u8; 1];
-    matches!(rt.arg(number + 1, &mut word), Err(FillError::NotPresent))
 }
 
 fn main(rt: HostRuntime) -> io::Result<()> {
