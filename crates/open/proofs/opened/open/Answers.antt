@@ -10,8 +10,8 @@ run-requires c =
       begins = c.begin-first.ensures;
       tags_value =
           cleared_zeros (five x.info.now x.tracks.now x.attachments.now x.chapters.now x.tags.now) _ c.clear_all.ensures
-          (each_same c.clear_all.auto.info c.clear_all.auto.tracks c.clear_all.auto.attachments c.clear_all.auto.chapters
-          c.clear_all.auto.tags);
+          (each_same c.clear_all.auto.info c.clear_all.auto.tracks c.clear_all.auto.attachments
+          c.clear_all.auto.chapters c.clear_all.auto.tags);
     }
 
 pub returns-in-Refused : goal.returns-in-Refused

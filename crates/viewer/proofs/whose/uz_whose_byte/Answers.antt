@@ -1,0 +1,17 @@
+-- `uz_whose_byte` meets its contract: the reply of the call behind it in the mode that is named, or 14. Assumes
+-- nothing.
+use mathlib.Core.Path.{sym, ◌∙◌}
+use Rattle.viewer_rules.proofs.Crossing.{place_crosses, place_unnamed}
+use Rattle.viewer.proofs.whose.uz_whose_byte.Goals as goal
+
+pub returns-in-Mode : goal.returns-in-Mode
+returns-in-Mode c =
+    rw c.place_face.ensures
+    (place_crosses _ _ _ _ _ _ _ _ _ _ (sym c.chosen_mode.ensures
+    ∙ c.in-Mode.is) c.whose_byte.ensures)
+
+pub returns-in-NoMode : goal.returns-in-NoMode
+returns-in-NoMode c =
+    rw c.place_face-in-NoMode.ensures
+    (place_unnamed _ _ _ _ _ _ _ _ (sym c.chosen_mode.ensures
+    ∙ c.in-NoMode.is) c.clear.ensures)
