@@ -22,7 +22,7 @@ use Rattle.open_rules.specs.declared.reply.OpenReply.TheVariants.{Read, Refused 
 use Rattle.viewer_rules.specs.Modes.{chosen_mode}
 use Rattle.viewer_rules.specs.Faces.{part_face, range_face, place_face, owned_face, found_face, opened_face}
 use Rattle.viewer_rules.specs.Theorems.{part_named, range_named, place_named, PartNamed, RangeNamed, TextNamed}
-use Rattle.viewer_rules.specs.Theorems.{PlaceNamed, OwnerNamed, ChainNamed, NoModeRefused, ModesNamed}
+use Rattle.viewer_rules.specs.Theorems.{PlaceNamed, OwnerNamed, ChainNamed, NoModeRefused, OpenNoModeRefused, ModesNamed}
 use Rattle.viewer_rules.specs.Theorems.{found_named, open_named, OpenNamed}
 
 part_face_law : (q : PartReply) → part_face (part_told q) ≡ part_named q
@@ -88,8 +88,10 @@ no_mode_refused = record {
   place = λ mode s start size parent x t r t' i p. (p.reply ∙ rw i refl, p.table ∙ rw i refl);
   owner = λ mode s start size parent x r i p. p.reply ∙ rw i refl;
   chain = λ mode s start size parent x t r t' i p. (p.reply ∙ rw i refl, p.links ∙ rw i refl);
-  whole = λ mode s t r t' i p. (p.reply ∙ rw i refl, p.tables ∙ rw i refl);
 }
+
+pub open_no_mode_refused : OpenNoModeRefused
+open_no_mode_refused mode s t r t' i p = (p.reply ∙ rw i refl, p.tables ∙ rw i refl)
 
 pub modes_named : ModesNamed
 unfolding chosen_mode

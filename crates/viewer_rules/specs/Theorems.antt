@@ -329,9 +329,12 @@ pub record NoModeRefused : Type 0 where
       (mode : ℕ) (s : List ℕ) (start size parent x : ℕ) (t : List ℕ) (r : UzOwned) (t' : List ℕ)
       → chosen_mode mode ≡ NoMode → UzChainPromise mode s start size parent x t r t'
       → (r ≡ owned_face (NoOwner bad_argument)) × (t' ≡ zeros (length t))
-  pub whole :
-      (mode : ℕ) (s : List ℕ) (t : Tables) (r : UzOpened) (t' : Tables) → chosen_mode mode ≡ NoMode
-      → UzOpenPromise mode s t r t' → (r ≡ opened_face (NoOpening bad_argument)) × (t' ≡ zeroed (sizes_of t))
+
+-- The same of `uz_open`, and of its five tables.
+abbrev pub OpenNoModeRefused : Type 0
+OpenNoModeRefused =
+    (mode : ℕ) (s : List ℕ) (t : Tables) (r : UzOpened) (t' : Tables) → chosen_mode mode ≡ NoMode
+    → UzOpenPromise mode s t r t' → (r ≡ opened_face (NoOpening bad_argument)) × (t' ≡ zeroed (sizes_of t))
 
 -- 0 and 1 name the two modes, and no other number names one.
 abbrev pub ModesNamed : Type 0
