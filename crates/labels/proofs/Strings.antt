@@ -42,7 +42,7 @@ use Rattle.shown_rules.specs.Shown.{is_text, text_range}
 use Rattle.shown_rules.specs.Promise.{ShownPromise}
 use Rattle.shown_rules.proofs.Accepted.{accepted_shown}
 use Rattle.labels.specs.Theorems.{StageIsShown, ShownBy, FirstIsShown}
-use Rattle.labels.proofs.Stages.{label_is_shown}
+use Rattle.labels.proofs.Inside.{label_is_shown}
 
 -- A part that is told comes from a child.
 from_child : (c : Child) (g : Range) → content g.at g.length ≡ content_in c
