@@ -1,26 +1,32 @@
-// Input, read piece by piece into room that is lent.
-ghost use Rattle.std.specs.Prelude.{◌≡◌, ◌+◌, ◌≤◌, length, take, drop, IfOk};
+// Standard input, read piece by piece into room that is lent.
+ghost use Rattle.std.specs.Prelude.{◌≡◌, ◌+◌, ◌≤◌, length, take, drop};
 ghost use Rattle.lines.specs.Bounds.{Behind};
 
-use std::io;
-use std::io::Read;
+use std::io::{Read, Stdin};
 
-// What one read brought: bytes behind those held, or the end of the input.
+// What one read brought: bytes behind those held, the end of the input, or a failure.
 #[derive(Clone, Copy)]
 pub enum Got {
     Bytes(usize),
     Ended,
+    Failed,
 }
 
-pub fn read_more<R: Read>(input: &mut R, room: &mut [u8], held: usize) -> io::Result<Got>
+pub fn read_more(from: Stdin, room: &mut [u8], held: usize) -> Got
     requires { held ≤ length room.old }
-    ensures { IfOk result (Behind held (length room.old)) }
+    ensures { Behind held (length room.old) result }
 {
-    let n = input.read(&mut room[held..])?;
+    let mut input = from;
+    let n = match input.read(&mut room[held..]) {
+        Ok(n) => n,
+        Err(_) => {
+            return Got::Failed;
+        }
+    };
     if n == 0 {
-        return Ok(Got::Ended);
+        return Got::Ended;
     }
-    Ok(Got::Bytes(n))
+    Got::Bytes(n)
 }
 
 // Moves the n bytes from `from` on to the start of the room.

@@ -1,49 +1,58 @@
 // Numbers and bytes as text, each behind a label, and what of a number is written.
-ghost use Rattle.std.specs.Prelude.{◌≡◌, ◌++◌, ◌≤◌, decimal, OnOk};
+ghost use Rattle.std.specs.Prelude.{◌≡◌, length};
 
+use crate::digits::{decimal, hex};
 use crate::out::put;
-use itoa::Buffer;
-use std::alloc::AllocError;
+use std::io::Stdout;
 
 // A number in decimal digits.
-pub fn put_decimal(out: &mut Vec<u8>, label: &[u8], value: u64) -> Result<(), AllocError>
-    ensures { OnOk result (out.new.items ≡ out.old.items ++ label.now ++ decimal value) }
-{
-    put(out, label)?;
-    let mut text = Buffer::new();
-    put(out, text.format(value).as_bytes())
+pub fn put_decimal(
+    to: Stdout,
+    out: &mut [u8; 65536],
+    held: usize,
+    label: &[u8],
+    value: u64,
+) -> usize {
+    let n = put(to, out, held, label);
+    let mut text = [0u8; 20];
+    let k = decimal(value, &mut text);
+    put(to, out, n, &text[..k])
 }
 
 // A number in hexadecimal digits, upper case, with zeros in front up to `width` digits.
 pub fn put_hex(
-    out: &mut Vec<u8>,
+    to: Stdout,
+    out: &mut [u8; 65536],
+    held: usize,
     label: &[u8],
     value: u64,
     width: usize,
-) -> Result<(), AllocError> {
-    put(out, label)?;
+) -> usize {
+    let n = put(to, out, held, label);
     let mut text = [0u8; 16];
-    let first = spell_hex(value, width, &mut text);
-    put(out, &text[first..])
+    let k = hex(value, width, &mut text);
+    let raised = capitals(text);
+    put(to, out, n, &raised[..k])
 }
 
-// Puts the digits at the end of the text, and answers where the first is.
-fn spell_hex(value: u64, width: usize, text: &mut [u8; 16]) -> usize
-    ensures { result ≤ 16 }
+// The same text with capitals for its small letters.
+fn capitals(text: [u8; 16]) -> [u8; 16]
+    ensures { length result ≡ length text }
 {
-    let digits = b"0123456789ABCDEF";
-    let mut rest = value;
-    let mut first: usize = 16;
-    for place in (0..16).rev() {
-        let spelt = 15 - place;
-        if rest == 0 && 0 < spelt && width <= spelt {
-            break;
-        }
-        text[place] = digits[(rest % 16) as usize];
-        rest /= 16;
-        first = place;
+    let mut raised = text;
+    let mut i: usize = 0;
+    while i < 16 {
+        raised[i] = capital(raised[i]);
+        i += 1;
     }
-    first
+    raised
+}
+
+fn capital(b: u8) -> u8 {
+    match b {
+        97..=122 => b - 32,
+        _ => b,
+    }
 }
 
 // How far a number lies from 0.
@@ -65,13 +74,25 @@ pub fn pattern(value: f64) -> u64 {
 }
 
 // Bytes in hexadecimal digits, two for each, or `-` for none.
-pub fn put_bytes(out: &mut Vec<u8>, label: &[u8], bytes: &[u8]) -> Result<(), AllocError> {
-    put(out, label)?;
+pub fn put_bytes(
+    to: Stdout,
+    out: &mut [u8; 65536],
+    held: usize,
+    label: &[u8],
+    bytes: &[u8],
+) -> usize {
+    let mut now = put(to, out, held, label);
     if bytes.len() == 0 {
-        return put(out, b"-");
+        return put(to, out, now, b"-");
     }
-    for b in bytes {
-        put_hex(out, b"", u64::from(*b), 2)?;
+    let mut i: usize = 0;
+    while i < bytes.len() {
+        now = put_hex(to, out, now, b"", wide(bytes[i]), 2);
+        i += 1;
     }
-    Ok(())
+    now
+}
+
+fn wide(b: u8) -> u64 {
+    b as u64
 }

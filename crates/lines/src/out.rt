@@ -1,43 +1,52 @@
 // Gathers what a program writes to standard output, and hands it on in large pieces.
 //
-// The program lends the bytes that are gathered. They are written away when there are many, and when the program says
-// so.
-ghost use Rattle.std.specs.Prelude.{◌≡◌, ◌<◌, [], ◌++◌, vec_len, OnOk, OnErr};
-ghost use Rattle.std.specs.Io.KnownBytes.{Appends};
+// The program lends the buffer, and hands on how many bytes it holds. A count beyond the room says that a
+// write failed: nothing more is gathered then.
+use std::io::{Print, Stdout};
 
-use std::alloc::AllocError;
-use std::io;
-use std::io::Write;
+// The buffer's room.
+const ROOM: usize = 65536;
 
-// So many bytes are a large piece.
-const LARGE: usize = 65536;
+// The count that says that a write failed.
+const LOST: usize = 65537;
 
 // Bytes as they are.
-pub fn put(out: &mut Vec<u8>, bytes: &[u8]) -> Result<(), AllocError>
-    ensures ok { OnOk result (out.new.items ≡ out.old.items ++ bytes.now) }
-    ensures err { OnErr result (out.new.items ≡ out.old.items) }
-{
-    out.extend_from_slice(bytes)
-}
-
-// Writes away what is gathered, once it is a large piece.
-pub fn flush_if_large<W: Write>(to: &mut W, out: &mut Vec<u8>) -> io::Result<()>
-    ensures { OnOk result (vec_len out.new < 65536) }
-{
-    if out.len() < LARGE {
-        return Ok(());
+pub fn put(to: Stdout, out: &mut [u8; 65536], held: usize, bytes: &[u8]) -> usize {
+    let mut now = held;
+    let mut i: usize = 0;
+    while i < bytes.len() {
+        now = put_one(to, out, now, bytes[i]);
+        i += 1;
     }
-    flush(to, out)
+    now
 }
 
-// Writes away all that is gathered.
-pub fn flush<W: Write>(to: &mut W, out: &mut Vec<u8>) -> io::Result<()>
-    ensures written { OnOk result
-        (Appends (W.contents to.old) (W.contents to.new) out.old.items) }
-    ensures ok { OnOk result (out.new.items ≡ []) }
-    ensures err { OnErr result (out.new.items ≡ out.old.items) }
-{
-    to.write_all(out.as_slice())?;
-    out.clear();
-    Ok(())
+fn put_one(to: Stdout, out: &mut [u8; 65536], held: usize, byte: u8) -> usize {
+    let at = place_for_one(to, out, held);
+    if at < ROOM {
+        out[at] = byte;
+        return at + 1;
+    }
+    at
+}
+
+// A full buffer is written away first.
+fn place_for_one(to: Stdout, out: &[u8; 65536], held: usize) -> usize {
+    if held != ROOM {
+        return held;
+    }
+    let whole: &[u8] = out;
+    if to.write_all(whole).is_ok() {
+        return 0;
+    }
+    LOST
+}
+
+// Writes away what the buffer holds, and answers whether all of the output was written.
+pub fn flush(to: Stdout, out: &[u8; 65536], held: usize) -> bool {
+    if ROOM < held {
+        return false;
+    }
+    let whole: &[u8] = out;
+    to.write_all(&whole[..held]).is_ok()
 }
