@@ -30,8 +30,14 @@ uz_opened shipped_open(const uint8_t *recording, size_t length, uint64_t *info, 
 // Set while what is due without a fault is worked out.
 static int innocent;
 
+// The environment is read once: how much stands in it is not to count for the time of a call.
 static int is(const char *fault) {
-    const char *asked = getenv("FAULT");
+    static const char *asked;
+    static int is_read;
+    if (!is_read) {
+        asked = getenv("FAULT");
+        is_read = 1;
+    }
     return !innocent && asked != NULL && strcmp(asked, fault) == 0;
 }
 
