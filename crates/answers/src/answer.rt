@@ -2,11 +2,11 @@
 use crate::told::Told;
 use crate::{rows, told};
 use lines::{numbers, out};
-use std::alloc::AllocError;
+use std::io::Stdout;
 
 // The answer to a line that is no question.
-pub fn bad(out: &mut Vec<u8>) -> Result<(), AllocError> {
-    out::put(out, b"bad question")
+pub fn bad(to: Stdout, out: &mut [u8; 65536], held: usize) -> usize {
+    out::put(to, out, held, b"bad question")
 }
 
 // What is told. `entry` is the question's line in the list of questions: its name, its form, and the words of its
@@ -16,17 +16,32 @@ pub fn put_told(
     entry: &[u8],
     bytes: &[u8],
     table: &[u64],
-    out: &mut Vec<u8>,
-) -> Result<(), AllocError> {
+    to: Stdout,
+    out: &mut [u8; 65536],
+    held: usize,
+) -> usize {
     let count = told[0];
-    for k in 0..32usize {
+    let mut now = held;
+    let mut k: usize = 0;
+    while k < 32 {
         if (k as u64) < count {
             let at = 5 + 5 * k;
-            put_words(k, entry, told[at], told[at + 1], out)?;
-            put_value(told[at + 2], told[at + 3], told[at + 4], bytes, out)?;
+            now = put_words(k, entry, told[at], told[at + 1], to, out, now);
+            now = put_value(
+                told[at + 2],
+                told[at + 3],
+                told[at + 4],
+                bytes,
+                to,
+                out,
+                now,
+            );
         }
+        k += 1;
     }
-    put_ending(count, told[1], told[2], told[3], told[4], table, out)
+    put_ending(
+        count, told[1], told[2], told[3], told[4], table, to, out, now,
+    )
 }
 
 // The word of a cell behind `before` others, and its sign.
@@ -35,11 +50,13 @@ fn put_words(
     entry: &[u8],
     word: u64,
     sign: u64,
-    out: &mut Vec<u8>,
-) -> Result<(), AllocError> {
-    put_word(before as u64, word_of(entry, word), out)?;
+    to: Stdout,
+    out: &mut [u8; 65536],
+    held: usize,
+) -> usize {
+    let n = put_word(before as u64, word_of(entry, word), to, out, held);
     let signs = b" unset no yes nan iso ietf text binary";
-    put_word(sign, words::word(signs, sign as usize), out)
+    put_word(sign, words::word(signs, sign as usize), to, out, n)
 }
 
 // The words of the answer stand behind the question's name and its form.
@@ -51,35 +68,43 @@ fn word_of(entry: &[u8], word: u64) -> &[u8] {
 }
 
 // A word, and a space in front of it where `gap` is not 0.
-fn put_word(gap: u64, word: &[u8], out: &mut Vec<u8>) -> Result<(), AllocError> {
+fn put_word(gap: u64, word: &[u8], to: Stdout, out: &mut [u8; 65536], held: usize) -> usize {
     if gap == 0 {
-        return out::put(out, word);
+        return out::put(to, out, held, word);
     }
-    out::put(out, b" ")?;
-    out::put(out, word)
+    let n = out::put(to, out, held, b" ");
+    out::put(to, out, n, word)
 }
 
 // A value behind its word.
-fn put_value(kind: u64, a: u64, b: u64, bytes: &[u8], out: &mut Vec<u8>) -> Result<(), AllocError> {
+fn put_value(
+    kind: u64,
+    a: u64,
+    b: u64,
+    bytes: &[u8],
+    to: Stdout,
+    out: &mut [u8; 65536],
+    held: usize,
+) -> usize {
     let gap = b" ";
     match kind {
-        told::DECIMAL => numbers::put_decimal(out, gap, a),
-        told::NEGATIVE => numbers::put_decimal(out, b" -", a),
-        told::HEX => numbers::put_hex(out, gap, a, b as usize),
-        told::RANGE => put_range(a, b, out),
-        told::BYTES => numbers::put_bytes(out, gap, bytes),
+        told::DECIMAL => numbers::put_decimal(to, out, held, gap, a),
+        told::NEGATIVE => numbers::put_decimal(to, out, held, b" -", a),
+        told::HEX => numbers::put_hex(to, out, held, gap, a, b as usize),
+        told::RANGE => put_range(a, b, to, out, held),
+        told::BYTES => numbers::put_bytes(to, out, held, gap, bytes),
         told::RANGE_BYTES => {
-            put_range(a, b, out)?;
-            numbers::put_bytes(out, gap, bytes)
+            let n = put_range(a, b, to, out, held);
+            numbers::put_bytes(to, out, n, gap, bytes)
         }
-        _ => Ok(()),
+        _ => held,
     }
 }
 
 // ` ADDRESS+LENGTH`
-fn put_range(address: u64, length: u64, out: &mut Vec<u8>) -> Result<(), AllocError> {
-    numbers::put_decimal(out, b" ", address)?;
-    numbers::put_decimal(out, b"+", length)
+fn put_range(address: u64, length: u64, to: Stdout, out: &mut [u8; 65536], held: usize) -> usize {
+    let n = numbers::put_decimal(to, out, held, b" ", address);
+    numbers::put_decimal(to, out, n, b"+", length)
 }
 
 // What follows the cells, of which there are `before`.
@@ -90,19 +115,21 @@ fn put_ending(
     b: u64,
     c: u64,
     table: &[u64],
-    out: &mut Vec<u8>,
-) -> Result<(), AllocError> {
+    to: Stdout,
+    out: &mut [u8; 65536],
+    held: usize,
+) -> usize {
     match ending {
         told::ROWS | told::REST => {
-            put_word(before, b"rows", out)?;
-            rows::put_rows(a, ending == told::ROWS, table, out)
+            let n = put_word(before, b"rows", to, out, held);
+            rows::put_rows(a, ending == told::ROWS, table, to, out, n)
         }
-        told::REFUSED => put_refused(a, b, c, out),
+        told::REFUSED => put_refused(a, b, c, to, out, held),
         told::UNREAD => {
-            put_refused(a, b, c, out)?;
-            rows::put_zeros(b" table ", table, 0, out)
+            let n = put_refused(a, b, c, to, out, held);
+            rows::put_zeros(b" table ", table, 0, to, out, n)
         }
-        _ => Ok(()),
+        _ => held,
     }
 }
 
@@ -111,17 +138,19 @@ pub fn put_refused(
     number: u64,
     id: u64,
     address: u64,
-    out: &mut Vec<u8>,
-) -> Result<(), AllocError> {
-    numbers::put_decimal(out, b"refused ", number)?;
-    put_named(number, id, out)?;
-    numbers::put_decimal(out, b" at ", address)
+    to: Stdout,
+    out: &mut [u8; 65536],
+    held: usize,
+) -> usize {
+    let n = numbers::put_decimal(to, out, held, b"refused ", number);
+    let named = put_named(number, id, to, out, n);
+    numbers::put_decimal(to, out, named, b" at ", address)
 }
 
 // The id that 8 carries.
-fn put_named(number: u64, id: u64, out: &mut Vec<u8>) -> Result<(), AllocError> {
+fn put_named(number: u64, id: u64, to: Stdout, out: &mut [u8; 65536], held: usize) -> usize {
     if number == 8 {
-        return numbers::put_hex(out, b" ", id, 1);
+        return numbers::put_hex(to, out, held, b" ", id, 1);
     }
-    Ok(())
+    held
 }

@@ -3,12 +3,12 @@ use crate::answer::put_refused;
 use crate::rows;
 use lines::{numbers, out};
 use refusals::Refusal;
-use std::alloc::AllocError;
+use std::io::Stdout;
 
 // ` absent TABLE`
-pub fn put_absent(table: &[u64], out: &mut Vec<u8>) -> Result<(), AllocError> {
-    out::put(out, b" absent rows")?;
-    rows::put_rows(0, true, table, out)
+pub fn put_absent(table: &[u64], to: Stdout, out: &mut [u8; 65536], held: usize) -> usize {
+    let n = out::put(to, out, held, b" absent rows");
+    rows::put_rows(0, true, table, to, out, n)
 }
 
 // ` at A size S TABLE`
@@ -17,12 +17,14 @@ pub fn put_found(
     size: u64,
     rows: u64,
     table: &[u64],
-    out: &mut Vec<u8>,
-) -> Result<(), AllocError> {
-    numbers::put_decimal(out, b" at ", at)?;
-    numbers::put_decimal(out, b" size ", size)?;
-    out::put(out, b" rows")?;
-    rows::put_rows(rows, true, table, out)
+    to: Stdout,
+    out: &mut [u8; 65536],
+    held: usize,
+) -> usize {
+    let n = numbers::put_decimal(to, out, held, b" at ", at);
+    let n = numbers::put_decimal(to, out, n, b" size ", size);
+    let n = out::put(to, out, n, b" rows");
+    rows::put_rows(rows, true, table, to, out, n)
 }
 
 // `refused N at A tables 0`, or `.. tables dirty` where a number of a table is not 0.
@@ -33,17 +35,26 @@ pub fn put_unopened(
     attachments: &[u64],
     chapters: &[u64],
     tags: &[u64],
-    out: &mut Vec<u8>,
-) -> Result<(), AllocError> {
+    to: Stdout,
+    out: &mut [u8; 65536],
+    held: usize,
+) -> usize {
     let cause = refusal.cause;
-    put_refused(cause.number(), cause.id() as u64, refusal.address, out)?;
-    out::put(out, b" tables ")?;
+    let n = put_refused(
+        cause.number(),
+        cause.id() as u64,
+        refusal.address,
+        to,
+        out,
+        held,
+    );
+    let n = out::put(to, out, n, b" tables ");
     let ends = rows::dirt(info, 0) == 0 && rows::dirt(tags, 0) == 0;
     let rest = rows::dirt(tracks, 0) == 0
         && rows::dirt(attachments, 0) == 0
         && rows::dirt(chapters, 0) == 0;
     if ends && rest {
-        return out::put(out, b"0");
+        return out::put(to, out, n, b"0");
     }
-    out::put(out, b"dirty")
+    out::put(to, out, n, b"dirty")
 }

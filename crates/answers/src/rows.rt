@@ -4,27 +4,44 @@ ghost use Rattle.elements_rules.specs.Rows.{width};
 
 use lines::{numbers, out};
 use rowstore::WIDTH;
-use std::alloc::AllocError;
+use std::io::Stdout;
 
 // ` N`, each row that lies in the table, where they are told, and whether a number beyond them is not 0.
-pub fn put_rows(rows: u64, told: bool, table: &[u64], out: &mut Vec<u8>) -> Result<(), AllocError> {
+pub fn put_rows(
+    rows: u64,
+    told: bool,
+    table: &[u64],
+    to: Stdout,
+    out: &mut [u8; 65536],
+    held: usize,
+) -> usize {
     let within = rows_within(rows, table);
-    numbers::put_decimal(out, b" ", rows)?;
-    put_each(within, told, table, out)?;
-    put_zeros(b" rest ", table, WIDTH * within, out)
+    let n = numbers::put_decimal(to, out, held, b" ", rows);
+    let n = put_each(within, told, table, to, out, n);
+    put_zeros(b" rest ", table, WIDTH * within, to, out, n)
 }
 
 // The first `rows` rows of the table, where they are told.
-fn put_each(rows: usize, told: bool, table: &[u64], out: &mut Vec<u8>) -> Result<(), AllocError>
+fn put_each(
+    rows: usize,
+    told: bool,
+    table: &[u64],
+    to: Stdout,
+    out: &mut [u8; 65536],
+    held: usize,
+) -> usize
     requires { width * rows ≤ length table.now }
 {
     if !told {
-        return Ok(());
+        return held;
     }
-    for k in 0..rows {
-        put_row(table, WIDTH * k, out)?;
+    let mut now = held;
+    let mut k: usize = 0;
+    while k < rows {
+        now = put_row(table, WIDTH * k, to, out, now);
+        k += 1;
     }
-    Ok(())
+    now
 }
 
 // How many of the rows lie in the table.
@@ -39,14 +56,16 @@ fn rows_within(rows: u64, table: &[u64]) -> usize
 }
 
 // ` / id parent address header payload kind depth after`, the id in hexadecimal digits.
-fn put_row(table: &[u64], at: usize, out: &mut Vec<u8>) -> Result<(), AllocError>
+fn put_row(table: &[u64], at: usize, to: Stdout, out: &mut [u8; 65536], held: usize) -> usize
     requires { at + width ≤ length table.now }
 {
-    numbers::put_hex(out, b" / ", table[at], 1)?;
-    for k in 1..WIDTH {
-        numbers::put_decimal(out, b" ", table[at + k])?;
+    let mut now = numbers::put_hex(to, out, held, b" / ", table[at], 1);
+    let mut k: usize = 1;
+    while k < WIDTH {
+        now = numbers::put_decimal(to, out, now, b" ", table[at + k]);
+        k += 1;
     }
-    Ok(())
+    now
 }
 
 // `0` where every number from `from` on is 0, else `dirty`.
@@ -54,10 +73,12 @@ pub fn put_zeros(
     label: &[u8],
     table: &[u64],
     from: usize,
-    out: &mut Vec<u8>,
-) -> Result<(), AllocError> {
-    out::put(out, label)?;
-    out::put(out, words::word(b"0 dirty", dirt(table, from)))
+    to: Stdout,
+    out: &mut [u8; 65536],
+    held: usize,
+) -> usize {
+    let n = out::put(to, out, held, label);
+    out::put(to, out, n, words::word(b"0 dirty", dirt(table, from)))
 }
 
 // 0 where every number from `from` on is 0, else 1.
