@@ -5,7 +5,7 @@ use fields_rules::Content;
 use labels::stage_label;
 use lines::numbers;
 use questions::asked::Asked;
-use std::alloc::AllocError;
+use std::io::Stdout;
 use words::Spelt;
 
 // `word` is LABEL, which is spelt into room of its own.
@@ -13,13 +13,15 @@ pub fn label(
     asked: Asked,
     word: &[u8],
     recording: &[u8],
-    out: &mut Vec<u8>,
-) -> Result<(), AllocError> {
+    to: Stdout,
+    out: &mut [u8; 65536],
+    held: usize,
+) -> usize {
     let mut room = [0u8; 65536];
     let spelt = words::spell(word, &mut room);
     match spelt {
-        Spelt::Bad => bad(out),
-        Spelt::Bytes(length) => label_told(asked, recording, &room, length, out),
+        Spelt::Bad => bad(to, out, held),
+        Spelt::Bytes(length) => label_told(asked, recording, &room, length, to, out, held),
     }
 }
 
@@ -29,14 +31,16 @@ fn label_told<'a>(
     recording: &'a [u8],
     room: &'a [u8; 65536],
     length: usize,
-    out: &mut Vec<u8>,
-) -> Result<(), AllocError> {
+    to: Stdout,
+    out: &mut [u8; 65536],
+    held: usize,
+) -> usize {
     let whole: &[u8] = room;
     if whole.len() < length {
-        return bad(out);
+        return bad(to, out, held);
     }
     let shown = stage_label(recording, content_of(asked), &whole[0..length]);
-    numbers::put_bytes(out, b"label ", shown)
+    numbers::put_bytes(to, out, held, b"label ", shown)
 }
 
 // RANGE
