@@ -36,29 +36,14 @@ cut_is {kind} {k} {from} {end} e t says =
     both false b q = let z : ◌≡◌ {A = ℕ} 0 1 = cc in absurd (omega arith)
 
 -- A number that is no kind's has no word: the space alone is cut.
-pub no_word :
-    (kind : ℕ) → kind ≢ 1 → kind ≢ 2 → kind ≢ 3 → kind ≢ 4 → kind ≢ 5 → kind ≢ 6 → kind ≢ 7 → kind ≢ 8
-    → Cuts kind (record { from = 0; end = 1 })
-unfolding kind_word
-no_word kind a b c d e f g h =
-    let none : kind_word kind ≡ [] =
-    rw (
-      ne_eqb _ _ a,
-      ne_eqb _ _ b,
-      ne_eqb _ _ c,
-      ne_eqb _ _ d,
-      ne_eqb _ _ e,
-      ne_eqb _ _ f,
-      ne_eqb _ _ g,
-      ne_eqb _ _ h,
-    )
-    refl in
+pub no_word : (kind : ℕ) → kind_word kind ≡ [] → Cuts kind (record { from = 0; end = 1 })
+no_word kind e =
     record {
       low = omega arith;
       high = omega arith;
       few = omega arith;
-      short = rw none (omega arith);
-      says = rw none refl;
+      short = rw e (omega arith);
+      says = rw e refl;
     }
 
 -- What was cut out and put is the word of that kind.
@@ -71,3 +56,24 @@ put_cut kind cut page held r page' k w =
     let e = v.ends in
     let s = k.short in
     (v, omega arith)
+
+-- So says a number that is none of the eight.
+pub no_kind :
+    (kind : ℕ) → kind ≢ 1 → kind ≢ 2 → kind ≢ 3 → kind ≢ 4 → kind ≢ 5 → kind ≢ 6 → kind ≢ 7 → kind ≢ 8
+    → Cuts kind (record { from = 0; end = 1 })
+unfolding kind_word
+no_kind kind a b c d e f g h = no_word kind none
+  where
+    none : kind_word kind ≡ []
+    none =
+        rw (
+          ne_eqb _ _ a,
+          ne_eqb _ _ b,
+          ne_eqb _ _ c,
+          ne_eqb _ _ d,
+          ne_eqb _ _ e,
+          ne_eqb _ _ f,
+          ne_eqb _ _ g,
+          ne_eqb _ _ h,
+        )
+        refl

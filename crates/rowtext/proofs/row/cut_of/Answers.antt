@@ -2,12 +2,12 @@
 use mathlib.Core.Path.{refl}
 use native.Mathlib.Omega.{arith}
 use Rattle.rowtext.specs.Lines.{kind_word}
-use Rattle.rowtext.proofs.Words.{cut_is, no_word}
+use Rattle.rowtext.proofs.Words.{cut_is, no_kind}
 use Rattle.rowtext.proofs.row.cut_of.Goals as goal
 
 pub returns-in_default : goal.returns-in_default
 returns-in_default c =
-    no_word c.args.kind (omega arith) (omega arith) (omega arith) (omega arith) (omega arith) (omega arith)
+    no_kind c.args.kind (omega arith) (omega arith) (omega arith) (omega arith) (omega arith) (omega arith)
     (omega arith) (omega arith)
 
 pub returns-in-1 : goal.returns-in-1
