@@ -1,5 +1,5 @@
--- `uz_open` meets its contract: the face of the reply of `open` in the mode that is named, and its tables; or 14. Assumes
--- nothing.
+-- `uz_open` meets its contract: the face of the reply of `open` in the mode that is named, and its tables; or 14.
+-- Assumes nothing.
 use mathlib.Core.Path.{refl, sym, ◌∙◌}
 use Rattle.viewer_rules.proofs.Crossing.{open_crosses, open_unnamed}
 use Rattle.viewer.proofs.opened.uz_open.Goals as goal
@@ -7,15 +7,16 @@ use Rattle.viewer.proofs.opened.uz_open.Goals as goal
 pub returns-in-Mode : goal.returns-in-Mode
 returns-in-Mode c =
     rw c.opened_face.ensures
-    (open_crosses _ _ _ _ _ _ (sym c.chosen_mode.ensures
-    ∙ c.in-Mode.is) c.«open».ensures)
-
--- ? pub UNKNOWN_same-length-6 : goal.UNKNOWN_same-length-6
--- ? UNKNOWN_same-length-6 c = ?
--- ?     search (rules, c.clear.kept)
+    (open_crosses _ _ _ _ _ _ (sym c.chosen_mode.ensures ∙ c.in-Mode.is) c.«open».ensures)
 
 pub returns-in-NoMode : goal.returns-in-NoMode
 returns-in-NoMode c =
     rw c.opened_face-in-NoMode.ensures
     (open_unnamed _ _ _ _ (sym c.chosen_mode.ensures ∙ c.in-NoMode.is)
-    (rw (c.clear.ensures, c.clear-in-NoMode.ensures, c.clear-in-NoMode-2.ensures, c.clear-in-NoMode-3.ensures, c.clear-in-NoMode-4.ensures) refl))
+    (rw (
+      c.clear.ensures,
+      c.clear-in-NoMode.ensures,
+      c.clear-in-NoMode-2.ensures,
+      c.clear-in-NoMode-3.ensures,
+      c.clear-in-NoMode-4.ensures,
+    ) refl))
