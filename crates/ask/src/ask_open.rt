@@ -132,12 +132,7 @@ fn put_parts(
 }
 
 // A part behind its name.
-fn put_part(
-    name: &[u8],
-    part: Part,
-    table: &[u64],
-    out: &mut Vec<u8>,
-) -> Result<(), AllocError> {
+fn put_part(name: &[u8], part: Part, table: &[u64], out: &mut Vec<u8>) -> Result<(), AllocError> {
     out::put(out, name)?;
     match part {
         Part::Absent => put_absent(table, out),

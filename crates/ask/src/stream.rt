@@ -21,7 +21,11 @@ struct State {
 }
 
 // Answers every line, until the input ends, or can't be read, or an answer can't be written.
-pub fn answer_all<R: Read, W: Write>(alloc: Global, input: &mut R, output: &mut W) -> io::Result<()> {
+pub fn answer_all<R: Read, W: Write>(
+    alloc: Global,
+    input: &mut R,
+    output: &mut W,
+) -> io::Result<()> {
     let mut room = [0u8; 1_048_576];
     let mut state = State {
         held: 0,
