@@ -16,8 +16,8 @@
 
       cc -std=c99 example.c $(pkg-config --cflags --libs uzrafmed) -o example
 
-  Without installing: `rt staticlib viewer` writes the proved calls to target/staticlib/libviewer.a, and
-  viewer/refusals.c has the words.
+  Without installing: `viewer/build` has the proved calls written to target/staticlib/libviewer.a, and viewer/refusals.c
+  has the words.
 
   There are seven proved calls, and a table of words:
 
