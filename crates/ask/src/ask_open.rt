@@ -7,7 +7,7 @@ use lines::{numbers, out};
 use open_rules::{OpenReply, Part, Parts};
 use questions::open::{AskedOpen, asked_open};
 use questions::table::MOST_ASKED;
-use std::alloc::AllocError;
+use std::io::Stdout;
 
 // The answer to a line whose question, at the place `name`, is `open`.
 pub fn open(
@@ -19,8 +19,10 @@ pub fn open(
     attachments: &mut [u64; MOST_ASKED],
     chapters: &mut [u64; MOST_ASKED],
     tags: &mut [u64; MOST_ASKED],
-    out: &mut Vec<u8>,
-) -> Result<(), AllocError>
+    to: Stdout,
+    out: &mut [u8; 65536],
+    held: usize,
+) -> usize
     requires { name ≤ 1 }
 {
     let asked = asked_open(
@@ -34,7 +36,7 @@ pub fn open(
         tags,
     );
     if !asked.good {
-        return bad(out);
+        return bad(to, out, held);
     }
     lend(
         asked,
@@ -44,7 +46,9 @@ pub fn open(
         attachments,
         chapters,
         tags,
+        to,
         out,
+        held,
     )
 }
 
@@ -57,8 +61,10 @@ fn lend(
     attachments: &mut [u64],
     chapters: &mut [u64],
     tags: &mut [u64],
-    out: &mut Vec<u8>,
-) -> Result<(), AllocError>
+    to: Stdout,
+    out: &mut [u8; 65536],
+    held: usize,
+) -> usize
     requires { (asked.bytes ≤ length recording.now) × (asked.info ≤ length info.old)
         × (asked.tracks ≤ length tracks.old) × (asked.attachments ≤ length attachments.old)
         × (asked.chapters ≤ length chapters.old) × (asked.tags ≤ length tags.old) }
@@ -77,7 +83,9 @@ fn lend(
         &mut attachments[..third],
         &mut chapters[..fourth],
         &mut tags[..fifth],
+        to,
         out,
+        held,
     )
 }
 
@@ -90,8 +98,10 @@ fn put_open(
     attachments: &mut [u64],
     chapters: &mut [u64],
     tags: &mut [u64],
-    out: &mut Vec<u8>,
-) -> Result<(), AllocError> {
+    to: Stdout,
+    out: &mut [u8; 65536],
+    held: usize,
+) -> usize {
     match open::open(recording, live, info, tracks, attachments, chapters, tags) {
         OpenReply::Refused(refusal) => put_unopened(
             refusal,
@@ -100,11 +110,13 @@ fn put_open(
             attachments,
             chapters,
             tags,
+            to,
             out,
+            held,
         ),
         OpenReply::Read { parts, heads } => {
-            numbers::put_decimal(out, b"heads ", heads)?;
-            put_parts(parts, info, tracks, attachments, chapters, tags, out)
+            let n = numbers::put_decimal(to, out, held, b"heads ", heads);
+            put_parts(parts, info, tracks, attachments, chapters, tags, to, out, n)
         }
     }
 }
@@ -117,25 +129,34 @@ fn put_parts(
     attachments: &[u64],
     chapters: &[u64],
     tags: &[u64],
-    out: &mut Vec<u8>,
-) -> Result<(), AllocError> {
+    to: Stdout,
+    out: &mut [u8; 65536],
+    held: usize,
+) -> usize {
     let first = parts.info;
     let second = parts.tracks;
     let third = parts.attachments;
     let fourth = parts.chapters;
     let fifth = parts.tags;
-    put_part(b" info", first, info, out)?;
-    put_part(b" tracks", second, tracks, out)?;
-    put_part(b" attachments", third, attachments, out)?;
-    put_part(b" chapters", fourth, chapters, out)?;
-    put_part(b" tags", fifth, tags, out)
+    let n = put_part(b" info", first, info, to, out, held);
+    let n = put_part(b" tracks", second, tracks, to, out, n);
+    let n = put_part(b" attachments", third, attachments, to, out, n);
+    let n = put_part(b" chapters", fourth, chapters, to, out, n);
+    put_part(b" tags", fifth, tags, to, out, n)
 }
 
 // A part behind its name.
-fn put_part(name: &[u8], part: Part, table: &[u64], out: &mut Vec<u8>) -> Result<(), AllocError> {
-    out::put(out, name)?;
+fn put_part(
+    name: &[u8],
+    part: Part,
+    table: &[u64],
+    to: Stdout,
+    out: &mut [u8; 65536],
+    held: usize,
+) -> usize {
+    let n = out::put(to, out, held, name);
     match part {
-        Part::Absent => put_absent(table, out),
-        Part::Found { at, size, rows } => put_found(at, size, rows, table, out),
+        Part::Absent => put_absent(table, to, out, n),
+        Part::Found { at, size, rows } => put_found(at, size, rows, table, to, out, n),
     }
 }

@@ -19,7 +19,7 @@ use questions::asked::{Asked, asked_of, name_place};
 use questions::list::entry_of;
 use questions::table::MOST_ASKED;
 use replies::{label, record, shown_bytes};
-use std::alloc::AllocError;
+use std::io::Stdout;
 
 // The questions that are answered with bytes, by their numbers in the list.
 const LABEL: usize = 6;
@@ -43,11 +43,13 @@ pub fn answer(
     attachments: &mut [u64; MOST_ASKED],
     chapters: &mut [u64; MOST_ASKED],
     tags: &mut [u64; MOST_ASKED],
-    out: &mut Vec<u8>,
-) -> Result<(), AllocError> {
+    to: Stdout,
+    out: &mut [u8; 65536],
+    held: usize,
+) -> usize {
     let name = name_place(line);
     if words::same(words::word(line, name), b"open") {
-        open(
+        let n = open(
             line,
             name,
             recording,
@@ -56,9 +58,11 @@ pub fn answer(
             attachments,
             chapters,
             tags,
+            to,
             out,
-        )?;
-        return out::put(out, b"\n");
+            held,
+        );
+        return out::put(to, out, n, b"\n");
     }
     let list = b"\
         header ab id size length\n\
@@ -87,8 +91,8 @@ pub fn answer(
         info astkb uid previous next families title duration scale date muxing writing\n\
         family astkib uid\n\
         shown asptrb text\n";
-    put_answer(list, line, recording, table, out)?;
-    out::put(out, b"\n")
+    let n = put_answer(list, line, recording, table, to, out, held);
+    out::put(to, out, n, b"\n")
 }
 
 // The answer by the line of its question in the list.
@@ -97,8 +101,10 @@ fn put_answer(
     line: &[u8],
     recording: &mut [u8; 65536],
     table: &mut [u64; MOST_ASKED],
-    out: &mut Vec<u8>,
-) -> Result<(), AllocError> {
+    to: Stdout,
+    out: &mut [u8; 65536],
+    held: usize,
+) -> usize {
     let name = name_place(line);
     let entry = entry_of(list, words::word(line, name));
     let from = entry.from;
@@ -111,10 +117,10 @@ fn put_answer(
         table,
     );
     if !asked.good {
-        return bad(out);
+        return bad(to, out, held);
     }
     if asked.live && entry.number < FIRST_LIVE {
-        return bad(out);
+        return bad(to, out, held);
     }
     lend(
         entry.number,
@@ -123,7 +129,9 @@ fn put_answer(
         asked,
         recording,
         table,
+        to,
         out,
+        held,
     )
 }
 
@@ -135,8 +143,10 @@ fn lend(
     asked: Asked,
     recording: &[u8],
     table: &mut [u64],
-    out: &mut Vec<u8>,
-) -> Result<(), AllocError>
+    to: Stdout,
+    out: &mut [u8; 65536],
+    held: usize,
+) -> usize
     requires { (asked.bytes ≤ length recording.now) × (asked.numbers ≤ length table.old) }
 {
     let bytes = asked.bytes;
@@ -148,7 +158,9 @@ fn lend(
         asked,
         &recording[..bytes],
         &mut table[..numbers],
+        to,
         out,
+        held,
     )
 }
 
@@ -160,14 +172,16 @@ fn reply(
     asked: Asked,
     recording: &[u8],
     table: &mut [u64],
-    out: &mut Vec<u8>,
-) -> Result<(), AllocError> {
+    to: Stdout,
+    out: &mut [u8; 65536],
+    held: usize,
+) -> usize {
     if question == LABEL {
-        return label(asked, words::word(line, 2), recording, out);
+        return label(asked, words::word(line, 2), recording, to, out, held);
     }
     let told = base(question, asked, recording, table);
     let bytes = bytes_of(question, asked, recording, table);
-    put_told(told, entry, bytes, table, out)
+    put_told(told, entry, bytes, table, to, out, held)
 }
 
 // What the answer tells, by the number of the question.

@@ -15,8 +15,6 @@ mod ask_whose;
 mod line;
 mod stream;
 
-use std::io;
-
-fn main(rt: HostRuntime) -> io::Result<()> {
-    stream::answer_all(rt.alloc(), &mut rt.reader(), &mut io::writer(&rt))
+fn main(rt: HostRuntime) {
+    stream::answer_all(rt);
 }

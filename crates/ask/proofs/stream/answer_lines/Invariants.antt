@@ -3,7 +3,7 @@ use Rattle.std.proofs.Common.{◌-◌, ◌≤◌, length}
 use Rattle.ask.proofs.stream.answer_lines.Given as goal
 
 abbrev pub invariant-loop-end : goal.invariant-loop-end
-invariant-loop-end g l = (l.from ≤ l.end) × (l.end ≤ length l.read)
+invariant-loop-end l = (l.from ≤ l.end) × (l.end ≤ length l.read)
 
 abbrev pub decreases-loop-end : goal.decreases-loop-end
-decreases-loop-end g l = length l.read - l.end
+decreases-loop-end l = length l.read - l.end
