@@ -24,7 +24,7 @@ use Rattle.walks_rules.specs.Endings.{pass_over}
 use Rattle.segments_rules.specs.Segment.{segment_of, stretch_of, overruns, visit, segment_children, lookup_of}
 use Rattle.search_rules.specs.Part.{parent_of, Search, found, absent, refused, search_of, reply_of, table_of}
 use Rattle.search_rules.specs.Part.{found_part, absent_part, part_told}
-use Rattle.search_rules.specs.Theorems.{tags_alone, tags_behind_aHead, NotMadeUp, NotUntouched}
+use Rattle.search_rules.specs.Theorems.{tags_alone, tags_behind_a_head, NotMadeUp, NotUntouched}
 use Rattle.search_rules.specs.declared.part.PartReply.{PartReply}
 use Rattle.search_rules.specs.declared.part.PartReply.TheVariants.{Found, Absent, Refused}
 
@@ -34,7 +34,7 @@ unfoldable alone : Type 0
 alone = (live : Bool) → reply_of (search_of live tags_alone 0x1254C367 0) ≡ accepted (found_part 10 0 0 0)
 
 unfoldable behind : Type 0
-behind = (live : Bool) → reply_of (search_of live tags_behind_aHead 0x1254C367 0) ≡ accepted (absent_part 1)
+behind = (live : Bool) → reply_of (search_of live tags_behind_a_head 0x1254C367 0) ≡ accepted (absent_part 1)
 
 is_alone : alone
 unfolding alone octet_bits bits one_more width_of big_endian_from big_endian of_width vint_of sized named header_of
@@ -66,7 +66,7 @@ pub not_made_up : NotMadeUp
 unfolding alone behind
 not_made_up live t u r r' t' u' l m p q =
     let a = ap (λ (n : ℕ). reply_of (search_of live tags_alone 0x1254C367 n)) l in
-    let b = ap (λ (n : ℕ). reply_of (search_of live tags_behind_aHead 0x1254C367 n)) m in
+    let b = ap (λ (n : ℕ). reply_of (search_of live tags_behind_a_head 0x1254C367 n)) m in
     (one_found r (p.reply ∙ a ∙ is_alone live), none_found r' (q.reply ∙ b ∙ is_behind live))
 
 -- ---- the table

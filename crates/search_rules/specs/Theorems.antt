@@ -85,8 +85,8 @@ NotUntouched =
 abbrev pub tags_alone : List ℕ
 tags_alone = 0x18 ∷ 0x53 ∷ 0x80 ∷ 0x67 ∷ 0x85 ∷ 0x12 ∷ 0x54 ∷ 0xC3 ∷ 0x67 ∷ 0x80 ∷ []
 
-abbrev pub tags_behind_aHead : List ℕ
-tags_behind_aHead =
+abbrev pub tags_behind_a_head : List ℕ
+tags_behind_a_head =
     0x18 ∷ 0x53 ∷ 0x80 ∷ 0x67 ∷ 0x8A ∷ 0x11 ∷ 0x4D ∷ 0x9B ∷ 0x74 ∷ 0x80 ∷ 0x12 ∷ 0x54 ∷ 0xC3 ∷ 0x67 ∷ 0x80 ∷ []
 
 -- The reply on the first says 0 heads, on the second 1: no one count is permitted for both. `HeadsCounted` says it of
@@ -94,5 +94,5 @@ tags_behind_aHead =
 abbrev pub NotMadeUp : Type 0
 NotMadeUp =
     (live : Bool) (t u : List ℕ) (r r' : PartReply) (t' u' : List ℕ) → length t ≡ 0 → length u ≡ 0
-    → PartPromise live tags_alone 0x1254C367 t r t' → PartPromise live tags_behind_aHead 0x1254C367 u r' u'
+    → PartPromise live tags_alone 0x1254C367 t r t' → PartPromise live tags_behind_a_head 0x1254C367 u r' u'
     → (r ≡ Found 10 0 0 0) × (r' ≡ Absent 1)
