@@ -7,8 +7,8 @@ pub data Case : Type 0 where
   lists : List ℕ → List ℕ → Case
 
 -- The 39 bytes of document 01, and what it prints for them.
-abbrev tags_behind_aHead : List ℕ
-tags_behind_aHead =
+abbrev tags_behind_a_head : List ℕ
+tags_behind_a_head =
     0x18 ∷ 0x53 ∷ 0x80 ∷ 0x67 ∷ 0xA2 ∷ 0x11 ∷ 0x4D ∷ 0x9B ∷ 0x74 ∷ 0x8E ∷ 0x4D ∷ 0xBB ∷ 0x8B ∷ 0x53 ∷ 0xAB ∷ 0x84
     ∷ 0x12 ∷ 0x54 ∷ 0xC3 ∷ 0x67 ∷ 0x53 ∷ 0xAC ∷ 0x81 ∷ 0x13 ∷ 0x12 ∷ 0x54 ∷ 0xC3 ∷ 0x67 ∷ 0x8A ∷ 0x73 ∷ 0x73 ∷ 0x87
     ∷ 0x67 ∷ 0xC8 ∷ 0x84 ∷ 0x45 ∷ 0xA3 ∷ 0x81 ∷ 0x41 ∷ []
@@ -56,7 +56,7 @@ Hold (c ∷ cs) = Holds c × Hold cs
 
 abbrev pub cases : List Case
 cases =
-    lists tags_behind_aHead document_listing
+    lists tags_behind_a_head document_listing
     ∷ lists [] empty_listing
     ∷ lists too_far too_far_listing
     ∷ []
