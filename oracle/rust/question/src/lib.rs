@@ -217,6 +217,8 @@ pub const LIVE_WORDS: [&str; 18] = [
     "info",
     "family",
 ];
+/// So many of them are asked where `live` stands alone; `open`, `info` and `family` are named behind it.
+pub const LIVE_ALONE: usize = 15;
 
 /// Takes a line apart, its line feed already removed. `None`: a bad question.
 pub fn parse(line: &[u8]) -> Option<Question> {

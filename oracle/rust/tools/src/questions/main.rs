@@ -168,7 +168,10 @@ fn understand(arguments: &[String]) -> Option<Wanted> {
     let (live, words) = match words {
         [word] if word == "live" => (
             Live::Always,
-            question::LIVE_WORDS.map(String::from).to_vec(),
+            question::LIVE_WORDS[..question::LIVE_ALONE]
+                .iter()
+                .map(|known| known.to_string())
+                .collect(),
         ),
         [word, words @ ..] if word == "live" => (Live::EverySecond, words.to_vec()),
         _ => (Live::Never, words.to_vec()),
