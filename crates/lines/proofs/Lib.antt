@@ -1,2 +1,3 @@
 -- The laws that the proofs of `lines` use.
+pub mod Signs
 pub mod Moved
