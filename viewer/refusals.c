@@ -25,8 +25,7 @@ static const uz_words table[] = {
     [UZ_INVALID_SIZE] =
         {"INVALID_SIZE",
          "the size has more than eight bytes, an element is larger than what its master had left, "
-         "or a child of the segment that is passed over, or a part that `open` read there, is "
-         "larger than what was left of it",
+         "or a child of the segment that is passed over is larger than what was left of it",
          "a size has more than eight bytes, or an element is larger than what holds it",
          "where the header with that size begins: of the element that is too large, not of what "
          "holds it",
@@ -91,7 +90,7 @@ static const uz_words table[] = {
     [UZ_UNKNOWN_SIZE] =
         {"UNKNOWN_SIZE",
          "live mode: a size is unknown, that is all ones in its own width, on an element that the "
-         "search or `open` meets and that is no Segment or Cluster, or on any element of a payload",
+         "search meets and that is no Segment or Cluster, or on any element of a payload",
          "live mode: the size of an element other than a Segment or Cluster is not known",
          "the header with that size",
          "read the recording without --live, or write it anew: mkvmerge -o NEW.mkv FILE"},
