@@ -4,7 +4,7 @@
 // are; the ending's kind and its three numbers; and five numbers for each cell, its word, its sign, its value's kind,
 // and the value's two numbers.
 use bodies_rules::Range;
-use fields_rules::{Content, Date, Flag, Language, Number, Real, TagValue};
+use fields_rules::{Language, TagValue};
 use lines::numbers;
 use refusals::Refusal;
 
@@ -124,54 +124,54 @@ pub fn range(told: Told, word: u64, sign: u64, range: Range) -> Told {
     with(told, word, sign, RANGE, range.at, range.length)
 }
 
-pub fn number(told: Told, word: u64, number: Number) -> Told {
+pub fn number(told: Told, word: u64, number: Option<u64>) -> Told {
     match number {
-        Number::Unset => with(told, word, UNSET, NOTHING, 0, 0),
-        Number::Is(number) => count(told, word, number),
+        None => with(told, word, UNSET, NOTHING, 0, 0),
+        Some(number) => count(told, word, number),
     }
 }
 
-pub fn flag(told: Told, word: u64, flag: Flag) -> Told {
+pub fn flag(told: Told, word: u64, flag: Option<bool>) -> Told {
     match flag {
-        Flag::Unset => with(told, word, UNSET, NOTHING, 0, 0),
-        Flag::No => with(told, word, NO, NOTHING, 0, 0),
-        Flag::Yes => with(told, word, YES, NOTHING, 0, 0),
+        None => with(told, word, UNSET, NOTHING, 0, 0),
+        Some(false) => with(told, word, NO, NOTHING, 0, 0),
+        Some(true) => with(told, word, YES, NOTHING, 0, 0),
     }
 }
 
-pub fn real(told: Told, word: u64, real: Real) -> Told {
+pub fn real(told: Told, word: u64, real: Option<f64>) -> Told {
     match real {
-        Real::Unset => with(told, word, UNSET, NOTHING, 0, 0),
-        Real::Is(value) => float(told, word, value),
+        None => with(told, word, UNSET, NOTHING, 0, 0),
+        Some(value) => float(told, word, value),
     }
 }
 
-pub fn date(told: Told, word: u64, date: Date) -> Told {
+pub fn date(told: Told, word: u64, date: Option<i64>) -> Told {
     match date {
-        Date::Unset => with(told, word, UNSET, NOTHING, 0, 0),
-        Date::Is(number) => integer(told, word, number),
+        None => with(told, word, UNSET, NOTHING, 0, 0),
+        Some(number) => integer(told, word, number),
     }
 }
 
-pub fn content(told: Told, word: u64, content: Content) -> Told {
+pub fn content(told: Told, word: u64, content: Option<Range>) -> Told {
     match content {
-        Content::Unset => with(told, word, UNSET, NOTHING, 0, 0),
-        Content::At(found) => range(told, word, 0, found),
+        None => with(told, word, UNSET, NOTHING, 0, 0),
+        Some(found) => range(told, word, 0, found),
     }
 }
 
-pub fn language(told: Told, word: u64, language: Language) -> Told {
+pub fn language(told: Told, word: u64, language: Option<Language>) -> Told {
     match language {
-        Language::Unset => with(told, word, UNSET, NOTHING, 0, 0),
-        Language::Iso(found) => range(told, word, ISO, found),
-        Language::Ietf(found) => range(told, word, IETF, found),
+        None => with(told, word, UNSET, NOTHING, 0, 0),
+        Some(Language::Iso(found)) => range(told, word, ISO, found),
+        Some(Language::Ietf(found)) => range(told, word, IETF, found),
     }
 }
 
-pub fn tag_value(told: Told, word: u64, value: TagValue) -> Told {
+pub fn tag_value(told: Told, word: u64, value: Option<TagValue>) -> Told {
     match value {
-        TagValue::Unset => with(told, word, UNSET, NOTHING, 0, 0),
-        TagValue::Text(found) => range(told, word, TEXT, found),
-        TagValue::Binary(found) => range(told, word, BINARY, found),
+        None => with(told, word, UNSET, NOTHING, 0, 0),
+        Some(TagValue::Text(found)) => range(told, word, TEXT, found),
+        Some(TagValue::Binary(found)) => range(told, word, BINARY, found),
     }
 }

@@ -1,7 +1,7 @@
 // `body ID PARENT AT SIZE ADDRESS BYTES`: the body of an id under a parent id, at a place of a recording.
 use answers::told;
 use answers::told::Told;
-use bodies_rules::{Body, BodyReply, Value};
+use bodies_rules::{Body, Value};
 use questions::asked::Asked;
 
 pub fn body(asked: Asked, recording: &[u8]) -> Told {
@@ -14,8 +14,8 @@ pub fn body(asked: Asked, recording: &[u8]) -> Told {
         asked.address,
     );
     match reply {
-        BodyReply::Refused(refusal) => told::refused(told::REFUSED, refusal),
-        BodyReply::Body(body) => body_told(body),
+        Err(refusal) => told::refused(told::REFUSED, refusal),
+        Ok(body) => body_told(body),
     }
 }
 

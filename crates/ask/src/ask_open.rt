@@ -4,7 +4,7 @@ ghost use Rattle.std.specs.Prelude.{◌≤◌, length};
 use answers::answer::bad;
 use answers::open::{put_absent, put_found, put_unopened};
 use lines::{numbers, out};
-use open_rules::{OpenReply, Part, Parts};
+use open_rules::{Part, Parts};
 use questions::open::{AskedOpen, asked_open};
 use questions::table::MOST_ASKED;
 use std::io::Stdout;
@@ -103,7 +103,7 @@ fn put_open(
     held: usize,
 ) -> usize {
     match open::open(recording, live, info, tracks, attachments, chapters, tags) {
-        OpenReply::Refused(refusal) => put_unopened(
+        Err(refusal) => put_unopened(
             refusal,
             info,
             tracks,
@@ -114,7 +114,7 @@ fn put_open(
             out,
             held,
         ),
-        OpenReply::Read { parts, heads } => {
+        Ok((parts, heads)) => {
             let n = numbers::put_decimal(to, out, held, b"heads ", heads);
             put_parts(parts, info, tracks, attachments, chapters, tags, to, out, n)
         }

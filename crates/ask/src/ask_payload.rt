@@ -1,9 +1,9 @@
 // `payload START SIZE PARENT NUMBERS ROW BYTES`: the payload of a row, after the read of its table.
 use answers::told;
 use answers::told::Told;
-use elements_rules::ReadReply;
-use places_rules::RangeReply;
+use bodies_rules::Range;
 use questions::asked::Asked;
+use refusals::Refusal;
 
 pub fn payload(asked: Asked, recording: &[u8], table: &mut [u64]) -> Told {
     let reply = elements::read(
@@ -18,19 +18,12 @@ pub fn payload(asked: Asked, recording: &[u8], table: &mut [u64]) -> Told {
 }
 
 // The refusal of the read, or `bytes HEX`
-fn payload_told(read: ReadReply, payload: RangeReply) -> Told {
+fn payload_told(read: Result<u64, Refusal>, payload: Result<Range, Refusal>) -> Told {
     match read {
-        ReadReply::Refused(refusal) => told::refused(told::UNREAD, refusal),
-        ReadReply::Rows(_) => match payload {
-            RangeReply::Refused(refusal) => told::refused(told::REFUSED, refusal),
-            RangeReply::Range(_) => told::with(
-                told::before(told::ENDED, 0),
-                0,
-                0,
-                told::BYTES,
-                0,
-                0,
-            ),
+        Err(refusal) => told::refused(told::UNREAD, refusal),
+        Ok(_) => match payload {
+            Err(refusal) => told::refused(told::REFUSED, refusal),
+            Ok(_) => told::with(told::before(told::ENDED, 0), 0, 0, told::BYTES, 0, 0),
         },
     }
 }

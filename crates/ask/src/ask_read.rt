@@ -1,8 +1,8 @@
 // `read START SIZE PARENT NUMBERS BYTES`: a payload's elements, read into a table.
 use answers::told;
 use answers::told::Told;
-use elements_rules::ReadReply;
 use questions::asked::Asked;
+use refusals::Refusal;
 
 pub fn read(asked: Asked, recording: &[u8], table: &mut [u64]) -> Told {
     read_told(elements::read(
@@ -16,9 +16,9 @@ pub fn read(asked: Asked, recording: &[u8], table: &mut [u64]) -> Told {
 }
 
 // TABLE
-fn read_told(reply: ReadReply) -> Told {
+fn read_told(reply: Result<u64, Refusal>) -> Told {
     match reply {
-        ReadReply::Refused(refusal) => told::refused(told::UNREAD, refusal),
-        ReadReply::Rows(rows) => told::before(told::ROWS, rows),
+        Err(refusal) => told::refused(told::UNREAD, refusal),
+        Ok(rows) => told::before(told::ROWS, rows),
     }
 }

@@ -11,9 +11,9 @@ use Rattle.attachments.specs.Promise.{attachment_asked}
 use Rattle.attachments.specs.Theorems.{OneAttachment, AttachmentsRefuseListed, AttachmentsHonest}
 use Rattle.attachments.specs.Theorems.{AttachmentsLive}
 use Rattle.attachments.specs.declared.attachment.Attachment.{Attachment}
-use Rattle.attachments.specs.declared.attachment.AttachmentReply.{AttachmentReply}
-use Rattle.attachments.specs.declared.attachment.AttachmentReply.TheVariants.{Attachment as IsAttachment}
-use Rattle.attachments.specs.declared.attachment.AttachmentReply.TheVariants.{Refused as NoAttachment}
+use Rattle.std.proofs.Common.{Result, Ok, Err}
+use Rattle.refusals.specs.declared.refusal.Refusal.{Refusal}
+use Prim.Native.Nat.{ℕ}
 
 -- The fields tell the record, and document 01's values the reply.
 attachment_once : (a b : Attachment) → attachment_values a ≡ attachment_values b → a ≡ b
@@ -25,11 +25,11 @@ attachment_once a b q i =
       «data» = content_once a.«data» b.«data» (cc) i;
     }
 
-attachment_told_law : (r r' : AttachmentReply) → attachment_told r ≡ attachment_told r' → r ≡ r'
-attachment_told_law (IsAttachment a n) (IsAttachment b m) q = cc (attachment_once a b (cc))
-attachment_told_law (IsAttachment a n) (NoAttachment e) q = cc
-attachment_told_law (NoAttachment e) (IsAttachment b m) q = cc
-attachment_told_law (NoAttachment e) (NoAttachment f) q = cc
+attachment_told_law : (r r' : Result (Attachment × ℕ) Refusal) → attachment_told r ≡ attachment_told r' → r ≡ r'
+attachment_told_law (Ok (a, n)) (Ok (b, m)) q = cc (attachment_once a b (cc))
+attachment_told_law (Ok (a, n)) (Err e) q = cc
+attachment_told_law (Err e) (Ok (b, m)) q = cc
+attachment_told_law (Err e) (Err f) q = cc
 
 pub attachment_unique : OneAttachment
 attachment_unique live s start size k = one_reply _ (attachment_asked live s start size k) attachment_told attachment_told_law
@@ -45,5 +45,5 @@ attachments_honest = record {
 pub attachments_live : AttachmentsLive
 attachments_live = record {
   attachment = λ s start size k.
-      record_modes attachment_told NoAttachment attachment_told_law (λ e. refl) _ s start size _ _;
+      record_modes attachment_told Err attachment_told_law (λ e. refl) _ s start size _ _;
 }

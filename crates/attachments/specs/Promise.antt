@@ -6,7 +6,9 @@ use Rattle.locate_rules.specs.Promise.{RecordPromise, of_below}
 use Rattle.locate_rules.specs.declared.steps.Step.TheVariants.{Here, Nth}
 use Rattle.attachments.specs.Records.{attachment_of}
 use Rattle.attachments.specs.Told.{attachment_told}
-use Rattle.attachments.specs.declared.attachment.AttachmentReply.{AttachmentReply}
+use Rattle.std.specs.Prelude.{Result}
+use Rattle.attachments.specs.declared.attachment.Attachment.{Attachment}
+use Rattle.refusals.specs.declared.refusal.Refusal.{Refusal}
 
 -- ---- the questions, with a table of so many numbers
 
@@ -19,7 +21,7 @@ module _ (live : Bool) (s : List ℕ) (start size k : ℕ) where
 -- ---- the promises
 
 abbrev pub AttachmentPromise :
-    (live : Bool) (s : List ℕ) (start size k : ℕ) (t : List ℕ) (r : AttachmentReply) (t' : List ℕ) → Type 0
+    (live : Bool) (s : List ℕ) (start size k : ℕ) (t : List ℕ) (r : Result (Attachment × ℕ) Refusal) (t' : List ℕ) → Type 0
 AttachmentPromise live s start size k t r t' =
     RecordPromise (of_below (attachment_of s)) (attachment_asked live s start size k (length t)) (length t)
     (attachment_told r) t'

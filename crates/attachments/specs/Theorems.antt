@@ -5,7 +5,7 @@ use Rattle.locate_rules.specs.Theorems.{OneReply, OnlyListed, OnlyHonest, Addres
 use Rattle.locate_rules.specs.Live.{BothModes}
 use Rattle.attachments.specs.Records.{attachment_of}
 use Rattle.attachments.specs.Promise.{attachment_asked, AttachmentPromise}
-use Rattle.attachments.specs.declared.attachment.AttachmentReply.TheVariants.{Refused as NoAttachment}
+use Rattle.std.specs.Prelude.{Err}
 
 -- Any two replies and tables that a promise permits to one question are equal (document 01, Strength of the promises).
 -- The numbers that stood in the lent table do not matter, only how many there are.
@@ -15,13 +15,13 @@ OneAttachment = (live : Bool) (s : List ℕ) (start size k : ℕ) → OneReply (
 -- A refusal among the replies that a promise permits is one of the list (`Listed`).
 pub record AttachmentsRefuseListed : Type 0 where
   pub attachment :
-      (live : Bool) (s : List ℕ) (start size k : ℕ) → OnlyListed NoAttachment (AttachmentPromise live s start size k)
+      (live : Bool) (s : List ℕ) (start size k : ℕ) → OnlyListed Err (AttachmentPromise live s start size k)
 
 -- Where it broke: the payload's refusals are honest, and 14 and 15 have address 0.
 pub record AttachmentsHonest : Type 0 where
   pub attachment :
       (live : Bool) (s : List ℕ) (start size k : ℕ)
-      → OnlyHonest live s start size 0x61A7 NoAttachment (AttachmentPromise live s start size k)
+      → OnlyHonest live s start size 0x61A7 Err (AttachmentPromise live s start size k)
 
 -- Every address in a record that is told is the payload's place of one of the rows that the table holds at exit.
 pub record AttachmentsAddressed : Type 0 where
@@ -34,4 +34,4 @@ pub record AttachmentsAddressed : Type 0 where
 pub record AttachmentsLive : Type 0 where
   pub attachment :
       (s : List ℕ) (start size k : ℕ)
-      → BothModes s start size 0x61A7 NoAttachment (λ (live : Bool). AttachmentPromise live s start size k)
+      → BothModes s start size 0x61A7 Err (λ (live : Bool). AttachmentPromise live s start size k)

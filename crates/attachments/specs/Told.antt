@@ -4,9 +4,9 @@ use Rattle.fields_rules.specs.Values.{FieldValue}
 use Rattle.fields_rules.specs.Told.{content_told}
 use Rattle.locate_rules.specs.Told.{Answer, fields, refusal}
 use Rattle.attachments.specs.declared.attachment.Attachment.{Attachment}
-use Rattle.attachments.specs.declared.attachment.AttachmentReply.{AttachmentReply}
-use Rattle.attachments.specs.declared.attachment.AttachmentReply.TheVariants.{Attachment as IsAttachment}
-use Rattle.attachments.specs.declared.attachment.AttachmentReply.TheVariants.{Refused as NoAttachment}
+use Rattle.std.specs.Prelude.{Result, Ok, Err}
+use Rattle.refusals.specs.declared.refusal.Refusal.{Refusal}
+use Rattle.std.specs.Prelude.{ℕ}
 
 -- ---- the fields of a record
 
@@ -16,6 +16,6 @@ attachment_values a =
 
 -- ---- the replies
 
-abbrev pub attachment_told : AttachmentReply → Answer
-attachment_told (IsAttachment a rows) = fields (attachment_values a) rows
-attachment_told (NoAttachment e) = refusal e
+abbrev pub attachment_told : Result (Attachment × ℕ) Refusal → Answer
+attachment_told (Ok (a, rows)) = fields (attachment_values a) rows
+attachment_told (Err e) = refusal e

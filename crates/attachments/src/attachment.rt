@@ -6,26 +6,20 @@ ghost use Rattle.attachments.specs.Records.{attachment_of};
 ghost use Rattle.attachments.specs.Told.{attachment_values};
 ghost use Rattle.attachments.specs.Promise.{AttachmentPromise};
 
+use bodies_rules::Range;
 use fields::content_field;
-use fields_rules::{Below, Content};
+use fields_rules::Below;
 use kinds::{Kind, ids};
 use locate::locate;
-use locate_rules::{Located, Step, Way};
+use locate_rules::{Step, Way};
 use refusals::Refusal;
 
 #[derive(Clone, Copy)]
 pub struct Attachment {
-    pub description: Content,
-    pub name: Content,
-    pub mime_type: Content,
-    pub data: Content,
-}
-
-// The record with how many rows the table holds, or a refusal.
-#[derive(Clone, Copy)]
-pub enum AttachmentReply {
-    Attachment { attachment: Attachment, rows: u64 },
-    Refused(Refusal),
+    pub description: Option<Range>,
+    pub name: Option<Range>,
+    pub mime_type: Option<Range>,
+    pub data: Option<Range>,
 }
 
 // The attached file, by the rows below its master.
@@ -50,7 +44,7 @@ pub fn attachment_at(
     size: u64,
     k: u64,
     table: &mut [u64],
-) -> AttachmentReply
+) -> Result<(Attachment, u64), Refusal>
     ensures { AttachmentPromise live recording.now start size k
         table.old result table.new }
 {
@@ -64,10 +58,7 @@ pub fn attachment_at(
         third: Step::Here,
     };
     match locate(recording, live, start, size, ids::ATTACHEDFILE, way, table) {
-        Located::Refused(refusal) => AttachmentReply::Refused(refusal),
-        Located::At { master, rows } => AttachmentReply::Attachment {
-            attachment: attachment_in(recording, table, master),
-            rows: rows as u64,
-        },
+        Err(refusal) => Err(refusal),
+        Ok((master, rows)) => Ok((attachment_in(recording, table, master), rows as u64)),
     }
 }

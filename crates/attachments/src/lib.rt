@@ -6,4 +6,4 @@
 
 mod attachment;
 
-pub use attachment::{Attachment, AttachmentReply, attachment_at, attachment_in};
+pub use attachment::{Attachment, attachment_at, attachment_in};

@@ -3,7 +3,7 @@ ghost use Rattle.std.specs.Prelude.{◌≡◌, ◌+◌, length, leb};
 ghost use Rattle.kinds.specs.declared.kind.Kind.TheVariants.{Utf8, Binary};
 ghost use Rattle.bodies_rules.specs.Reads.{body_read};
 
-use bodies_rules::{Body, BodyRead, Range, Value};
+use bodies_rules::{Body, Range, Value};
 use header::Cursor;
 use refusals::Cause;
 use utf8::is_utf8;
@@ -21,36 +21,36 @@ fn is_there(place: Cursor, recording: &[u8], size: u64) -> bool
 }
 
 // A text of either kind: the bytes have to be there, and then to be UTF-8.
-pub fn read_text(place: Cursor, recording: &[u8], size: u64) -> BodyRead
+pub fn read_text(place: Cursor, recording: &[u8], size: u64) -> Result<(Body, Cursor), Cause>
     ensures { result ≡ body_read Utf8 recording.now place.at size }
 {
     if !is_there(place, recording, size) {
-        return BodyRead::Refused(Cause::PastEnd);
+        return Err(Cause::PastEnd);
     }
     let at = place.at;
     let end = at + size;
     let first = at as usize;
     let last = end as usize;
     if !is_utf8(&recording[first..last]) {
-        return BodyRead::Refused(Cause::NotUtf8);
+        return Err(Cause::NotUtf8);
     }
-    BodyRead::Read(
+    Ok((
         Body::Value(Value::Text(Range { at, length: size })),
         Cursor { at: end },
-    )
+    ))
 }
 
 // Any bytes.
-pub fn read_bytes(place: Cursor, recording: &[u8], size: u64) -> BodyRead
+pub fn read_bytes(place: Cursor, recording: &[u8], size: u64) -> Result<(Body, Cursor), Cause>
     ensures { result ≡ body_read Binary recording.now place.at size }
 {
     if !is_there(place, recording, size) {
-        return BodyRead::Refused(Cause::PastEnd);
+        return Err(Cause::PastEnd);
     }
     let at = place.at;
     let end = at + size;
-    BodyRead::Read(
+    Ok((
         Body::Value(Value::Bytes(Range { at, length: size })),
         Cursor { at: end },
-    )
+    ))
 }

@@ -2,7 +2,7 @@
 ghost use Rattle.bodies_rules.specs.Promise.{BodyPromise};
 
 use crate::typed::read_body;
-use bodies_rules::{Body, BodyRead, BodyReply};
+use bodies_rules::Body;
 use header::{Cursor, Headed, Header, MOST_BYTES};
 use kind_decision::kind_of;
 use refusals::{Cause, Refusal};
@@ -16,18 +16,18 @@ pub fn body_at(
     at: u64,
     size: u64,
     address: u64,
-) -> BodyReply
+) -> Result<Body, Refusal>
     ensures { BodyPromise recording.now id parent at size address result }
 {
     let length = recording.len() as u64;
     if MOST_BYTES < length {
-        return BodyReply::Refused(Refusal {
+        return Err(Refusal {
             address: 0,
             cause: Cause::BadArgument,
         });
     }
     if length < at {
-        return BodyReply::Refused(Refusal {
+        return Err(Refusal {
             address: 0,
             cause: Cause::BadArgument,
         });
@@ -44,7 +44,7 @@ pub fn body_at(
         },
     };
     match read_body(recording, element, kind) {
-        BodyRead::Read(body, _) => BodyReply::Body(body),
-        BodyRead::Refused(cause) => BodyReply::Refused(Refusal { address, cause }),
+        Ok((body, _)) => Ok(body),
+        Err(cause) => Err(Refusal { address, cause }),
     }
 }

@@ -3,13 +3,14 @@ ghost use Rattle.std.specs.Prelude.{◌≡◌};
 ghost use Rattle.bodies_rules.specs.Reads.{body_read};
 
 use crate::range::{read_bytes, read_text};
-use bodies_rules::{Body, BodyRead};
+use bodies_rules::Body;
 use header::{Cursor, Headed};
 use kinds::Kind;
 use number_bodies::{read_date, read_float, read_int, read_uint};
+use refusals::Cause;
 
 // The body of an element whose header was read. Of a master nothing is tested here.
-pub fn read_body(recording: &[u8], element: Headed, kind: Kind) -> BodyRead
+pub fn read_body(recording: &[u8], element: Headed, kind: Kind) -> Result<(Body, Cursor), Cause>
     ensures { result ≡ body_read kind recording.now element.payload.at element.header.size }
 {
     // Two numbers cross to the readers, so that the element itself need not lie in memory.
@@ -17,7 +18,7 @@ pub fn read_body(recording: &[u8], element: Headed, kind: Kind) -> BodyRead
     let size = element.header.size;
     let payload = Cursor { at };
     match kind {
-        Kind::Master => BodyRead::Read(Body::Master, payload),
+        Kind::Master => Ok((Body::Master, payload)),
         Kind::Int => read_int(payload, recording, size),
         Kind::Uint => read_uint(payload, recording, size),
         Kind::String => read_text(payload, recording, size),

@@ -16,96 +16,96 @@ use Rattle.bodies_rules.specs.Bodies.{body_of, payload}
 use Rattle.bodies_rules.specs.Reads.{body_read}
 use Rattle.bodies_rules.specs.declared.body.Body.TheVariants as B
 use Rattle.bodies_rules.specs.declared.body.Value.TheVariants as W
-use Rattle.bodies_rules.specs.declared.body.BodyRead.TheVariants.{Read, Refused}
 use Rattle.bodies_rules.proofs.Found.{Found}
+use Rattle.std.proofs.Common.{Ok, Err}
 
 module _ (s : List ℕ) (at n : ℕ) where
-  pub int_long : 8 < n → Refused C.InvalidUint ≡ body_read K.Int s at n
+  pub int_long : 8 < n → Err C.InvalidUint ≡ body_read K.Int s at n
   unfolding body_read body_of
   int_long h = rw (lt-leb n 8 h)
 
-  pub uint_long : 8 < n → Refused C.InvalidUint ≡ body_read K.Uint s at n
+  pub uint_long : 8 < n → Err C.InvalidUint ≡ body_read K.Uint s at n
   unfolding body_read body_of
   uint_long h = rw (lt-leb n 8 h)
 
-  pub date_other : (n ≡ 8 → ⊥) → Refused C.InvalidDate ≡ body_read K.Date s at n
+  pub date_other : (n ≡ 8 → ⊥) → Err C.InvalidDate ≡ body_read K.Date s at n
   unfolding body_read body_of
   date_other h = rw (ne_eqb n 8 h)
 
-  pub float_other : (n ≡ 4 → ⊥) → (n ≡ 8 → ⊥) → Refused C.InvalidFloat ≡ body_read K.Float s at n
+  pub float_other : (n ≡ 4 → ⊥) → (n ≡ 8 → ⊥) → Err C.InvalidFloat ≡ body_read K.Float s at n
   unfolding body_read body_of
   float_other h g = rw (ne_eqb n 4 h, ne_eqb n 8 g)
 
   -- The octets are missing.
   module _ (missing : leb (at + n) (length s) ≡ false) where
-    pub int_ends : n ≤ 8 → Refused C.PastEnd ≡ body_read K.Int s at n
+    pub int_ends : n ≤ 8 → Err C.PastEnd ≡ body_read K.Int s at n
     unfolding body_read body_of
     int_ends h = rw (le-leb n 8 h, missing)
 
-    pub uint_ends : n ≤ 8 → Refused C.PastEnd ≡ body_read K.Uint s at n
+    pub uint_ends : n ≤ 8 → Err C.PastEnd ≡ body_read K.Uint s at n
     unfolding body_read body_of
     uint_ends h = rw (le-leb n 8 h, missing)
 
-    pub date_ends : n ≡ 8 → Refused C.PastEnd ≡ body_read K.Date s at n
+    pub date_ends : n ≡ 8 → Err C.PastEnd ≡ body_read K.Date s at n
     unfolding body_read body_of
     date_ends h = rw (eq-eqb n 8 h, missing)
 
-    pub text_ends : Refused C.PastEnd ≡ body_read K.Utf8 s at n
+    pub text_ends : Err C.PastEnd ≡ body_read K.Utf8 s at n
     unfolding body_read body_of
     text_ends = rw missing
 
-    pub bytes_ends : Refused C.PastEnd ≡ body_read K.Binary s at n
+    pub bytes_ends : Err C.PastEnd ≡ body_read K.Binary s at n
     unfolding body_read body_of
     bytes_ends = rw missing
 
   -- The number was read.
   module _ (v : ℕ) (next : Cursor) (f : Found s at n v next) where
-    pub int_there : n ≤ 8 → Read (B.Value (W.Integer (signed_of n v))) next ≡ body_read K.Int s at n
+    pub int_there : n ≤ 8 → Ok (B.Value (W.Integer (signed_of n v)), next) ≡ body_read K.Int s at n
     unfolding body_read body_of
     int_there h = rw (le-leb n 8 h, f.there, f.value, f.place)
 
-    pub uint_there : n ≤ 8 → Read (B.Value (W.Unsigned v)) next ≡ body_read K.Uint s at n
+    pub uint_there : n ≤ 8 → Ok (B.Value (W.Unsigned v), next) ≡ body_read K.Uint s at n
     unfolding body_read body_of
     uint_there h = rw (le-leb n 8 h, f.there, f.value, f.place)
 
-    pub date_there : n ≡ 8 → Read (B.Value (W.Date (signed_of n v))) next ≡ body_read K.Date s at n
+    pub date_there : n ≡ 8 → Ok (B.Value (W.Date (signed_of n v)), next) ≡ body_read K.Date s at n
     unfolding body_read body_of
     date_there h = rw (eq-eqb n 8 h, f.there, f.value, f.place)
 
   -- The octets are there.
   module _ (there : leb (at + n) (length s) ≡ true) where
-    pub text_bad : utf8 (payload s at n) ≡ false → Refused C.NotUtf8 ≡ body_read K.Utf8 s at n
+    pub text_bad : utf8 (payload s at n) ≡ false → Err C.NotUtf8 ≡ body_read K.Utf8 s at n
     unfolding body_read body_of
     text_bad h = rw (there, h)
 
     pub text_there :
         utf8 (payload s at n) ≡ true
-        → Read (B.Value (W.Text (record { at = at; length = n }))) (record { at = at + n }) ≡ body_read K.Utf8 s at n
+        → Ok (B.Value (W.Text (record { at = at; length = n })), record { at = at + n }) ≡ body_read K.Utf8 s at n
     unfolding body_read body_of
     text_there h = rw (there, h)
 
     pub bytes_there :
-        Read (B.Value (W.Bytes (record { at = at; length = n }))) (record { at = at + n }) ≡ body_read K.Binary s at n
+        Ok (B.Value (W.Bytes (record { at = at; length = n })), record { at = at + n }) ≡ body_read K.Binary s at n
     unfolding body_read body_of
     bytes_there = rw there
 
 -- A float, by its two sizes.
 module _ (s : List ℕ) (at : ℕ) where
-  pub float_ends_4 : leb (at + 4) (length s) ≡ false → Refused C.PastEnd ≡ body_read K.Float s at 4
+  pub float_ends_4 : leb (at + 4) (length s) ≡ false → Err C.PastEnd ≡ body_read K.Float s at 4
   unfolding body_read body_of
   float_ends_4 missing = rw missing
 
-  pub float_ends_8 : leb (at + 8) (length s) ≡ false → Refused C.PastEnd ≡ body_read K.Float s at 8
+  pub float_ends_8 : leb (at + 8) (length s) ≡ false → Err C.PastEnd ≡ body_read K.Float s at 8
   unfolding body_read body_of
   float_ends_8 missing = rw missing
 
   module _ (v : ℕ) (next : Cursor) where
     pub float_there_4 :
-        Found s at 4 v next → Read (B.Value (W.Float (of_bits binary32 v))) next ≡ body_read K.Float s at 4
+        Found s at 4 v next → Ok (B.Value (W.Float (of_bits binary32 v)), next) ≡ body_read K.Float s at 4
     unfolding body_read body_of float_of
     float_there_4 f = rw (f.there, f.value, f.place)
 
     pub float_there_8 :
-        Found s at 8 v next → Read (B.Value (W.Float (of_bits binary64 v))) next ≡ body_read K.Float s at 8
+        Found s at 8 v next → Ok (B.Value (W.Float (of_bits binary64 v)), next) ≡ body_read K.Float s at 8
     unfolding body_read body_of float_of
     float_there_8 f = rw (f.there, f.value, f.place)

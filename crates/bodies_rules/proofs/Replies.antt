@@ -15,12 +15,13 @@ use Rattle.bodies_rules.specs.Reads.{read_of, body_read}
 use Rattle.bodies_rules.specs.Promise.{reply_of, body_reply}
 use Rattle.bodies_rules.specs.declared.body.Body.{Body}
 use Rattle.bodies_rules.specs.declared.body.Body.TheVariants.{Value, Master}
-use Rattle.bodies_rules.specs.declared.body.BodyRead.{BodyRead}
-use Rattle.bodies_rules.specs.declared.body.BodyRead.TheVariants.{Read, Refused}
+use Rattle.std.proofs.Common.{Result, Ok, Err}
+use Rattle.refusals.specs.declared.refusal.Cause.{Cause}
+use Rattle.header.specs.declared.cursor.Cursor.{Cursor}
 
-abbrev pub read_reply : ℕ → BodyRead → Reply Body
-read_reply address (Read b next) = accepted b
-read_reply address (Refused cause) = refusal (because cause address)
+abbrev pub read_reply : ℕ → Result (Body × Cursor) Cause → Reply Body
+read_reply address (Ok (b, next)) = accepted b
+read_reply address (Err cause) = refusal (because cause address)
 
 told_back : (address at n : ℕ) (t : Told) → read_reply address (read_of at n t) ≡ reply_of address t
 told_back address at n (body (Value v)) = refl
@@ -38,7 +39,7 @@ module _ (s : List ℕ) (id parent at n address : ℕ) where
 
   -- What was read by the kind that the id has under the parent.
   pub reply_read :
-      (k : Kind) (r : BodyRead) → KindPromise id parent k → r ≡ body_read k s at n
+      (k : Kind) (r : Result (Body × Cursor) Cause) → KindPromise id parent k → r ≡ body_read k s at n
       → length s ≤ most_bytes → at ≤ length s → read_reply address r ≡ body_reply s id parent at n address
   unfolding body_read body_reply
   reply_read k r promise read h l =

@@ -6,17 +6,17 @@ use Rattle.refusals.proofs.Listed.{listed}
 use Rattle.bodies_rules.specs.Promise.{body_told}
 use Rattle.bodies_rules.specs.Theorems.{OneReply, RefusesListed}
 use Rattle.bodies_rules.specs.declared.body.Body.{Body}
-use Rattle.bodies_rules.specs.declared.reply.BodyReply.{BodyReply}
-use Rattle.bodies_rules.specs.declared.reply.BodyReply.TheVariants.{Body as BodyIs, Refused}
+use Rattle.std.proofs.Common.{Result, Ok, Err}
+use Rattle.refusals.specs.declared.refusal.Refusal.{Refusal}
 
 -- What was told tells the reply.
-abbrev replied : Reply Body → BodyReply
-replied (accepted b) = BodyIs b
-replied (refusal e) = Refused e
+abbrev replied : Reply Body → Result Body Refusal
+replied (accepted b) = Ok b
+replied (refusal e) = Err e
 
-replied_back : (r : BodyReply) → replied (body_told r) ≡ r
-replied_back (BodyIs b) = refl
-replied_back (Refused e) = refl
+replied_back : (r : Result Body Refusal) → replied (body_told r) ≡ r
+replied_back (Ok b) = refl
+replied_back (Err e) = refl
 
 pub body_unique : OneReply
 body_unique s id parent at size address r r' p p' =

@@ -27,11 +27,3 @@ pub enum Body {
     Value(Value),
     Master,
 }
-
-// A body with the place after it, or why there is none. A master's payload is still to be read: the place is where it
-// begins.
-#[derive(Clone, Copy)]
-pub enum BodyRead {
-    Read(Body, Cursor),
-    Refused(Cause),
-}

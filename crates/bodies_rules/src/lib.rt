@@ -4,5 +4,4 @@
 mod body;
 mod reply;
 
-pub use body::{Body, BodyRead, Range, Value};
-pub use reply::BodyReply;
+pub use body::{Body, Range, Value};

@@ -1,3 +1,4 @@
 -- Laws that the proofs of several crates share.
 pub mod Computed
+pub mod Pairs
 pub mod Turned

@@ -11,10 +11,6 @@ use Rattle.fields_rules.specs.Children.{subtree, children, nth_of}
 use Rattle.fields_rules.specs.Values.{FieldValue, unset, content_in, range_in}
 use Rattle.fields_rules.specs.Fields.{content_of}
 use Rattle.fields_rules.specs.Told.{content_told}
-use Rattle.fields_rules.specs.declared.child.Child.{Child}
-use Rattle.fields_rules.specs.declared.child.Child.TheVariants.{At as ChildAt, Absent as NoChild}
-use Rattle.fields_rules.specs.declared.field.Content.{Content}
-use Rattle.fields_rules.specs.declared.field.Content.TheVariants.{Unset, At as SetAt}
 use Rattle.fields_rules.proofs.Once.{content_once}
 use Rattle.fields_rules.proofs.Rest.{either}
 use Rattle.locate_rules.specs.Steps.{spot_of}
@@ -26,74 +22,73 @@ use Rattle.chapters.specs.Records.{display_of}
 use Rattle.chapters.specs.First.{string_of, string_row, or_later, first_from, first_string}
 use Rattle.chapters.specs.Told.{display_told}
 use Rattle.chapters.specs.Theorems.{string_told, First, FirstOfDisplays}
-use Rattle.chapters.specs.declared.display.DisplayReply.{DisplayReply}
-use Rattle.chapters.specs.declared.display.DisplayReply.TheVariants.{Display, Refused}
-use Rattle.chapters.specs.declared.first.FirstString.{FirstString}
-use Rattle.chapters.specs.declared.first.FirstString.TheVariants.{Absent, At}
+use Rattle.std.proofs.Common.{Result, Option, Ok, Err, Some, None}
+use Rattle.chapters.specs.declared.display.ChapterDisplay.{ChapterDisplay}
+use Rattle.refusals.specs.declared.refusal.Refusal.{Refusal}
 
 -- ---- one turn of the loop: the display whose string is x
 
-module _ (s : List ℕ) (rs : List Row) (j n : ℕ) (r : Row) (ds : List Child) {first : FirstString}
-    (e : first ≡ first_from s rs j (ChildAt n r ∷ ds)) {x : Content} (q : content_told x ≡ string_of s rs n) where
-  turn : (c : Child) → content_told x ≡ content_in c → first ≡ or_later s rs j c (first_from s rs (j + 1) ds)
-      → ((g : Range) → x ≡ SetAt g → At j g ≡ first) × (x ≡ Unset → first ≡ first_from s rs (j + 1) ds)
-  turn NoChild w f = ((λ g a. cc), (λ a. f))
-  turn (ChildAt m y) w f = ((λ g a. cc (eta g)), (λ a. cc))
+module _ (s : List ℕ) (rs : List Row) (j n : ℕ) (r : Row) (ds : List (Option (ℕ × Row))) {first : (Option (ℕ × Range))}
+    (e : first ≡ first_from s rs j (Some (n, r) ∷ ds)) {x : (Option Range)} (q : content_told x ≡ string_of s rs n) where
+  turn : (c : Option (ℕ × Row)) → content_told x ≡ content_in c → first ≡ or_later s rs j c (first_from s rs (j + 1) ds)
+      → ((g : Range) → x ≡ Some g → Some (j, g) ≡ first) × (x ≡ None → first ≡ first_from s rs (j + 1) ds)
+  turn None w f = ((λ g a. cc), (λ a. f))
+  turn (Some (m, y)) w f = ((λ g a. cc (eta g)), (λ a. cc))
     where
       eta : (g : Range) → g ≡ record { at = g.at; length = g.length }
       eta g = refl
 
-  both : ((g : Range) → x ≡ SetAt g → At j g ≡ first) × (x ≡ Unset → first ≡ first_from s rs (j + 1) ds)
+  both : ((g : Range) → x ≡ Some g → Some (j, g) ≡ first) × (x ≡ None → first ≡ first_from s rs (j + 1) ds)
   unfolding content_of first_from
-  both = turn (string_row s rs (ChildAt n r)) q e
+  both = turn (string_row s rs (Some (n, r))) q e
 
-  pub string_here : {g : Range} → x ≡ SetAt g → At j g ≡ first
+  pub string_here : {g : Range} → x ≡ Some g → Some (j, g) ≡ first
   string_here {g} a = both.0 g a
 
-  pub string_later : x ≡ Unset → first ≡ first_from s rs (j + 1) ds
+  pub string_later : x ≡ None → first ≡ first_from s rs (j + 1) ds
   string_later a = both.1 a
 
 -- ---- by the strings of the displays
 
 -- The first of values that is set, counted from number `from` on.
-data FirstSet (v : ℕ → FieldValue) (from : ℕ) : FirstString → Type 0 where
-  none : ((m : ℕ) → v m ≡ unset) → FirstSet v from Absent
+data FirstSet (v : ℕ → FieldValue) (from : ℕ) : Option (ℕ × Range) → Type 0 where
+  none : ((m : ℕ) → v m ≡ unset) → FirstSet v from None
   some :
-      (k j : ℕ) (g : Range) → k ≡ from + j → v j ≡ content_told (SetAt g) → ((m : ℕ) → m < j → v m ≡ unset)
-      → FirstSet v from (At k g)
+      (k j : ℕ) (g : Range) → k ≡ from + j → v j ≡ content_told (Some g) → ((m : ℕ) → m < j → v m ≡ unset)
+      → FirstSet v from (Some (k, g))
 
 module _ (s : List ℕ) (rs : List Row) where
-  abbrev strings : List Child → ℕ → FieldValue
+  abbrev strings : List (Option (ℕ × Row)) → ℕ → FieldValue
   strings ds m = content_in (string_row s rs (nth_of m ds))
 
-  module _ (d : Child) (ds : List Child) (from : ℕ) where
-    sooner : (P : ℕ → Type 0) → string_row s rs d ≡ NoChild → ((m : ℕ) → P m → strings ds m ≡ unset)
+  module _ (d : Option (ℕ × Row)) (ds : List (Option (ℕ × Row))) (from : ℕ) where
+    sooner : (P : ℕ → Type 0) → string_row s rs d ≡ None → ((m : ℕ) → P m → strings ds m ≡ unset)
         → (m : ℕ) → ((i : ℕ) → m ≡ suc i → P i) → strings (d ∷ ds) m ≡ unset
     unfolding nth_of
     sooner P q f zero p = ap content_in q
     sooner P q f (suc m) p = f m (p m refl)
 
-    set_first : (c : Child) → string_row s rs d ≡ c → (r : FirstString) → FirstSet (strings ds) (from + 1) r
+    set_first : (c : Option (ℕ × Row)) → string_row s rs d ≡ c → (r : Option (ℕ × Range)) → FirstSet (strings ds) (from + 1) r
         → FirstSet (strings (d ∷ ds)) from (or_later s rs from c r)
     unfolding nth_of
-    set_first (ChildAt m x) q r f =
+    set_first (Some (m, x)) q r f =
         some from 0 (range_in x) (omega arith) (ap content_in q) (λ m l. absurd (omega arith))
-    set_first NoChild q _ (none f) = none (λ m. sooner (λ i. Unit) q (λ i u. f i) m (λ i e. tt))
-    set_first NoChild q _ (some k j g e p f) =
+    set_first None q _ (none f) = none (λ m. sooner (λ i. Unit) q (λ i u. f i) m (λ i e. tt))
+    set_first None q _ (some k j g e p f) =
         some k (suc j) g (omega arith) p (λ m l. sooner (λ i. i < j) q f m (λ i a. omega arith))
 
-  first_set : (ds : List Child) (from : ℕ) → FirstSet (strings ds) from (first_from s rs from ds)
+  first_set : (ds : List (Option (ℕ × Row))) (from : ℕ) → FirstSet (strings ds) from (first_from s rs from ds)
   unfolding first_from nth_of
   first_set [] from = none (λ m. refl)
   first_set (d ∷ ds) from = set_first d ds from (string_row s rs d) refl _ (first_set ds (from + 1))
 
 -- What is the first of values is the first of the strings that they tell.
-told_first : (v : ℕ → FieldValue) (told : ℕ → Content) → ((m : ℕ) → content_told (told m) ≡ v m) → (f : FirstString)
+told_first : (v : ℕ → FieldValue) (told : ℕ → Option Range) → ((m : ℕ) → content_told (told m) ≡ v m) → (f : Option (ℕ × Range))
     → FirstSet v 0 f → First told f
 told_first v told w _ (none u) =
     record {
       at = λ j g. ((λ e. let z : ◌≡◌ {A = ℕ} 0 1 = cc in absurd (omega arith)), (λ e. cc (w j, u j, e.0)));
-      none = ((λ e j. content_once (told j) Unset (w j ∙ u j)), (λ e. refl));
+      none = ((λ e j. content_once (told j) None (w j ∙ u j)), (λ e. refl));
     }
 told_first v told w _ (some k i h p q u) =
     record {
@@ -101,34 +96,34 @@ told_first v told w _ (some k i h p q u) =
       none = ((λ e j. cc), (λ e. cc (w i, q, e i)));
     }
   where
-    there : (j : ℕ) (g : Range) → At k h ≡ At j g → (told j ≡ SetAt g) × ((m : ℕ) → m < j → told m ≡ Unset)
+    there : (j : ℕ) (g : Range) → Some (k, h) ≡ Some (j, g) → (told j ≡ Some g) × ((m : ℕ) → m < j → told m ≡ None)
     there j g e =
         let a : k ≡ j = cc in
         let b : i ≡ j = omega arith in
         let c : h ≡ g = cc in (
-          content_once (told j) (SetAt g) (w j ∙ ap v (sym b) ∙ q ∙ ap (λ (x : Range). content_told (SetAt x)) c),
-          λ m l. content_once (told m) Unset (w m ∙ u m (omega arith)),
+          content_once (told j) (Some g) (w j ∙ ap v (sym b) ∙ q ∙ ap (λ (x : Range). content_told (Some x)) c),
+          λ m l. content_once (told m) None (w m ∙ u m (omega arith)),
         )
 
-    back : (j : ℕ) (g : Range) → (told j ≡ SetAt g) × ((m : ℕ) → m < j → told m ≡ Unset) → At k h ≡ At j g
+    back : (j : ℕ) (g : Range) → (told j ≡ Some g) × ((m : ℕ) → m < j → told m ≡ None) → Some (k, h) ≡ Some (j, g)
     back j g e =
         either i j (λ l. cc (w i, q, e.1 i l))
         (λ l. either j i (λ o. cc (w j, u j o, e.0))
         (λ o.
         let a : k ≡ j = omega arith in
         let b : j ≡ i = omega arith in
-        let c = content_once (SetAt h) (SetAt g) (sym q ∙ ap v (sym b) ∙ sym (w j) ∙ ap content_told e.0) in
+        let c = content_once (Some h) (Some g) (sym q ∙ ap v (sym b) ∙ sym (w j) ∙ ap content_told e.0) in
         cc (a, c)))
 
 module _ (s : List ℕ) (rs : List Row) where
-  told_string : (r : DisplayReply) (c : Child)
+  told_string : (r : Result (ChapterDisplay × ℕ) Refusal) (c : Option (ℕ × Row))
       → display_told r ≡ answer_of (of_below (display_of s)) (settled rs (spot_of c))
       → content_told (string_told r) ≡ content_in (string_row s rs c)
   unfolding display_of content_of
-  told_string (Display d n) NoChild q = cc
-  told_string (Display d n) (ChildAt m x) q = cc
-  told_string (Refused e) NoChild q = refl
-  told_string (Refused e) (ChildAt m x) q = cc
+  told_string (Ok (d, n)) None q = cc
+  told_string (Ok (d, n)) (Some (m, x)) q = cc
+  told_string (Err e) None q = refl
+  told_string (Err e) (Some (m, x)) q = cc
 
 pub first_of_displays : FirstOfDisplays
 unfolding first_string

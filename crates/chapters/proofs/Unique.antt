@@ -12,14 +12,11 @@ use Rattle.chapters.specs.Promise.{edition_asked, chapter_asked, display_asked}
 use Rattle.chapters.specs.Theorems.{OneEdition, OneChapter, OneDisplay, ChaptersRefuseListed, ChaptersHonest}
 use Rattle.chapters.specs.Theorems.{ChaptersLive}
 use Rattle.chapters.specs.declared.edition.ChapterEdition.{ChapterEdition}
-use Rattle.chapters.specs.declared.edition.EditionReply.{EditionReply}
-use Rattle.chapters.specs.declared.edition.EditionReply.TheVariants.{Edition as IsEdition, Refused as NoEdition}
 use Rattle.chapters.specs.declared.chapter.Chapter.{Chapter}
-use Rattle.chapters.specs.declared.chapter.ChapterReply.{ChapterReply}
-use Rattle.chapters.specs.declared.chapter.ChapterReply.TheVariants.{Chapter as IsChapter, Refused as NoChapter}
 use Rattle.chapters.specs.declared.display.ChapterDisplay.{ChapterDisplay}
-use Rattle.chapters.specs.declared.display.DisplayReply.{DisplayReply}
-use Rattle.chapters.specs.declared.display.DisplayReply.TheVariants.{Display as IsDisplay, Refused as NoDisplay}
+use Rattle.std.proofs.Common.{Result, Ok, Err}
+use Rattle.refusals.specs.declared.refusal.Refusal.{Refusal}
+use Prim.Native.Nat.{ℕ}
 
 -- ---- the fields tell the record
 
@@ -55,23 +52,23 @@ display_once a b q i =
 
 -- ---- document 01's values tell the reply
 
-edition_told_law : (r r' : EditionReply) → edition_told r ≡ edition_told r' → r ≡ r'
-edition_told_law (IsEdition a n) (IsEdition b m) q = cc (edition_once a b (cc))
-edition_told_law (IsEdition a n) (NoEdition e) q = cc
-edition_told_law (NoEdition e) (IsEdition b m) q = cc
-edition_told_law (NoEdition e) (NoEdition f) q = cc
+edition_told_law : (r r' : Result (ChapterEdition × ℕ) Refusal) → edition_told r ≡ edition_told r' → r ≡ r'
+edition_told_law (Ok (a, n)) (Ok (b, m)) q = cc (edition_once a b (cc))
+edition_told_law (Ok (a, n)) (Err e) q = cc
+edition_told_law (Err e) (Ok (b, m)) q = cc
+edition_told_law (Err e) (Err f) q = cc
 
-chapter_told_law : (r r' : ChapterReply) → chapter_told r ≡ chapter_told r' → r ≡ r'
-chapter_told_law (IsChapter a n) (IsChapter b m) q = cc (chapter_once a b (cc))
-chapter_told_law (IsChapter a n) (NoChapter e) q = cc
-chapter_told_law (NoChapter e) (IsChapter b m) q = cc
-chapter_told_law (NoChapter e) (NoChapter f) q = cc
+chapter_told_law : (r r' : Result (Chapter × ℕ) Refusal) → chapter_told r ≡ chapter_told r' → r ≡ r'
+chapter_told_law (Ok (a, n)) (Ok (b, m)) q = cc (chapter_once a b (cc))
+chapter_told_law (Ok (a, n)) (Err e) q = cc
+chapter_told_law (Err e) (Ok (b, m)) q = cc
+chapter_told_law (Err e) (Err f) q = cc
 
-display_told_law : (r r' : DisplayReply) → display_told r ≡ display_told r' → r ≡ r'
-display_told_law (IsDisplay a n) (IsDisplay b m) q = cc (display_once a b (cc))
-display_told_law (IsDisplay a n) (NoDisplay e) q = cc
-display_told_law (NoDisplay e) (IsDisplay b m) q = cc
-display_told_law (NoDisplay e) (NoDisplay f) q = cc
+display_told_law : (r r' : Result (ChapterDisplay × ℕ) Refusal) → display_told r ≡ display_told r' → r ≡ r'
+display_told_law (Ok (a, n)) (Ok (b, m)) q = cc (display_once a b (cc))
+display_told_law (Ok (a, n)) (Err e) q = cc
+display_told_law (Err e) (Ok (b, m)) q = cc
+display_told_law (Err e) (Err f) q = cc
 
 -- ---- the theorems
 
@@ -101,7 +98,7 @@ chapters_honest = record {
 
 pub chapters_live : ChaptersLive
 chapters_live = record {
-  edition = λ s start size k. record_modes edition_told NoEdition edition_told_law (λ e. refl) _ s start size _ _;
-  chapter = λ s start size k i. record_modes chapter_told NoChapter chapter_told_law (λ e. refl) _ s start size _ _;
-  display = λ s start size k i j. record_modes display_told NoDisplay display_told_law (λ e. refl) _ s start size _ _;
+  edition = λ s start size k. record_modes edition_told Err edition_told_law (λ e. refl) _ s start size _ _;
+  chapter = λ s start size k i. record_modes chapter_told Err chapter_told_law (λ e. refl) _ s start size _ _;
+  display = λ s start size k i j. record_modes display_told Err display_told_law (λ e. refl) _ s start size _ _;
 }

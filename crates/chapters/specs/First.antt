@@ -5,10 +5,8 @@ use Rattle.elements_rules.specs.declared.row.Row.{Row}
 use Rattle.fields_rules.specs.Children.{subtree, children}
 use Rattle.fields_rules.specs.Values.{FieldValue, range_in}
 use Rattle.fields_rules.specs.Fields.{last_child, content_of}
-use Rattle.fields_rules.specs.declared.child.Child.{Child}
-use Rattle.fields_rules.specs.declared.child.Child.TheVariants.{At as ChildAt, Absent as NoChild}
-use Rattle.chapters.specs.declared.first.FirstString.{FirstString}
-use Rattle.chapters.specs.declared.first.FirstString.TheVariants.{Absent, At}
+use Rattle.std.specs.Prelude.{Option, Some, None}
+use Rattle.bodies_rules.specs.declared.body.Range.{Range}
 
 -- Of displays among the rows that were read.
 module _ (s : List ℕ) (rs : List Row) where
@@ -16,20 +14,20 @@ module _ (s : List ℕ) (rs : List Row) where
   abbrev pub string_of : ℕ → FieldValue
   string_of n = content_of s (suc n) (subtree rs (suc n)) 0x85 Utf8
 
-  abbrev pub string_row : Child → Child
-  string_row NoChild = NoChild
-  string_row (ChildAt n r) = last_child s (suc n) (subtree rs (suc n)) 0x85 Utf8
+  abbrev pub string_row : Option (ℕ × Row) → Option (ℕ × Row)
+  string_row None = None
+  string_row (Some (n, r)) = last_child s (suc n) (subtree rs (suc n)) 0x85 Utf8
 
   -- A display whose string is set, or else the first behind it.
-  abbrev pub or_later : ℕ → Child → FirstString → FirstString
-  or_later j NoChild later = later
-  or_later j (ChildAt m r) later = At j (range_in r)
+  abbrev pub or_later : ℕ → Option (ℕ × Row) → Option (ℕ × Range) → Option (ℕ × Range)
+  or_later j None later = later
+  or_later j (Some (m, r)) later = Some (j, range_in r)
 
   -- Of the displays from number j on.
-  unfoldable pub first_from : ℕ → List Child → FirstString
-  first_from j [] = Absent
+  unfoldable pub first_from : ℕ → List (Option (ℕ × Row)) → Option (ℕ × Range)
+  first_from j [] = None
   first_from j (d ∷ ds) = or_later j (string_row d) (first_from (j + 1) ds)
 
   -- Of the chapter `parent`.
-  unfoldable pub first_string : ℕ → FirstString
+  unfoldable pub first_string : ℕ → Option (ℕ × Range)
   first_string parent = first_from 0 (children parent 0x80 Master (subtree rs parent))

@@ -4,14 +4,11 @@ use Rattle.fields_rules.specs.Values.{FieldValue, count}
 use Rattle.fields_rules.specs.Told.{number_told, flag_told, content_told, language_told}
 use Rattle.locate_rules.specs.Told.{Answer, fields, refusal}
 use Rattle.chapters.specs.declared.edition.ChapterEdition.{ChapterEdition}
-use Rattle.chapters.specs.declared.edition.EditionReply.{EditionReply}
-use Rattle.chapters.specs.declared.edition.EditionReply.TheVariants.{Edition as IsEdition, Refused as NoEdition}
 use Rattle.chapters.specs.declared.chapter.Chapter.{Chapter}
-use Rattle.chapters.specs.declared.chapter.ChapterReply.{ChapterReply}
-use Rattle.chapters.specs.declared.chapter.ChapterReply.TheVariants.{Chapter as IsChapter, Refused as NoChapter}
 use Rattle.chapters.specs.declared.display.ChapterDisplay.{ChapterDisplay}
-use Rattle.chapters.specs.declared.display.DisplayReply.{DisplayReply}
-use Rattle.chapters.specs.declared.display.DisplayReply.TheVariants.{Display as IsDisplay, Refused as NoDisplay}
+use Rattle.std.specs.Prelude.{Result, Ok, Err}
+use Rattle.refusals.specs.declared.refusal.Refusal.{Refusal}
+use Rattle.std.specs.Prelude.{ℕ}
 
 -- ---- the fields of a record
 
@@ -41,14 +38,14 @@ display_values d = content_told d.string ∷ language_told d.language ∷ []
 
 -- ---- the replies
 
-abbrev pub edition_told : EditionReply → Answer
-edition_told (IsEdition a rows) = fields (edition_values a) rows
-edition_told (NoEdition e) = refusal e
+abbrev pub edition_told : Result (ChapterEdition × ℕ) Refusal → Answer
+edition_told (Ok (a, rows)) = fields (edition_values a) rows
+edition_told (Err e) = refusal e
 
-abbrev pub chapter_told : ChapterReply → Answer
-chapter_told (IsChapter a rows) = fields (chapter_values a) rows
-chapter_told (NoChapter e) = refusal e
+abbrev pub chapter_told : Result (Chapter × ℕ) Refusal → Answer
+chapter_told (Ok (a, rows)) = fields (chapter_values a) rows
+chapter_told (Err e) = refusal e
 
-abbrev pub display_told : DisplayReply → Answer
-display_told (IsDisplay a rows) = fields (display_values a) rows
-display_told (NoDisplay e) = refusal e
+abbrev pub display_told : Result (ChapterDisplay × ℕ) Refusal → Answer
+display_told (Ok (a, rows)) = fields (display_values a) rows
+display_told (Err e) = refusal e

@@ -6,32 +6,26 @@ ghost use Rattle.chapters.specs.Records.{chapter_of};
 ghost use Rattle.chapters.specs.Told.{chapter_values};
 ghost use Rattle.chapters.specs.Promise.{ChapterPromise};
 
+use bodies_rules::Range;
 use children::count_children;
 use fields::{content_field, flag_field, number_field};
-use fields_rules::{Below, Content, Flag, Number};
+use fields_rules::Below;
 use kinds::{Kind, ids};
 use locate::locate;
-use locate_rules::{Located, Step, Way};
+use locate_rules::{Step, Way};
 use refusals::Refusal;
 
 #[derive(Clone, Copy)]
 pub struct Chapter {
-    pub uid: Number,
-    pub time_start: Number,
-    pub time_end: Number,
-    pub hidden: Flag,
-    pub enabled: Flag,
-    pub segment_uid: Content,
-    pub segment_edition_uid: Number,
+    pub uid: Option<u64>,
+    pub time_start: Option<u64>,
+    pub time_end: Option<u64>,
+    pub hidden: Option<bool>,
+    pub enabled: Option<bool>,
+    pub segment_uid: Option<Range>,
+    pub segment_edition_uid: Option<u64>,
     // How many displays it has.
     pub displays: u64,
-}
-
-// The record with how many rows the table holds, or a refusal.
-#[derive(Clone, Copy)]
-pub enum ChapterReply {
-    Chapter { chapter: Chapter, rows: u64 },
-    Refused(Refusal),
 }
 
 // The chapter, by the rows below its master.
@@ -67,7 +61,7 @@ pub fn chapter_at(
     k: u64,
     i: u64,
     table: &mut [u64],
-) -> ChapterReply
+) -> Result<(Chapter, u64), Refusal>
     ensures { ChapterPromise live recording.now start size k i
         table.old result table.new }
 {
@@ -85,10 +79,7 @@ pub fn chapter_at(
         third: Step::Here,
     };
     match locate(recording, live, start, size, ids::EDITIONENTRY, way, table) {
-        Located::Refused(refusal) => ChapterReply::Refused(refusal),
-        Located::At { master, rows } => ChapterReply::Chapter {
-            chapter: chapter_in(recording, table, master),
-            rows: rows as u64,
-        },
+        Err(refusal) => Err(refusal),
+        Ok((master, rows)) => Ok((chapter_in(recording, table, master), rows as u64)),
     }
 }

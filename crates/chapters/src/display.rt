@@ -6,24 +6,18 @@ ghost use Rattle.chapters.specs.Records.{display_of};
 ghost use Rattle.chapters.specs.Told.{display_values};
 ghost use Rattle.chapters.specs.Promise.{DisplayPromise};
 
+use bodies_rules::Range;
 use fields::{content_field, language_field};
-use fields_rules::{Below, Content, Language};
+use fields_rules::{Below, Language};
 use kinds::{Kind, ids};
 use locate::locate;
-use locate_rules::{Located, Step, Way};
+use locate_rules::{Step, Way};
 use refusals::Refusal;
 
 #[derive(Clone, Copy)]
 pub struct ChapterDisplay {
-    pub string: Content,
-    pub language: Language,
-}
-
-// The record with how many rows the table holds, or a refusal.
-#[derive(Clone, Copy)]
-pub enum DisplayReply {
-    Display { display: ChapterDisplay, rows: u64 },
-    Refused(Refusal),
+    pub string: Option<Range>,
+    pub language: Option<Language>,
 }
 
 // The display, by the rows below its master.
@@ -55,7 +49,7 @@ pub fn display_at(
     i: u64,
     j: u64,
     table: &mut [u64],
-) -> DisplayReply
+) -> Result<(ChapterDisplay, u64), Refusal>
     ensures { DisplayPromise live recording.now start size k i j
         table.old result table.new }
 {
@@ -77,10 +71,7 @@ pub fn display_at(
         third: shown,
     };
     match locate(recording, live, start, size, ids::EDITIONENTRY, way, table) {
-        Located::Refused(refusal) => DisplayReply::Refused(refusal),
-        Located::At { master, rows } => DisplayReply::Display {
-            display: display_in(recording, table, master),
-            rows: rows as u64,
-        },
+        Err(refusal) => Err(refusal),
+        Ok((master, rows)) => Ok((display_in(recording, table, master), rows as u64)),
     }
 }

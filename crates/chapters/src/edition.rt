@@ -8,27 +8,20 @@ ghost use Rattle.chapters.specs.Promise.{EditionPromise};
 
 use children::count_children;
 use fields::{flag_field, number_field};
-use fields_rules::{Below, Flag, Number};
+use fields_rules::Below;
 use kinds::{Kind, ids};
 use locate::locate;
-use locate_rules::{Located, Step, Way};
+use locate_rules::{Step, Way};
 use refusals::Refusal;
 
 #[derive(Clone, Copy)]
 pub struct ChapterEdition {
-    pub uid: Number,
-    pub hidden: Flag,
-    pub default: Flag,
-    pub ordered: Flag,
+    pub uid: Option<u64>,
+    pub hidden: Option<bool>,
+    pub default: Option<bool>,
+    pub ordered: Option<bool>,
     // How many chapters it has.
     pub chapters: u64,
-}
-
-// The record with how many rows the table holds, or a refusal.
-#[derive(Clone, Copy)]
-pub enum EditionReply {
-    Edition { edition: ChapterEdition, rows: u64 },
-    Refused(Refusal),
 }
 
 // The edition, by the rows below its master.
@@ -54,7 +47,7 @@ pub fn edition_at(
     size: u64,
     k: u64,
     table: &mut [u64],
-) -> EditionReply
+) -> Result<(ChapterEdition, u64), Refusal>
     ensures { EditionPromise live recording.now start size k
         table.old result table.new }
 {
@@ -68,10 +61,7 @@ pub fn edition_at(
         third: Step::Here,
     };
     match locate(recording, live, start, size, ids::EDITIONENTRY, way, table) {
-        Located::Refused(refusal) => EditionReply::Refused(refusal),
-        Located::At { master, rows } => EditionReply::Edition {
-            edition: edition_in(recording, table, master),
-            rows: rows as u64,
-        },
+        Err(refusal) => Err(refusal),
+        Ok((master, rows)) => Ok((edition_in(recording, table, master), rows as u64)),
     }
 }

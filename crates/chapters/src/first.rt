@@ -8,19 +8,12 @@ ghost use Rattle.chapters.specs.First.{string_of, first_string};
 use bodies_rules::Range;
 use children::{is_child, rows_below};
 use fields::content_field;
-use fields_rules::{Below, Content};
+use fields_rules::Below;
 use kinds::{Kind, ids};
 use rowstore::row_at;
 
-// Its number among the chapter's displays, and where its string is; or that none has a set string.
-#[derive(Clone, Copy)]
-pub enum FirstString {
-    Absent,
-    At { display: u64, string: Range },
-}
-
 // The string of the display in row `display`.
-fn string_of(recording: &[u8], table: &[u64], rows: usize, display: usize) -> Content
+fn string_of(recording: &[u8], table: &[u64], rows: usize, display: usize) -> Option<Range>
     requires { Filled recording.now table.now rows × (display < rows) }
     ensures { content_told result ≡ string_of recording.now (rows_of table.now rows) display }
 {
@@ -29,7 +22,12 @@ fn string_of(recording: &[u8], table: &[u64], rows: usize, display: usize) -> Co
 }
 
 // The first display with a set string, of the chapter that has those rows below it.
-pub fn first_string(recording: &[u8], table: &[u64], rows: usize, chapter: Below) -> FirstString
+pub fn first_string(
+    recording: &[u8],
+    table: &[u64],
+    rows: usize,
+    chapter: Below,
+) -> Option<(u64, Range)>
     requires { Stands recording.now table.now rows chapter }
     ensures { result ≡ first_string recording.now (rows_of
         table.now rows) chapter.parent }
@@ -40,11 +38,11 @@ pub fn first_string(recording: &[u8], table: &[u64], rows: usize, chapter: Below
         let row = row_at(table, n);
         if is_child(row, chapter.parent, ids::CHAPTERDISPLAY, Kind::Master) {
             match string_of(recording, table, rows, n) {
-                Content::At(string) => return FirstString::At { display, string },
-                Content::Unset => display += 1,
+                Some(string) => return Some((display, string)),
+                None => display += 1,
             }
         }
         n = row.after as usize;
     }
-    FirstString::Absent
+    None
 }

@@ -9,7 +9,7 @@ mod display;
 mod edition;
 mod first;
 
-pub use chapter::{Chapter, ChapterReply, chapter_at, chapter_in};
-pub use display::{ChapterDisplay, DisplayReply, display_at, display_in};
-pub use edition::{ChapterEdition, EditionReply, edition_at, edition_in};
-pub use first::{FirstString, first_string};
+pub use chapter::{Chapter, chapter_at, chapter_in};
+pub use display::{ChapterDisplay, display_at, display_in};
+pub use edition::{ChapterEdition, edition_at, edition_in};
+pub use first::first_string;

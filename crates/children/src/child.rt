@@ -4,7 +4,7 @@ ghost use Rattle.fields_rules.specs.Children.{rows_in, fits, children, last_of, 
 ghost use Rattle.fields_rules.specs.Contract.{Within, BelowIs, Ordered};
 
 use elements_rules::Row;
-use fields_rules::{Below, Child};
+use fields_rules::Below;
 use kinds::Kind;
 use rowstore::row_at;
 
@@ -37,16 +37,16 @@ pub fn is_child(row: Row, parent: usize, id: u32, kind: Kind) -> bool
 }
 
 // The last direct child of an id and kind.
-pub fn last_child(table: &[u64], master: Below, id: u32, kind: Kind) -> Child
+pub fn last_child(table: &[u64], master: Below, id: u32, kind: Kind) -> Option<(usize, Row)>
     requires { Within table.now master }
     ensures { result ≡ last_of (children master.parent id kind (rows_in table.now master)) }
 {
-    let mut last = Child::Absent;
+    let mut last = None;
     let mut n = master.parent;
     while n < master.end {
         let row = row_at(table, n);
         if is_child(row, master.parent, id, kind) {
-            last = Child::At { number: n, row };
+            last = Some((n, row));
         }
         n = row.after as usize;
     }
@@ -54,7 +54,7 @@ pub fn last_child(table: &[u64], master: Below, id: u32, kind: Kind) -> Child
 }
 
 // The k-th direct child of an id and kind, counted from 0.
-pub fn nth_child(table: &[u64], master: Below, id: u32, kind: Kind, k: u64) -> Child
+pub fn nth_child(table: &[u64], master: Below, id: u32, kind: Kind, k: u64) -> Option<(usize, Row)>
     requires { Within table.now master }
     ensures { result ≡ nth_of k (children master.parent id kind (rows_in table.now master)) }
 {
@@ -64,13 +64,13 @@ pub fn nth_child(table: &[u64], master: Below, id: u32, kind: Kind, k: u64) -> C
         let row = row_at(table, n);
         if is_child(row, master.parent, id, kind) {
             if left == 0 {
-                return Child::At { number: n, row };
+                return Some((n, row));
             }
             left -= 1;
         }
         n = row.after as usize;
     }
-    Child::Absent
+    None
 }
 
 // How many direct children of an id and kind there are.

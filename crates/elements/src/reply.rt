@@ -4,7 +4,7 @@ ghost use Rattle.elements_rules.specs.Promise.{ReadPromise, allowed, zeros};
 ghost use Rattle.elements_rules.specs.Contract.{ClearFrom};
 
 use crate::element::master_body;
-use elements_rules::{Above, ElementRead, Mode, ReadReply};
+use elements_rules::{Above, Mode};
 use header::Cursor;
 use refusals::{Cause, Refusal};
 use rowstore::{clear, clear_rows, is_allowed};
@@ -17,7 +17,7 @@ pub fn fill(
     size: u64,
     parent: u32,
     table: &mut [u64],
-) -> ReadReply
+) -> Result<u64, Refusal>
     requires table_value { allowed recording.now start (length table.old) ≡ true }
     requires table_value_2 { table.old ≡ zeros (length table.old) }
     ensures { ReadPromise live recording.now start size parent
@@ -31,11 +31,11 @@ pub fn fill(
         depth: 0,
     };
     match master_body(recording, table, mode, from, size, 0, above) {
-        ElementRead::Refused(refusal) => {
+        Err(refusal) => {
             clear(table);
-            ReadReply::Refused(refusal)
+            Err(refusal)
         }
-        ElementRead::Read { rows, next: _ } => ReadReply::Rows(rows as u64),
+        Ok((rows, _)) => Ok(rows as u64),
     }
 }
 
@@ -47,13 +47,13 @@ fn read_cleared(
     size: u64,
     parent: u32,
     table: &mut [u64],
-) -> ReadReply
+) -> Result<u64, Refusal>
     requires { table.old ≡ zeros (length table.old) }
     ensures { ReadPromise live recording.now start size parent
         table.old result table.new }
 {
     if !is_allowed(recording, start, table) {
-        return ReadReply::Refused(Refusal {
+        return Err(Refusal {
             address: 0,
             cause: Cause::BadArgument,
         });
@@ -71,7 +71,7 @@ pub fn read(
     size: u64,
     parent: u32,
     table: &mut [u64],
-) -> ReadReply
+) -> Result<u64, Refusal>
     ensures { ReadPromise live recording.now start size parent
         table.old result table.new }
 {
@@ -89,7 +89,7 @@ pub fn read_again(
     parent: u32,
     rows: u64,
     table: &mut [u64],
-) -> ReadReply
+) -> Result<u64, Refusal>
     requires { ClearFrom rows table.old }
     ensures { ReadPromise live recording.now start size parent
         table.old result table.new }

@@ -2,24 +2,24 @@
 ghost use Rattle.std.specs.Prelude.{◌≡◌};
 ghost use Rattle.elements_rules.specs.Reading.{element_header_read};
 
-use header::{Cursor, HeaderRead};
+use header::{Cursor, Headed};
 use refusals::{Cause, Refusal};
 use sizes::is_unknown;
 
 // The element whose header is at a place of a payload; in live mode 17 where its size is unknown.
-pub fn element_header(recording: &[u8], live: bool, place: Cursor) -> HeaderRead
+pub fn element_header(recording: &[u8], live: bool, place: Cursor) -> Result<Headed, Refusal>
     ensures { result ≡ element_header_read live recording.now place.at }
 {
     match place.header(recording) {
-        HeaderRead::Refused(refusal) => HeaderRead::Refused(refusal),
-        HeaderRead::Read(headed) => {
+        Err(refusal) => Err(refusal),
+        Ok(headed) => {
             if is_unknown(live, headed.header) {
-                return HeaderRead::Refused(Refusal {
+                return Err(Refusal {
                     address: place.at,
                     cause: Cause::UnknownSize,
                 });
             }
-            HeaderRead::Read(headed)
+            Ok(headed)
         }
     }
 }

@@ -18,7 +18,6 @@ use Rattle.elements_rules.specs.Stands.{IsValue, StandsAt, Stands}
 use Rattle.elements_rules.specs.Promise.{keeping, allowed, filled, read_of, reply_of, zeros, table_of, ReadPromise}
 use Rattle.elements_rules.specs.Acceptance.{AcceptedExactly, ReadableTree, BodyExactly}
 use Rattle.elements_rules.specs.declared.row.Mode.{Mode}
-use Rattle.elements_rules.specs.declared.reply.ReadReply.TheVariants.{Rows}
 use Rattle.elements_rules.proofs.Parts.{taken_there}
 use Rattle.elements_rules.proofs.Outcomes.{passes, of_refuse}
 use Rattle.elements_rules.proofs.Bodies.{by_kind, master_body_law}
@@ -28,6 +27,7 @@ use Rattle.elements_rules.proofs.Reading.{stops, child_more}
 use Rattle.elements_rules.proofs.Fits.{body_fits}
 use Rattle.elements_rules.proofs.Readback.{table_is, accepted_read}
 use Rattle.elements_rules.proofs.Depths.{body_low, read_low}
+use Rattle.std.proofs.Common.{Ok}
 
 held_value : (at : ℕ) (t : Told) (o : Outcome) → IsValue t → held at t o ≡ done none
 held_value at (body (Value v)) o i = refl
@@ -111,7 +111,7 @@ read_done live s start size parent numbers f a i w d c =
 -- A tree that was read, as the promise tells it.
 pub promised_rows : (live : Bool) (s : List ℕ) (start size parent : ℕ) (t : List ℕ) (f : Forest)
     → read_of live s start size parent (length t) ≡ done f
-    → ReadPromise live s start size parent t (Rows (count f)) (table_of start (length t) (done f))
+    → ReadPromise live s start size parent t (Ok (count f)) (table_of start (length t) (done f))
 promised_rows live s start size parent t f q =
     record { reply = sym (ap reply_of q); table = sym (ap (table_of start (length t)) q) }
 

@@ -1,6 +1,7 @@
 -- The body that an element holds: a master's elements, or a value, whose octets are in the recording. Assumes nothing.
 use Prim.Native.Nat.{ℕ, ◌+◌, ◌≤◌}
-use mathlib.Core.Path.{◌≡◌, refl, ap}
+use Rattle.booleans.proofs.Pairs.{ok_halves}
+use mathlib.Core.Path.{◌≡◌, refl, ap, sym}
 use mathlib.Core.List.{List}
 use mathlib.Core.Bool.{Bool, true, false, cond, ◌||◌}
 use native.Mathlib.Omega.{arith}
@@ -22,11 +23,11 @@ use Rattle.bodies_rules.specs.Reads.{read_of, body_read}
 use Rattle.bodies_rules.specs.declared.body.Body.{Body}
 use Rattle.bodies_rules.specs.declared.body.Body.TheVariants.{Value, Master}
 use Rattle.bodies_rules.specs.declared.body.Value.TheVariants.{Integer, Unsigned, Float, Date, Text, Bytes}
-use Rattle.bodies_rules.specs.declared.body.BodyRead.TheVariants.{Read, Refused}
 use Rattle.utf8.specs.Utf8.{utf8}
 use Rattle.elements_rules.specs.Forest.{Forest, none}
 use Rattle.elements_rules.specs.Reading.{Outcome, done, refused, held}
 use Rattle.elements_rules.specs.Stands.{IsValue}
+use Rattle.std.proofs.Common.{Ok, Err}
 
 -- A kind is a master's, or a leaf's.
 pub by_kind : {C : Type 0} (k : Kind) → (number_of k ≡ 1 → C) → ((number_of k ≡ 1 → ⊥) → C) → C
@@ -84,12 +85,12 @@ module _ (s : List ℕ) (at n : ℕ) where
 
   -- ---- what is held by what was read
 
-  pub held_refused : (from : ℕ) (k : Kind) (c : Cause) (o : Outcome) → body_read k s at n ≡ Refused c
+  pub held_refused : (from : ℕ) (k : Kind) (c : Cause) (o : Outcome) → body_read k s at n ≡ Err c
       → held from (body_of s at n k) o ≡ refused (because c from)
   unfolding body_read
   held_refused from k c o q = go (body_of s at n k) q
     where
-      go : (t : Told) → read_of at n t ≡ Refused c → held from t o ≡ refused (because c from)
+      go : (t : Told) → read_of at n t ≡ Err c → held from t o ≡ refused (because c from)
       go (body (Value v)) w = let x : ◌≡◌ {A = ℕ} 0 1 = cc in absurd (omega arith)
       go (body Master) w = let x : ◌≡◌ {A = ℕ} 0 1 = cc in absurd (omega arith)
       go (refused_body d) w = let x : d ≡ c = cc in ap (λ (y : Cause). refused (because y from)) x
@@ -101,12 +102,12 @@ module _ (s : List ℕ) (at n : ℕ) where
     pub behind : next ≡ record { at = at + n }
 
   pub leaf_read : (from : ℕ) (k : Kind) (o : Outcome) (b : Body) (next : Cursor) → (number_of k ≡ 1 → ⊥)
-      → body_read k s at n ≡ Read b next → LeafRead from (body_of s at n k) o next
+      → body_read k s at n ≡ Ok (b, next) → LeafRead from (body_of s at n k) o next
   unfolding body_read
   leaf_read from k o b next m q = go (body_of s at n k) (leaf_body k m) q
     where
-      go : (t : Told) → Leaf s at n t → read_of at n t ≡ Read b next → LeafRead from t o next
-      go (body (Value v)) (a_value i y) w = record { holds = refl; inside = i; behind = cc }
+      go : (t : Told) → Leaf s at n t → read_of at n t ≡ Ok (b, next) → LeafRead from t o next
+      go (body (Value v)) (a_value i y) w = record { holds = refl; inside = i; behind = sym (ok_halves w).1 }
       go (body Master) (a_value i y) w = absurd y
       go (refused_body c) l w = let x : ◌≡◌ {A = ℕ} 0 1 = cc in absurd (let y : ⊥ = omega arith in y)
       go (body d) (a_refusal c e) w = let x : ◌≡◌ {A = ℕ} 0 1 = cc in absurd (let y : ⊥ = omega arith in y)

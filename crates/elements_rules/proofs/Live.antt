@@ -33,7 +33,6 @@ use Rattle.elements_rules.specs.Live.{AllKnown, NoneIsAll, LiveOr, seventeen, eq
 use Rattle.elements_rules.specs.Live.{EqualReads, header_of_row, RowsKnown}
 use Rattle.elements_rules.specs.declared.row.Row.{Row}
 use Rattle.elements_rules.specs.declared.row.Mode.{Mode}
-use Rattle.elements_rules.specs.declared.reply.ReadReply.TheVariants.{Refused}
 use Rattle.elements_rules.proofs.Outcomes.{never}
 use Rattle.elements_rules.proofs.Parts.{of_taken, taken_there, known_taken}
 use Rattle.elements_rules.proofs.Standing.{read_stands}
@@ -41,6 +40,7 @@ use Rattle.elements_rules.proofs.Readback.{accepted_read}
 use Rattle.elements_rules.proofs.Sound.{each_append}
 use Rattle.elements_rules.proofs.Unique.{replied, replied_back}
 use Rattle.elements_rules.proofs.Faults.{body_found, reading_honest}
+use Rattle.std.proofs.Common.{Err}
 
 pub none_is_all : NoneIsAll
 none_is_all s reached k a x h r y q = k a h q
@@ -211,7 +211,7 @@ pub live_reads : LiveReads
 live_reads s start size parent t r r' t' u' p q = by (read_or s start size parent (length t))
   where
     by : LiveOr (read_of false s start size parent (length t)) (read_of true s start size parent (length t))
-        → ((a : ℕ) × (r' ≡ Refused (unknown_size a))) ⊎ ((r' ≡ r) × (u' ≡ t'))
+        → ((a : ℕ) × (r' ≡ Err (unknown_size a))) ⊎ ((r' ≡ r) × (u' ≡ t'))
     by (seventeen a e) = inl (a, sym (replied_back r') ∙ ap replied (q.reply ∙ ap reply_of e))
     by (equal e) =
         inr (
@@ -251,7 +251,7 @@ was_allowed s start size parent numbers a q = by (allowed s start numbers) refl 
 pub equal_reads : EqualReads
 equal_reads s start size parent t r r' t' u' k p q = by (live_reads s start size parent t r r' t' u' p q)
   where
-    by : ((a : ℕ) × (r' ≡ Refused (unknown_size a))) ⊎ ((r' ≡ r) × (u' ≡ t')) → (r' ≡ r) × (u' ≡ t')
+    by : ((a : ℕ) × (r' ≡ Err (unknown_size a))) ⊎ ((r' ≡ r) × (u' ≡ t')) → (r' ≡ r) × (u' ≡ t')
     by (inl (a, e)) = absurd (refused_so a (read_of true s start size parent (length t)) refl (ap read_told (sym e)
         ∙ q.reply))
       where

@@ -11,7 +11,6 @@ use Rattle.header.specs.Header.{heading, header_of}
 use Rattle.header.specs.Reads.{headed_at, header_at}
 use Rattle.header.specs.Theorems.{Octets}
 use Rattle.header.specs.declared.cursor.Header.{Header}
-use Rattle.header.specs.declared.cursor.HeaderRead.TheVariants.{Read}
 use Rattle.header.proofs.Inside.{header_read_law, header_inside}
 use Rattle.header.proofs.Determined.{header_determined}
 use Rattle.kinds.specs.Kinds.{number_of}
@@ -27,6 +26,7 @@ use Rattle.elements_rules.proofs.Tables.{zeros_at}
 use Rattle.elements_rules.proofs.Standing.{read_stands}
 use Rattle.elements_rules.proofs.Readback.{table_is, accepted_read}
 use Rattle.elements_rules.proofs.Sound.{header_there, rows_sound}
+use Rattle.std.proofs.Common.{Ok}
 
 -- ---- parts of two recordings
 
@@ -57,7 +57,7 @@ each_right P (r ∷ rs) ss a = each_right P rs ss a.1
 
 module _ (live : Bool) (s s' : List ℕ) (o : Octets s) (o' : Octets s') where
   same_header : (at : ℕ) (h : Header) → header_of (drop at s) ≡ heading h
-      → header_at s' at ≡ Read (headed_at at h) → part s at h.length ≡ part s' at h.length
+      → header_at s' at ≡ Ok (headed_at at h) → part s at h.length ≡ part s' at h.length
   same_header at h q r =
       header_determined s s' o o' at at (headed_at at h) (headed_at at h) (header_there live s at h q) r refl
 

@@ -24,8 +24,6 @@ use Rattle.elements_rules.specs.Rows.{rows, width}
 use Rattle.elements_rules.specs.Stands.{IsValue, StandsAt, Stands}
 use Rattle.elements_rules.specs.Promise.{allowed, read_of, table_of, ReadPromise}
 use Rattle.elements_rules.specs.Acceptance.{OwnBytes, elsewhere, Moves, BodyMoves}
-use Rattle.elements_rules.specs.declared.reply.ReadReply.{ReadReply}
-use Rattle.elements_rules.specs.declared.reply.ReadReply.TheVariants.{Rows}
 use Rattle.header.specs.Header.{header_of}
 use Rattle.elements_rules.proofs.Parts.{of_taken, known_taken}
 use Rattle.elements_rules.proofs.Limits.{within}
@@ -35,6 +33,8 @@ use Rattle.elements_rules.proofs.Readback.{table_rows, accepted_read}
 use Rattle.elements_rules.proofs.Unique.{read_unique}
 use Rattle.elements_rules.proofs.Depths.{read_low}
 use Rattle.elements_rules.proofs.Accepting.{body_read, body_exactly, read_done, promised_rows}
+use Rattle.std.proofs.Common.{Result, Ok}
+use Rattle.refusals.specs.declared.refusal.Refusal.{Refusal}
 
 module _ (live : Bool) (s s' : List ℕ) where
   -- The n octets at a place of the one recording stand at a place of the other.
@@ -180,13 +180,13 @@ module _ (live : Bool) (s s' : List ℕ) (start start' size parent : ℕ) (t u :
   -- What is permitted of the octets that were moved: the rows of the tree that was read.
   there_too : (f : Forest) → read_of live s start size parent (length t) ≡ done f → n ≡ count f
       → take size (drop start s) ≡ take size (drop start' s') → allowed s' start' (length u) ≡ true
-      → n ≤ length u / width → (r : ReadReply) (u' : List ℕ) → ReadPromise live s' start' size parent u r u'
-      → (r ≡ Rows n) × (u' ≡ table_of start' (length u) (done f))
+      → n ≤ length u / width → (r : Result ℕ Refusal) (u' : List ℕ) → ReadPromise live s' start' size parent u r u'
+      → (r ≡ Ok n) × (u' ≡ table_of start' (length u) (done f))
   there_too f o number same args room r u' q =
       let d = outcome_moves live s s' start start' size parent (length t) (length u) f args (omega arith) same o in
-      let (reply, table) = read_unique live s' start' size parent u u r (Rows (count f)) u' _ refl q
+      let (reply, table) = read_unique live s' start' size parent u u r (Ok (count f)) u' _ refl q
       (promised_rows live s' start' size parent u f d) in
-      (reply ∙ ap Rows (sym number), table)
+      (reply ∙ ap Ok (sym number), table)
 
 pub read_moves : Moves
 read_moves live s s' start start' size parent t u n t' r u' same args room p q =

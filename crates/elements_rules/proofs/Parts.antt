@@ -11,7 +11,6 @@ use Rattle.header.specs.Header.{Heading, heading, header_of}
 use Rattle.header.specs.Header.{refused as refused_header}
 use Rattle.header.specs.Reads.{header_read, header_at, headed_at}
 use Rattle.header.specs.declared.cursor.Headed.{Headed}
-use Rattle.header.specs.declared.cursor.HeaderRead.TheVariants.{Read as HeaderIs, Refused as HeaderRefused}
 use Rattle.header.proofs.Inside.{header_read_law, header_refused}
 use Rattle.refusals.specs.Refusals.{because, too_deep, unknown_size}
 use Rattle.refusals.specs.declared.refusal.Cause.TheVariants.{UnknownSize}
@@ -26,6 +25,7 @@ use Rattle.elements_rules.specs.Reading.{Outcome, done, refused, held, full, sib
 use Rattle.elements_rules.specs.Reading.{taken, element_header, element_header_read}
 use Rattle.elements_rules.specs.declared.row.Mode.{Mode}
 use Rattle.elements_rules.proofs.Outcomes.{never, of_refuse, of_prepend, of_above, of_then, of_headed, of_cond}
+use Rattle.std.proofs.Common.{Ok, Err}
 
 -- No elements, or one that was read and fits into what was left, and then the others.
 pub of_siblings : {C : Type 0} (read : ℕ → ℕ → Outcome) (most at left n : ℕ) (f : Forest)
@@ -83,25 +83,25 @@ known_taken live s at h q k = rw (q, k)
 
 -- The step as the code tells it: what it reads and what it refuses.
 module _ (live : Bool) (s : List ℕ) (at : ℕ) where
-  pub step_read : (e : Headed) → element_header_read live s at ≡ HeaderIs e
-      → (element_header live s at ≡ heading e.header) × (header_at s at ≡ HeaderIs e)
+  pub step_read : (e : Headed) → element_header_read live s at ≡ Ok e
+      → (element_header live s at ≡ heading e.header) × (header_at s at ≡ Ok e)
   unfolding header_read header_at
   step_read e q = go (element_header live s at) refl q
     where
-      go : (x : Heading) → element_header live s at ≡ x → header_read at x ≡ HeaderIs e
-          → (element_header live s at ≡ heading e.header) × (header_at s at ≡ HeaderIs e)
+      go : (x : Heading) → element_header live s at ≡ x → header_read at x ≡ Ok e
+          → (element_header live s at ≡ heading e.header) × (header_at s at ≡ Ok e)
       go (refused_header c) t w = let z : ◌≡◌ {A = ℕ} 0 1 = cc in absurd (omega arith)
       go (heading g) t w =
           let y : headed_at at g ≡ e = cc in
           let u : element_header live s at ≡ heading e.header = t ∙ ap (λ (x : Headed). heading x.header) y in
           (u, ap (header_read at) (taken_there live s at g t) ∙ w)
 
-  pub step_refused : (e : Refusal) → element_header_read live s at ≡ HeaderRefused e
+  pub step_refused : (e : Refusal) → element_header_read live s at ≡ Err e
       → (element_header live s at ≡ refused_header e.cause) × (because e.cause at ≡ e)
   unfolding header_read
   step_refused e q = go (element_header live s at) refl q
     where
-      go : (x : Heading) → element_header live s at ≡ x → header_read at x ≡ HeaderRefused e
+      go : (x : Heading) → element_header live s at ≡ x → header_read at x ≡ Err e
           → (element_header live s at ≡ refused_header e.cause) × (because e.cause at ≡ e)
       go (refused_header c) t w =
           let y : because c at ≡ e = cc in (
@@ -112,19 +112,19 @@ module _ (live : Bool) (s : List ℕ) (at : ℕ) where
       go (heading g) t w = let z : ◌≡◌ {A = ℕ} 0 1 = cc in absurd (omega arith)
 
   -- What the code tells, by the header at the place.
-  pub told_refused : (e : Refusal) → header_at s at ≡ HeaderRefused e → HeaderRefused e ≡ element_header_read live s at
+  pub told_refused : (e : Refusal) → header_at s at ≡ Err e → Err e ≡ element_header_read live s at
   unfolding header_read
-  told_refused e q = let (h, i) = header_refused s at e q in rw h (ap HeaderRefused (sym i))
+  told_refused e q = let (h, i) = header_refused s at e q in rw h (ap Err (sym i))
 
-  module _ (e : Headed) (q : header_at s at ≡ HeaderIs e) where
+  module _ (e : Headed) (q : header_at s at ≡ Ok e) where
     pub told_unknown : (live && unknown e.header) ≡ true
-        → HeaderRefused (unknown_size at) ≡ element_header_read live s at
+        → Err (unknown_size at) ≡ element_header_read live s at
     unfolding header_read
     told_unknown k = rw ((header_read_law s at e q).0, k)
 
-    pub told_known : (live && unknown e.header) ≡ false → HeaderIs e ≡ element_header_read live s at
+    pub told_known : (live && unknown e.header) ≡ false → Ok e ≡ element_header_read live s at
     unfolding header_read
-    told_known k = rw ((header_read_law s at e q).0, k) (ap HeaderIs (header_read_law s at e q).1)
+    told_known k = rw ((header_read_law s at e q).0, k) (ap Ok (header_read_law s at e q).1)
 
 module _ (s : List ℕ) (mode : Mode) (cap : ℕ) where
   -- Where no depth is left, nothing is accepted.

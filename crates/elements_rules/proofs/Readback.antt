@@ -11,10 +11,10 @@ use Rattle.elements_rules.specs.Reading.{Outcome, done, refused}
 use Rattle.elements_rules.specs.Rows.{rows, width, flat, flatten, first_row, rows_of}
 use Rattle.elements_rules.specs.Promise.{read_of, reply_of, zeros, table_of, ReadPromise}
 use Rattle.elements_rules.specs.declared.row.Row.{Row}
-use Rattle.elements_rules.specs.declared.reply.ReadReply.TheVariants.{Rows}
 use Rattle.elements_rules.proofs.Forests.{length_rows}
 use Rattle.elements_rules.proofs.Tables.{length_flatten}
 use Rattle.elements_rules.proofs.Fits.{rows_fit}
+use Rattle.std.proofs.Common.{Ok}
 
 pub rows_back : (rs : List Row) (rest : List ℕ) → rows_of (flatten rs ++ rest) (length rs) ≡ rs
 unfolding rows_of flatten flat first_row
@@ -59,7 +59,7 @@ module _ (live : Bool) (s : List ℕ) (start size parent : ℕ) (t : List ℕ) (
       = length-replicate (length t - count f * width) 0 in
       ap length w ∙ (omega arith)
 
-  pub accepted_read : ReadPromise live s start size parent t (Rows n) t'
+  pub accepted_read : ReadPromise live s start size parent t (Ok n) t'
       → Accepted live s start size parent (length t) n t'
   accepted_read p =
       let (f, o, k) = told_rows n (read_of live s start size parent (length t)) p.reply in

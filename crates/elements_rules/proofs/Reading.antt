@@ -1,6 +1,7 @@
 -- One step of the readers, on the definition: an element's cases, and the loop over a master's children. Assumes
 -- nothing.
 use Prim.Native.Nat.{ℕ, zero, suc, ◌+◌, ◌-◌, ◌/◌, ◌≤◌, ◌<◌}
+use Rattle.booleans.proofs.Pairs.{ok_halves}
 use mathlib.Core.Path.{◌≡◌, refl, sym, ap, ◌∙◌, subst}
 use mathlib.Core.List.{List, [], ◌∷◌}
 use mathlib.Core.Bool.{true, false}
@@ -12,27 +13,24 @@ use Rattle.refusals.specs.Refusals.{because, overrun, too_deep, no_free_row}
 use Rattle.header.specs.declared.cursor.Cursor.{Cursor}
 use Rattle.header.specs.declared.cursor.Headed.{Headed}
 use Rattle.header.specs.declared.cursor.Header.{Header}
-use Rattle.header.specs.declared.cursor.HeaderRead.TheVariants.{Read as HeaderIs, Refused as HeaderRefused}
 use Rattle.refusals.specs.declared.refusal.Cause.{Cause}
 use Rattle.refusals.specs.declared.refusal.Refusal.{Refusal}
 use Rattle.kinds.specs.Kinds.{number_of, kind_under}
 use Rattle.bodies_rules.specs.Bodies.{body_of}
 use Rattle.bodies_rules.specs.Reads.{body_read}
-use Rattle.bodies_rules.specs.declared.body.BodyRead.TheVariants.{Refused as BodyRefused}
 use Rattle.elements_rules.specs.Forest.{Element, Forest, none, node, whole, span, count, join}
 use Rattle.elements_rules.specs.Reading.{Outcome, done, refused, prepend, above, held, full, siblings, element_of}
 use Rattle.elements_rules.specs.Reading.{element_header, element_header_read, element, depths, master_body}
 use Rattle.elements_rules.specs.Rows.{row_of, rows, width}
 use Rattle.elements_rules.specs.Contract.{step_of, written, closed, Room, Met}
 use Rattle.elements_rules.specs.declared.row.Mode.{Mode}
-use Rattle.elements_rules.specs.declared.element.ElementRead.{ElementRead}
-use Rattle.elements_rules.specs.declared.element.ElementRead.TheVariants.{Read, Refused}
 use Rattle.elements_rules.proofs.Outcomes.{never, refuses, passes}
 use Rattle.elements_rules.proofs.Parts.{step_read, step_refused}
 use Rattle.elements_rules.proofs.Bodies.{master_body_law, held_refused, LeafRead}
 use Rattle.elements_rules.proofs.Forests.{join_none, span_join, count_join, rows_join, length_rows, rows_node}
 use Rattle.elements_rules.proofs.Forests.{prepend_none, prepend_prepend}
 use Rattle.elements_rules.proofs.Tables.{written_none, written_append, length_written, closed_row}
+use Rattle.std.proofs.Common.{Result, Ok, Err}
 
 -- ---- an element's cases
 
@@ -41,7 +39,7 @@ module _ (s : List ℕ) (mode : Mode) (cap depth parent at n : ℕ) where
   abbrev pub element_here : Outcome
   element_here = element s mode cap (depths - depth) parent at n
 
-  pub el_refused : (e : Refusal) → element_header_read mode.live s at ≡ HeaderRefused e → element_here ≡ refused e
+  pub el_refused : (e : Refusal) → element_header_read mode.live s at ≡ Err e → element_here ≡ refused e
   unfolding element
   el_refused e q = go (depths - depth)
     where
@@ -49,7 +47,7 @@ module _ (s : List ℕ) (mode : Mode) (cap depth parent at n : ℕ) where
       go zero = let (h, i) = step_refused mode.live s at e q in rw h (ap refused i)
       go (suc l) = let (h, i) = step_refused mode.live s at e q in rw h (ap refused i)
 
-  module _ (x : Headed) (q : element_header_read mode.live s at ≡ HeaderIs x) where
+  module _ (x : Headed) (q : element_header_read mode.live s at ≡ Ok x) where
     abbrev h : Header
     h = x.header
 
@@ -83,7 +81,7 @@ module _ (s : List ℕ) (mode : Mode) (cap depth parent at n : ℕ) where
             (master_body s mode cap (depth + 1) h.id (at + h.length) h.size (n + 1))
         el_master m = el_body ∙ rw (master_body_law s (at + h.length) h.size (kind_under h.id parent) m)
 
-        pub el_bad : (c : Cause) → body_read (kind_under h.id parent) s (at + h.length) h.size ≡ BodyRefused c
+        pub el_bad : (c : Cause) → body_read (kind_under h.id parent) s (at + h.length) h.size ≡ Err c
             → element_here ≡ refused (because c at)
         el_bad c b = el_body ∙ rw (held_refused s (at + h.length) h.size at (kind_under h.id parent) c
             (master_body s mode cap (depth + 1) h.id (at + h.length) h.size (n + 1)) b)
@@ -96,19 +94,19 @@ module _ (s : List ℕ) (mode : Mode) (cap depth parent at n : ℕ) where
 
 -- ---- what an answer says of the outcome
 
-pub told_read : (at n : ℕ) (o : Outcome) (m : ℕ) (next : Cursor) → Read m next ≡ step_of at n o
+pub told_read : (at n : ℕ) (o : Outcome) (m : ℕ) (next : Cursor) → Ok (m, next) ≡ step_of at n o
     → (f : Forest) × (o ≡ done f) × (m ≡ n + count f) × (next ≡ record { at = at + span f })
-told_read at n (done f) m next q = (f, refl, cc, cc)
+told_read at n (done f) m next q = (f, refl, (ok_halves q).0, (ok_halves q).1)
 told_read at n (refused e) m next q = let z : ◌≡◌ {A = ℕ} 0 1 = cc in absurd (omega arith)
 
-pub told_refused : (at n : ℕ) (o : Outcome) (e : Refusal) → Refused e ≡ step_of at n o → o ≡ refused e
+pub told_refused : (at n : ℕ) (o : Outcome) (e : Refusal) → Err e ≡ step_of at n o → o ≡ refused e
 told_refused at n (done f) e q = let z : ◌≡◌ {A = ℕ} 0 1 = cc in absurd (omega arith)
 told_refused at n (refused e') e q = cc
 
 -- ---- what each return of the readers promises
 
 module _ (s : List ℕ) (mode : Mode) (low parent depth at n : ℕ) (o : Outcome) (t t' : List ℕ) where
-  pub met_refused : (e : Refusal) → o ≡ refused e → Met s mode low parent depth at n o t t' (Refused e)
+  pub met_refused : (e : Refusal) → o ≡ refused e → Met s mode low parent depth at n o t t' (Err e)
   met_refused e q = record {
     reply = sym (ap (step_of at n) q);
     table = λ f w. never (sym q ∙ w);
@@ -121,7 +119,7 @@ module _ (s : List ℕ) (mode : Mode) (low parent depth at n : ℕ) (o : Outcome
       (f : Forest) (c : ℕ) (next : Cursor) → o ≡ done f → c ≡ n + count f → next ≡ record { at = at + span f }
       → t' ≡ written mode t n (rows parent depth at n f)
       → (low ≤ at + span f) × (at + span f ≤ length s) × (c ≤ at + span f)
-      → Room mode t c → Met s mode low parent depth at n o t t' (Read c next)
+      → Room mode t c → Met s mode low parent depth at n o t t' (Ok (c, next))
   met_done f c next q ec en w g r = record {
     reply = go (sym (ap (step_of at n) q));
     table = λ x u. let e : f ≡ x = cc in subst (λ (y : Forest). t' ≡ written mode t n (rows parent depth at n y)) e w;
@@ -129,7 +127,7 @@ module _ (s : List ℕ) (mode : Mode) (low parent depth at n : ℕ) (o : Outcome
     room = λ x u. let e : f ≡ x = cc in rw (← e, ← ec) r;
   }
     where
-      go : Read (n + count f) (record { at = at + span f }) ≡ step_of at n o → Read c next ≡ step_of at n o
+      go : Ok (n + count f, record { at = at + span f }) ≡ step_of at n o → Ok (c, next) ≡ step_of at n o
       go z = rw (ec, en) z
 
 -- An element whose row was written.
@@ -138,7 +136,7 @@ module _ (s : List ℕ) (mode : Mode) (parent depth at n : ℕ) (e : Element) (t
   -- A leaf: its row.
   pub met_leaf : (o : Outcome) (next : Cursor) → o ≡ done (node e none none) → next ≡ record { at = at + whole e }
       → 1 ≤ whole e → at + whole e ≤ length s → n ≤ at → Room mode t (n + 1)
-      → Met s mode (at + 1) parent depth at n o t t₁ (Read (n + 1) next)
+      → Met s mode (at + 1) parent depth at n o t t₁ (Ok (n + 1, next))
   unfolding span count rows
   met_leaf o next q en a i l r =
       let z : at + (whole e + 0) ≡ at + whole e = omega arith in
@@ -148,12 +146,12 @@ module _ (s : List ℕ) (mode : Mode) (parent depth at n : ℕ) (e : Element) (t
       (omega arith) r
 
   -- What its body's reader promised.
-  abbrev Inner : List ℕ → Outcome → ElementRead → Type 0
+  abbrev Inner : List ℕ → Outcome → Result (ℕ × Cursor) Refusal → Type 0
   Inner t₂ inner r =
       Met s mode (at + e.header.length) (n + 1) (depth + 1) (at + e.header.length) (n + 1) inner t₁ t₂ r
 
-  pub met_broken : (t₂ t' : List ℕ) (o inner : Outcome) (x : Refusal) → o ≡ above e inner → Inner t₂ inner (Refused x)
-      → Met s mode (at + 1) parent depth at n o t t' (Refused x)
+  pub met_broken : (t₂ t' : List ℕ) (o inner : Outcome) (x : Refusal) → o ≡ above e inner → Inner t₂ inner (Err x)
+      → Met s mode (at + 1) parent depth at n o t t' (Err x)
   met_broken t₂ t' o inner x q m =
       met_refused s mode (at + 1) parent depth at n o t t' x
       (q ∙ ap (above e) (told_refused (at + e.header.length) (n + 1) inner x m.reply))
@@ -162,8 +160,8 @@ module _ (s : List ℕ) (mode : Mode) (parent depth at n : ℕ) (e : Element) (t
   met_whole :
       (t₂ t' : List ℕ) (o inner : Outcome) (kids : Forest) (c : ℕ) (next : Cursor) → inner ≡ done kids
       → c ≡ n + 1 + count kids → next ≡ record { at = at + e.header.length + span kids } → o ≡ above e inner
-      → 1 ≤ e.header.length → span kids ≡ e.header.size → Inner t₂ inner (Read c next) → t' ≡ closed mode t₂ n c
-      → Met s mode (at + 1) parent depth at n o t t' (Read c next)
+      → 1 ≤ e.header.length → span kids ≡ e.header.size → Inner t₂ inner (Ok (c, next)) → t' ≡ closed mode t₂ n c
+      → Met s mode (at + 1) parent depth at n o t t' (Ok (c, next))
   unfolding span count
   met_whole t₂ t' o inner kids c next d k b q l y m u =
       let g = m.goes kids d in
@@ -184,8 +182,8 @@ module _ (s : List ℕ) (mode : Mode) (parent depth at n : ℕ) (e : Element) (t
 
   pub met_master :
       (t₂ t' : List ℕ) (o inner : Outcome) (c : ℕ) (next : Cursor) → o ≡ above e inner → 1 ≤ e.header.length
-      → ((f : Forest) → inner ≡ done f → span f ≡ e.header.size) → Inner t₂ inner (Read c next)
-      → t' ≡ closed mode t₂ n c → Met s mode (at + 1) parent depth at n o t t' (Read c next)
+      → ((f : Forest) → inner ≡ done f → span f ≡ e.header.size) → Inner t₂ inner (Ok (c, next))
+      → t' ≡ closed mode t₂ n c → Met s mode (at + 1) parent depth at n o t t' (Ok (c, next))
   met_master t₂ t' o inner c next q l z m u =
       let (kids, d, k, b) = told_read (at + e.header.length) (n + 1) inner c next m.reply in
       met_whole t₂ t' o inner kids c next d k b q l (z kids d) m u
@@ -280,10 +278,10 @@ module _ (s t₀ : List ℕ) (mode : Mode) (read : ℕ → ℕ → Outcome) (par
 
   module _ (t : List ℕ) (place : Cursor) (left n : ℕ)
       (g : Going s t₀ mode read parent depth from.at size first t place left n) where
-    abbrev Whole : List ℕ → ElementRead → Type 0
+    abbrev Whole : List ℕ → Result (ℕ × Cursor) Refusal → Type 0
     Whole t' r = Met s mode from.at parent depth from.at first whole_body t₀ t' r
 
-    pub ends : left ≡ 0 → Whole t (Read n place)
+    pub ends : left ≡ 0 → Whole t (Ok (n, place))
     ends z =
         let e : whole_body ≡ done g.ago
         = g.rest ∙ rw (z, stops read g.most place.at n, join_none g.ago) in
@@ -294,16 +292,16 @@ module _ (s t₀ : List ℕ) (mode : Mode) (read : ℕ → ℕ → Outcome) (par
         (ap (λ (x : ℕ). record { at = x }) g.along) g.table (omega arith) g.room
 
     module _ (t' : List ℕ) (more : 0 < left) where
-      abbrev Child : ElementRead → Type 0
+      abbrev Child : Result (ℕ × Cursor) Refusal → Type 0
       Child r = Met s mode (place.at + 1) parent depth place.at n (read place.at n) t t' r
 
-      pub child_out : (e : Refusal) → Child (Refused e) → Whole t' (Refused e)
+      pub child_out : (e : Refusal) → Child (Err e) → Whole t' (Err e)
       child_out e m =
           met_refused s mode from.at parent depth from.at first whole_body t₀ t' e
           (g.rest ∙ rw (child_refused read g.most place.at left n e more g.enough
           (told_refused place.at n (read place.at n) e m.reply)))
 
-      module _ (c : ℕ) (next : Cursor) (m : Child (Read c next)) where
+      module _ (c : ℕ) (next : Cursor) (m : Child (Ok (c, next))) where
         pub child_goes : (place.at + 1 ≤ next.at) × (next.at ≤ length s) × (c ≤ next.at)
         child_goes =
             let (f, q, k, a) = told_read place.at n (read place.at n) c next m.reply in
@@ -311,7 +309,7 @@ module _ (s t₀ : List ℕ) (mode : Mode) (read : ℕ → ℕ → Outcome) (par
             let b = ap (λ (x : Cursor). x.at) a in
             omega arith
 
-        pub child_too_long : left < next.at - place.at → Whole t' (Refused (overrun place.at))
+        pub child_too_long : left < next.at - place.at → Whole t' (Err (overrun place.at))
         child_too_long o =
             let (f, q, k, a) = told_read place.at n (read place.at n) c next m.reply in
             let b = ap (λ (x : Cursor). x.at) a in

@@ -11,7 +11,6 @@ use borrow.Author.Tests.{eqb-false}
 use Rattle.header.specs.Header.{heading, header_of}
 use Rattle.header.specs.Reads.{headed_at, header_read, header_at}
 use Rattle.header.specs.declared.cursor.Header.{Header}
-use Rattle.header.specs.declared.cursor.HeaderRead.TheVariants.{Read}
 use Rattle.kinds.specs.Kinds.{number_of}
 use Rattle.kinds.specs.declared.kind.Kind.{Kind}
 use Rattle.kinds.proofs.Numbers.{kind_back}
@@ -24,6 +23,7 @@ use Rattle.elements_rules.specs.declared.row.Row.{Row}
 use Rattle.elements_rules.proofs.Parts.{taken_there}
 use Rattle.elements_rules.proofs.Standing.{stands_inside, read_stands}
 use Rattle.elements_rules.proofs.Readback.{accepted_read}
+use Rattle.std.proofs.Common.{Ok}
 
 pub each_append : (P : Row → Type 0) (rs ss : List Row) → Each P rs → Each P ss → Each P (rs ++ ss)
 unfolding Each
@@ -39,7 +39,7 @@ is_leaf k q = go (eqb k 1) refl q
 
 module _ (live : Bool) (s : List ℕ) where
   pub header_there : (at : ℕ) (h : Header) → header_of (drop at s) ≡ heading h
-      → header_at s at ≡ Read (headed_at at h)
+      → header_at s at ≡ Ok (headed_at at h)
   unfolding header_at header_read
   header_there at h q = rw q
 

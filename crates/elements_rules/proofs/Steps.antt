@@ -11,21 +11,17 @@ use Rattle.refusals.specs.declared.refusal.Cause.{Cause}
 use Rattle.header.specs.declared.cursor.Cursor.{Cursor}
 use Rattle.header.specs.declared.cursor.Headed.{Headed}
 use Rattle.header.specs.declared.cursor.Header.{Header}
-use Rattle.header.specs.declared.cursor.HeaderRead.TheVariants.{Read as HeaderIs, Refused as HeaderRefused}
 use Rattle.refusals.specs.declared.refusal.Refusal.{Refusal}
 use Rattle.header.proofs.Inside.{header_there}
 use Rattle.kinds.specs.Kinds.{number_of, kind_under}
 use Rattle.kinds.specs.declared.kind.Kind.{Kind}
 use Rattle.bodies_rules.specs.Reads.{body_read}
 use Rattle.bodies_rules.specs.declared.body.Body.{Body}
-use Rattle.bodies_rules.specs.declared.body.BodyRead.TheVariants.{Read as BodyIs, Refused as BodyRefused}
 use Rattle.elements_rules.specs.Reading.{Outcome, above as above', full, element_of, depths, master_body}
 use Rattle.elements_rules.specs.Reading.{element_header_read}
 use Rattle.elements_rules.specs.Rows.{row_of, width}
 use Rattle.elements_rules.specs.Contract.{written, closed, Room, Met}
 use Rattle.elements_rules.specs.declared.element.Above.{Above}
-use Rattle.elements_rules.specs.declared.element.ElementRead.{ElementRead}
-use Rattle.elements_rules.specs.declared.element.ElementRead.TheVariants.{Read, Refused}
 use Rattle.elements_rules.specs.declared.row.Mode.{Mode}
 use Rattle.elements_rules.proofs.Parts.{step_read}
 use Rattle.elements_rules.proofs.Bodies.{leaf_read}
@@ -33,29 +29,30 @@ use Rattle.elements_rules.proofs.Tables.{Kept, no_room, has_room, room_free, len
 use Rattle.elements_rules.proofs.Standing.{body_stands}
 use Rattle.elements_rules.proofs.Reading.{element_here, el_refused, el_deep, el_full, el_master, el_bad, el_leaf}
 use Rattle.elements_rules.proofs.Reading.{met_refused, met_leaf, met_broken, met_master}
+use Rattle.std.proofs.Common.{Result, Ok, Err}
 
 module _ (s : List ℕ) (mode : Mode) (t : List ℕ) (place : Cursor) (n : ℕ) (above : Above) where
   abbrev here : Outcome
   here = element_here s mode (length t / width) above.depth above.id place.at n
 
   -- What `element` promises of its answer.
-  abbrev pub Promised : List ℕ → ElementRead → Type 0
+  abbrev pub Promised : List ℕ → Result (ℕ × Cursor) Refusal → Type 0
   Promised t' r = Met s mode (place.at + 1) above.row above.depth place.at n here t t' r
 
-  pub header_fails : (t' : List ℕ) (e : Refusal) → element_header_read mode.live s place.at ≡ HeaderRefused e
-      → Promised t' (Refused e)
+  pub header_fails : (t' : List ℕ) (e : Refusal) → element_header_read mode.live s place.at ≡ Err e
+      → Promised t' (Err e)
   header_fails t' e q =
       met_refused s mode _ _ _ _ n here t t' e
       (el_refused s mode (length t / width) above.depth above.id place.at n e q)
 
-  module _ (x : Headed) (q : element_header_read mode.live s place.at ≡ HeaderIs x) where
+  module _ (x : Headed) (q : element_header_read mode.live s place.at ≡ Ok x) where
     abbrev h : Header
     h = x.header
 
     abbrev next : Cursor
     next = x.payload
 
-    pub too_deep_law : (t' : List ℕ) → depths ≤ above.depth → Promised t' (Refused (too_deep place.at))
+    pub too_deep_law : (t' : List ℕ) → depths ≤ above.depth → Promised t' (Err (too_deep place.at))
     too_deep_law t' d =
         met_refused s mode _ _ _ _ n here t t' (too_deep place.at)
         (el_deep s mode (length t / width) above.depth above.id place.at n x q d)
@@ -83,7 +80,7 @@ module _ (s : List ℕ) (mode : Mode) (t : List ℕ) (place : Cursor) (n : ℕ) 
           }) kept
 
       pub no_free : (number : ℕ) (kept : Bool) (t' : List ℕ) → row_here h.id number kept → not kept ≡ true
-          → Promised t' (Refused (no_free_row place.at))
+          → Promised t' (Err (no_free_row place.at))
       no_free number kept t' w z =
           let f = no_room (full mode (length t / width) n) kept w.0 z in
           met_refused s mode _ _ _ _ n here t t' (no_free_row place.at)
@@ -111,8 +108,8 @@ module _ (s : List ℕ) (mode : Mode) (t : List ℕ) (place : Cursor) (n : ℕ) 
         room_after kept =
             subst (λ (x : ℕ). n + 1 ≤ x / width) (sym w.same) (room_free mode t n w.free kept)
 
-        pub body_fails : (e : Cause) → body_read k s next.at h.size ≡ BodyRefused e
-            → Promised t₁ (Refused (because e place.at))
+        pub body_fails : (e : Cause) → body_read k s next.at h.size ≡ Err e
+            → Promised t₁ (Err (because e place.at))
         body_fails e b =
             let c = payload_at in
             let b' = rw (listed, c.1) at b in
@@ -120,7 +117,7 @@ module _ (s : List ℕ) (mode : Mode) (t : List ℕ) (place : Cursor) (n : ℕ) 
             (el_bad s mode (length t / width) above.depth above.id place.at n x q d w.free e b')
 
         pub leaf_met : (body : Body) (after : Cursor) → (number_of k ≡ 1 → ⊥) → n ≤ place.at
-            → body_read k s next.at h.size ≡ BodyIs body after → Promised t₁ (Read (n + 1) after)
+            → body_read k s next.at h.size ≡ Ok (body, after) → Promised t₁ (Ok (n + 1, after))
         leaf_met body after m l b =
             let c = payload_at in
             let b' = rw (listed, c.1) at b in
@@ -136,7 +133,7 @@ module _ (s : List ℕ) (mode : Mode) (t : List ℕ) (place : Cursor) (n : ℕ) 
             (room_free mode t n w.free)
 
         -- What `master_body` promised of a master's payload.
-        abbrev Inner : List ℕ → ElementRead → Type 0
+        abbrev Inner : List ℕ → Result (ℕ × Cursor) Refusal → Type 0
         Inner t₂ r =
             Met s mode next.at (n + 1) (above.depth + 1) next.at (n + 1)
             (master_body s mode (length t₁ / width) (above.depth + 1) h.id next.at h.size (n + 1)) t₁ t₂ r
@@ -150,7 +147,7 @@ module _ (s : List ℕ) (mode : Mode) (t : List ℕ) (place : Cursor) (n : ℕ) 
               el_master s mode (length t / width) above.depth above.id place.at n x q d w.free
               (rw listed at m)
 
-          pub master_broken : (r : ElementRead) (e : Refusal) → r ≡ Refused e → Inner t₂ r → Promised t₂ r
+          pub master_broken : (r : Result (ℕ × Cursor) Refusal) (e : Refusal) → r ≡ Err e → Inner t₂ r → Promised t₂ r
           master_broken r e z g =
               let c = payload_at in
               let g' = rw (c.1, w.same, z) at g in
@@ -158,8 +155,8 @@ module _ (s : List ℕ) (mode : Mode) (t : List ℕ) (place : Cursor) (n : ℕ) 
               (met_broken s mode above.row above.depth place.at n (element_of above.id h) t t₁ w.row t₂ t₂
               here _ e master_is g')
 
-          pub master_met : (t' : List ℕ) (r : ElementRead) (rows : ℕ) (after : Cursor) → r ≡ Read rows after
-              → Inner t₂ r → t' ≡ closed mode t₂ n rows → Promised t' (Read rows after)
+          pub master_met : (t' : List ℕ) (r : Result (ℕ × Cursor) Refusal) (rows : ℕ) (after : Cursor) → r ≡ Ok (rows, after)
+              → Inner t₂ r → t' ≡ closed mode t₂ n rows → Promised t' (Ok (rows, after))
           master_met t' r rows after z g u =
               let c = payload_at in
               let g' = rw (c.1, w.same, z) at g in

@@ -6,17 +6,17 @@ use Rattle.refusals.specs.Reply.{Reply, accepted, refusal}
 use Rattle.refusals.proofs.Listed.{listed}
 use Rattle.elements_rules.specs.Promise.{read_of, reply_of, table_of, read_told}
 use Rattle.elements_rules.specs.Theorems.{OneReply, RefusesListed}
-use Rattle.elements_rules.specs.declared.reply.ReadReply.{ReadReply}
-use Rattle.elements_rules.specs.declared.reply.ReadReply.TheVariants.{Rows, Refused}
+use Rattle.std.proofs.Common.{Result, Ok, Err}
+use Rattle.refusals.specs.declared.refusal.Refusal.{Refusal}
 
 -- What was told tells the reply.
-abbrev pub replied : Reply ℕ → ReadReply
-replied (accepted n) = Rows n
-replied (refusal e) = Refused e
+abbrev pub replied : Reply ℕ → Result ℕ Refusal
+replied (accepted n) = Ok n
+replied (refusal e) = Err e
 
-pub replied_back : (r : ReadReply) → replied (read_told r) ≡ r
-replied_back (Rows n) = refl
-replied_back (Refused e) = refl
+pub replied_back : (r : Result ℕ Refusal) → replied (read_told r) ≡ r
+replied_back (Ok n) = refl
+replied_back (Err e) = refl
 
 pub read_unique : OneReply
 read_unique live s start size parent t u r r' t' u' l p q =

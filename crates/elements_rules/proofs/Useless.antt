@@ -19,11 +19,10 @@ use Rattle.elements_rules.specs.Reading.{Outcome, done, refused, refuse_if, full
 use Rattle.elements_rules.specs.Rows.{rows, width, flat, flatten}
 use Rattle.elements_rules.specs.Promise.{is_table, allowed, filled, read_of, reply_of, zeros, table_of, read_told}
 use Rattle.elements_rules.specs.Useless.{track_entry, block_group, NotAllRefused, NotOneTable, NotUntouched}
-use Rattle.elements_rules.specs.declared.reply.ReadReply.{ReadReply}
-use Rattle.elements_rules.specs.declared.reply.ReadReply.TheVariants.{Rows, Refused}
 use Rattle.elements_rules.proofs.Forests.{length_rows}
 use Rattle.elements_rules.proofs.Tables.{length_flatten, zeros_at}
 use Rattle.elements_rules.proofs.Readback.{accepted_read}
+use Rattle.std.proofs.Common.{Result, Ok, Err}
 
 -- ---- two payloads, computed
 
@@ -42,9 +41,9 @@ unfolding computed octet_bits bits one_more width_of big_endian_from big_endian 
 both_read true = (refl, refl, refl)
 both_read false = (refl, refl, refl)
 
-pub rows_told : (r : ReadReply) (n : ℕ) → read_told r ≡ accepted n → r ≡ Rows n
-rows_told (Rows m) n q = cc
-rows_told (Refused e) n q = let z : ◌≡◌ {A = ℕ} 0 1 = cc in absurd (omega arith)
+pub rows_told : (r : Result ℕ Refusal) (n : ℕ) → read_told r ≡ accepted n → r ≡ Ok n
+rows_told (Ok m) n q = cc
+rows_told (Err e) n q = let z : ◌≡◌ {A = ℕ} 0 1 = cc in absurd (omega arith)
 
 pub not_all_refused : NotAllRefused
 unfolding computed
@@ -74,7 +73,7 @@ beyond start numbers f k l =
     ∙ get_or-append-add (flatten (rows 0 0 start 0 f)) (zeros (numbers - count f * width)) (k - count f * width) 0
     ∙ zeros_at (numbers - count f * width) (k - count f * width)
 
-cleared_of : (start numbers : ℕ) (o : Outcome) (e : Refusal) (t' : List ℕ) → read_told (Refused e) ≡ reply_of o
+cleared_of : (start numbers : ℕ) (o : Outcome) (e : Refusal) (t' : List ℕ) → read_told (Err e) ≡ reply_of o
     → t' ≡ table_of start numbers o → t' ≡ zeros numbers
 unfolding table_of
 cleared_of start numbers (done f) e t' q w = let z : ◌≡◌ {A = ℕ} 0 1 = cc in absurd (omega arith)

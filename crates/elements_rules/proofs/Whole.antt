@@ -16,13 +16,11 @@ use Rattle.elements_rules.specs.Rows.{rows, width, flatten}
 use Rattle.elements_rules.specs.Promise.{keeping, allowed, filled, read_of, reply_of, zeros, table_of}
 use Rattle.elements_rules.specs.Promise.{read_told, ReadPromise}
 use Rattle.elements_rules.specs.Contract.{written, Met}
-use Rattle.elements_rules.specs.declared.element.ElementRead.TheVariants.{Read, Refused as ReadRefused}
-use Rattle.elements_rules.specs.declared.reply.ReadReply.{ReadReply}
-use Rattle.elements_rules.specs.declared.reply.ReadReply.TheVariants.{Rows, Refused}
 use Rattle.elements_rules.proofs.Outcomes.{refuses, passes}
 use Rattle.elements_rules.proofs.Forests.{length_rows}
 use Rattle.elements_rules.proofs.Tables.{length_flatten, drop_zeros}
 use Rattle.elements_rules.proofs.Reading.{told_read, told_refused}
+use Rattle.std.proofs.Common.{Result, Ok, Err}
 
 -- Tables of one length.
 pub zeros_as : {a b : ℕ} → a ≡ b → zeros a ≡ zeros b
@@ -34,12 +32,12 @@ allowed_as s start e = ap (allowed s start) e
 -- ---- the reply and the table of an outcome
 
 -- A reply and a table that tell an outcome.
-pub record Gives (start numbers : ℕ) (o : Outcome) (r : ReadReply) (t : List ℕ) : Type 0 where
+pub record Gives (start numbers : ℕ) (o : Outcome) (r : Result ℕ Refusal) (t : List ℕ) : Type 0 where
   pub reply : read_told r ≡ reply_of o
   pub table : t ≡ table_of start numbers o
 
 module _ (live : Bool) (start numbers : ℕ) (o : Outcome) (t : List ℕ) where
-  pub gives_refusal : (e : Refusal) → o ≡ refused e → t ≡ zeros numbers → Gives start numbers o (Refused e) t
+  pub gives_refusal : (e : Refusal) → o ≡ refused e → t ≡ zeros numbers → Gives start numbers o (Err e) t
   unfolding table_of
   gives_refusal e q z =
       record { reply = sym (ap reply_of q); table = z ∙ sym (ap (table_of start numbers) q) }
@@ -47,7 +45,7 @@ module _ (live : Bool) (start numbers : ℕ) (o : Outcome) (t : List ℕ) where
   pub gives_rows :
       (f : Forest) (n : ℕ) → o ≡ done f → n ≡ count f
       → t ≡ written (keeping live) (zeros numbers) 0 (rows 0 0 start 0 f) → count f ≤ numbers / width
-      → Gives start numbers o (Rows n) t
+      → Gives start numbers o (Ok n) t
   unfolding table_of written
   gives_rows f n q k w l =
       let rs = rows 0 0 start 0 f in
@@ -67,7 +65,7 @@ module _ (live : Bool) (start numbers : ℕ) (o : Outcome) (t : List ℕ) where
       }
 
 -- They are as promised where the outcome is the read's.
-promised : (live : Bool) (s : List ℕ) (start size parent : ℕ) (t : List ℕ) (r : ReadReply) (t' : List ℕ)
+promised : (live : Bool) (s : List ℕ) (start size parent : ℕ) (t : List ℕ) (r : Result ℕ Refusal) (t' : List ℕ)
     → Gives start (length t) (read_of live s start size parent (length t)) r t'
     → ReadPromise live s start size parent t r t'
 promised live s start size parent t r t' g = record { reply = g.reply; table = g.table }
@@ -87,22 +85,22 @@ module _ (live : Bool) (s : List ℕ) (start size parent : ℕ) (t₁ : List ℕ
     outcome = passes _ _ _ (ap not a)
 
     pub fill_refused : (e : Refusal) (t t' : List ℕ)
-        → Met s (keeping live) start 0 0 start 0 reading t₁ t (ReadRefused e)
-        → t' ≡ zeros numbers → ReadPromise live s start size parent t₁ (Refused e) t'
+        → Met s (keeping live) start 0 0 start 0 reading t₁ t (Err e)
+        → t' ≡ zeros numbers → ReadPromise live s start size parent t₁ (Err e) t'
     fill_refused e t t' m w =
-        promised live s start size parent t₁ (Refused e) t'
+        promised live s start size parent t₁ (Err e) t'
         (gives_refusal live start numbers (read_of live s start size parent numbers) t' e
         (outcome ∙ told_refused start 0 reading e m.reply) w)
 
     pub fill_done : (n : ℕ) (next : Cursor) (t : List ℕ)
-        → Met s (keeping live) start 0 0 start 0 reading t₁ t (Read n next)
-        → ReadPromise live s start size parent t₁ (Rows n) t
+        → Met s (keeping live) start 0 0 start 0 reading t₁ t (Ok (n, next))
+        → ReadPromise live s start size parent t₁ (Ok n) t
     fill_done n next t m =
         let (f, u, b, c) = told_read start 0 reading n next m.reply in
         let k : n ≡ count f = b ∙ zero-add (count f) in
         let l = m.room f u refl in
         let w = subst (λ (x : List ℕ). t ≡ written (keeping live) x 0 (rows 0 0 start 0 f)) z (m.table f u) in
-        promised live s start size parent t₁ (Rows n) t
+        promised live s start size parent t₁ (Ok n) t
         (gives_rows live start numbers (read_of live s start size parent numbers) t f n (outcome ∙ u) k w (omega arith))
 
 -- ---- the public call
@@ -114,14 +112,14 @@ module _ (live : Bool) (s : List ℕ) (start size parent : ℕ) (t : List ℕ) w
   refused_argument a = refuses _ _ _ (ap not a)
 
   pub not_allowed : (t₁ : List ℕ) → allowed s start (length t) ≡ false → t₁ ≡ zeros (length t)
-      → ReadPromise live s start size parent t (Refused bad_argument) t₁
+      → ReadPromise live s start size parent t (Err bad_argument) t₁
   not_allowed t₁ a z =
-      promised live s start size parent t (Refused bad_argument) t₁
+      promised live s start size parent t (Err bad_argument) t₁
       (gives_refusal live start (length t) (read_of live s start size parent (length t)) t₁ bad_argument
       (refused_argument a) z)
 
   -- What was promised of the cleared table holds of the table that the caller lent.
-  pub as_lent : (t₁ t₂ : List ℕ) (r : ReadReply) → length t₁ ≡ length t → ReadPromise live s start size parent t₁ r t₂
+  pub as_lent : (t₁ t₂ : List ℕ) (r : Result ℕ Refusal) → length t₁ ≡ length t → ReadPromise live s start size parent t₁ r t₂
       → ReadPromise live s start size parent t r t₂
   as_lent t₁ t₂ r l p =
       record { reply = rw (← l) p.reply; table = rw (← l) p.table }

@@ -8,8 +8,8 @@ use Rattle.elements_rules.specs.Stands.{Stands}
 use Rattle.elements_rules.specs.Promise.{allowed, zeros, ReadPromise}
 use Rattle.elements_rules.specs.declared.row.Row.{Row}
 use Rattle.elements_rules.specs.declared.row.Mode.{Mode}
-use Rattle.elements_rules.specs.declared.reply.ReadReply.{ReadReply}
-use Rattle.elements_rules.specs.declared.reply.ReadReply.TheVariants.{Rows}
+use Rattle.std.specs.Prelude.{Result, Ok}
+use Rattle.refusals.specs.declared.refusal.Refusal.{Refusal}
 
 -- ---- accepted exactly if
 
@@ -31,8 +31,8 @@ pub record Acceptable (live : Bool) (s : List ℕ) (start size parent : ℕ) (t 
 abbrev pub AcceptedExactly : Type 0
 AcceptedExactly =
     (live : Bool) (s : List ℕ) (start size parent : ℕ) (t : List ℕ) (n : ℕ) (t' : List ℕ)
-    → (ReadPromise live s start size parent t (Rows n) t' → Acceptable live s start size parent t n t')
-    × (Acceptable live s start size parent t n t' → ReadPromise live s start size parent t (Rows n) t')
+    → (ReadPromise live s start size parent t (Ok n) t' → Acceptable live s start size parent t n t')
+    × (Acceptable live s start size parent t n t' → ReadPromise live s start size parent t (Ok n) t')
 
 -- A tree for the reader of a master's body, whose elements have that depth, with n of `cap` rows taken: it stands
 -- there, takes up the size, has no more depths than are left and, where rows are kept, finds them free.
@@ -59,11 +59,11 @@ BodyExactly =
 -- overruns the payload is 1, 3 or 7 by the bytes behind it (P11).
 abbrev pub OwnBytes : Type 0
 OwnBytes =
-    (live : Bool) (s s' : List ℕ) (start size parent : ℕ) (t u : List ℕ) (n : ℕ) (t' : List ℕ) (r : ReadReply)
+    (live : Bool) (s s' : List ℕ) (start size parent : ℕ) (t u : List ℕ) (n : ℕ) (t' : List ℕ) (r : Result ℕ Refusal)
     (u' : List ℕ)
     → take size (drop start s) ≡ take size (drop start s') → allowed s' start (length u) ≡ true → length t ≡ length u
-    → ReadPromise live s start size parent t (Rows n) t' → ReadPromise live s' start size parent u r u'
-    → (r ≡ Rows n) × (u' ≡ t')
+    → ReadPromise live s start size parent t (Ok n) t' → ReadPromise live s' start size parent u r u'
+    → (r ≡ Ok n) × (u' ≡ t')
 
 -- The row of the same element where the payload begins at start', not at start: its address is as far behind that.
 abbrev pub elsewhere : ℕ → ℕ → Row → Row
@@ -91,12 +91,12 @@ pub record OneTree (start start' n : ℕ) (t' u' : List ℕ) : Type 0 where
 -- an element stands, as one that takes even addresses alone, and one whose addresses count from the payload's start.
 abbrev pub Moves : Type 0
 Moves =
-    (live : Bool) (s s' : List ℕ) (start start' size parent : ℕ) (t u : List ℕ) (n : ℕ) (t' : List ℕ) (r : ReadReply)
+    (live : Bool) (s s' : List ℕ) (start start' size parent : ℕ) (t u : List ℕ) (n : ℕ) (t' : List ℕ) (r : Result ℕ Refusal)
     (u' : List ℕ)
     → take size (drop start s) ≡ take size (drop start' s') → allowed s' start' (length u) ≡ true
     → n ≤ length u / width
-    → ReadPromise live s start size parent t (Rows n) t' → ReadPromise live s' start' size parent u r u'
-    → (r ≡ Rows n) × OneTree start start' n t' u'
+    → ReadPromise live s start size parent t (Ok n) t' → ReadPromise live s' start' size parent u r u'
+    → (r ≡ Ok n) × OneTree start start' n t' u'
 
 -- The same of a master's body, with rows or without: a seek head that is copied to another place is the same tree
 -- there.

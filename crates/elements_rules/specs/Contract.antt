@@ -10,13 +10,13 @@ use Rattle.elements_rules.specs.Promise.{zeros}
 use Rattle.elements_rules.specs.declared.row.Row.{Row}
 use Rattle.elements_rules.specs.declared.row.Mode.{Mode}
 use Rattle.elements_rules.specs.declared.element.Above.{Above}
-use Rattle.elements_rules.specs.declared.element.ElementRead.{ElementRead}
-use Rattle.elements_rules.specs.declared.element.ElementRead.TheVariants.{Read, Refused}
+use Rattle.std.specs.Prelude.{Result, Ok, Err}
+use Rattle.refusals.specs.declared.refusal.Refusal.{Refusal}
 
 -- The answer of a reader that began at a place with n rows before it.
-abbrev pub step_of : (at n : ℕ) → Outcome → ElementRead
-step_of at n (done f) = Read (n + count f) (record { at = at + span f })
-step_of at n (refused e) = Refused e
+abbrev pub step_of : (at n : ℕ) → Outcome → Result (ℕ × Cursor) Refusal
+step_of at n (done f) = Ok (n + count f, record { at = at + span f })
+step_of at n (refused e) = Err e
 
 -- The table t with those rows from row n on, where rows are kept.
 unfoldable pub written : Mode → List ℕ → ℕ → List Row → List ℕ
@@ -42,7 +42,7 @@ pub record Ready (s : List ℕ) (mode : Mode) (t : List ℕ) (at n : ℕ) : Type
 -- of the next place.
 pub record Met
     (s : List ℕ) (mode : Mode) (low parent depth at n : ℕ) (o : Outcome) (t t' : List ℕ)
-    (r : ElementRead) : Type 0 where
+    (r : Result (ℕ × Cursor) Refusal) : Type 0 where
   pub reply : r ≡ step_of at n o
   pub table : (f : Forest) → o ≡ done f → t' ≡ written mode t n (rows parent depth at n f)
   pub goes :
@@ -51,12 +51,12 @@ pub record Met
   pub room : (f : Forest) → o ≡ done f → Room mode t (n + count f)
 
 -- What `element` gives at a place, and `master_body` for a payload there: each under what stands above it.
-abbrev pub ElementMet : List ℕ → Mode → (place : Cursor) (n : ℕ) → Above → (t t' : List ℕ) → ElementRead → Type 0
+abbrev pub ElementMet : List ℕ → Mode → (place : Cursor) (n : ℕ) → Above → (t t' : List ℕ) → Result (ℕ × Cursor) Refusal → Type 0
 ElementMet s mode place n above t t' r =
     Met s mode (place.at + 1) above.row above.depth place.at n
     (element s mode (length t / width) (depths - above.depth) above.id place.at n) t t' r
 
-abbrev pub BodyMet : List ℕ → Mode → (from : Cursor) (size n : ℕ) → Above → (t t' : List ℕ) → ElementRead → Type 0
+abbrev pub BodyMet : List ℕ → Mode → (from : Cursor) (size n : ℕ) → Above → (t t' : List ℕ) → Result (ℕ × Cursor) Refusal → Type 0
 BodyMet s mode from size n above t t' r =
     Met s mode from.at above.row above.depth from.at n
     (master_body s mode (length t / width) above.depth above.id from.at size n) t t' r

@@ -12,19 +12,17 @@ use Rattle.header.specs.Header.{heading, header_of}
 use Rattle.header.specs.Header.{refused as refused_header}
 use Rattle.header.specs.Promise.{HeaderPromise}
 use Rattle.header.specs.declared.cursor.Header.{Header}
-use Rattle.header.specs.declared.reply.HeaderReply.TheVariants.{Refused as NoHeaderReply}
 use Rattle.sizes.specs.Unknown.{unknown, endless}
 use Rattle.kinds.specs.Kinds.{number_of, kind_under, member}
 use Rattle.bodies_rules.specs.Bodies.{body_of}
 use Rattle.bodies_rules.specs.Bodies.{refused as refused_body}
 use Rattle.bodies_rules.specs.Promise.{BodyPromise}
-use Rattle.bodies_rules.specs.declared.reply.BodyReply.TheVariants.{Refused as NoBodyReply}
 use Rattle.elements_rules.specs.Forest.{Forest, span, count}
 use Rattle.elements_rules.specs.Reading.{done, element_header, full, depths, element}
 use Rattle.elements_rules.specs.Rows.{width}
 use Rattle.elements_rules.specs.Promise.{keeping, ReadPromise}
 use Rattle.elements_rules.specs.declared.row.Mode.{Mode}
-use Rattle.elements_rules.specs.declared.reply.ReadReply.TheVariants.{Refused}
+use Rattle.std.specs.Prelude.{Err}
 
 -- ---- what a reader is about
 
@@ -201,7 +199,7 @@ pub data Honest (s : List ℕ) (Reached : ℕ → Errand → Type 0) (e : Refusa
 -- begins.
 abbrev pub HeaderHonest : Type 0
 HeaderHonest =
-    (s : List ℕ) (at : ℕ) (e : Refusal) → HeaderPromise s at (NoHeaderReply e)
+    (s : List ℕ) (at : ℕ) (e : Refusal) → HeaderPromise s at (Err e)
     → Honest s (λ (a : ℕ) (x : Errand). (a ≡ at) × (x ≡ to_header)) e
 
 -- A body is refused at the address that the caller gave for its header. It shuts out a reader that tells the place of
@@ -209,7 +207,7 @@ HeaderHonest =
 abbrev pub BodyHonest : Type 0
 BodyHonest =
     (s : List ℕ) (id parent at size address : ℕ) (e : Refusal)
-    → BodyPromise s id parent at size address (NoBodyReply e)
+    → BodyPromise s id parent at size address (Err e)
     → Honest s (λ (a : ℕ) (x : Errand). (a ≡ address) × (x ≡ to_body id parent at size address)) e
 
 -- ---- the way to an element
@@ -243,4 +241,4 @@ HonestReading live s start size parent numbers e =
 abbrev pub ReadHonest : Type 0
 ReadHonest =
     (live : Bool) (s : List ℕ) (start size parent : ℕ) (t : List ℕ) (e : Refusal) (t' : List ℕ)
-    → ReadPromise live s start size parent t (Refused e) t' → HonestReading live s start size parent (length t) e
+    → ReadPromise live s start size parent t (Err e) t' → HonestReading live s start size parent (length t) e

@@ -4,8 +4,8 @@ use Rattle.std.specs.Prelude.{ℕ, suc, ◌*◌, ◌≤◌, ◌<◌, ◌≡◌, 
 use Rattle.elements_rules.specs.Rows.{width, rows_of, nth}
 use Rattle.elements_rules.specs.Promise.{ReadPromise}
 use Rattle.elements_rules.specs.declared.row.Row.{Row}
-use Rattle.elements_rules.specs.declared.reply.ReadReply.{ReadReply}
-use Rattle.elements_rules.specs.declared.reply.ReadReply.TheVariants.{Rows}
+use Rattle.std.specs.Prelude.{Result, Ok}
+use Rattle.refusals.specs.declared.refusal.Refusal.{Refusal}
 
 -- Row j is a descendant of row k: its chain of parents leads to k.
 pub data Descends (rs : List Row) (k : ℕ) : ℕ → Type 0 where
@@ -27,7 +27,7 @@ pub record Jump (rs : List Row) (k : ℕ) : Type 0 where
 abbrev pub JumpsOver : Type 0
 JumpsOver =
     (live : Bool) (s : List ℕ) (start size parent : ℕ) (t : List ℕ) (n : ℕ) (t' : List ℕ)
-    → ReadPromise live s start size parent t (Rows n) t'
+    → ReadPromise live s start size parent t (Ok n) t'
     → (length (rows_of t' n) ≡ n) × ((k : ℕ) → k < n → Jump (rows_of t' n) k)
 
 -- A master in a master around a leaf, and a leaf behind them: 3, 3, 3 and 4, the row count.
@@ -43,6 +43,6 @@ nested_table =
 
 abbrev pub NestedJumps : Type 0
 NestedJumps =
-    (live : Bool) (t : List ℕ) (r : ReadReply) (t' : List ℕ) → length t ≡ 4 * width
+    (live : Bool) (t : List ℕ) (r : Result ℕ Refusal) (t' : List ℕ) → length t ≡ 4 * width
     → ReadPromise live nested 0 8 0 t r t'
-    → (r ≡ Rows 4) × (t' ≡ nested_table)
+    → (r ≡ Ok 4) × (t' ≡ nested_table)

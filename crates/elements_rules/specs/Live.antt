@@ -11,8 +11,8 @@ use Rattle.elements_rules.specs.Theorems.{Each}
 use Rattle.elements_rules.specs.Promise.{keeping, allowed, ReadPromise}
 use Rattle.elements_rules.specs.Faults.{Errand, reads_header, Comes}
 use Rattle.elements_rules.specs.declared.row.Row.{Row}
-use Rattle.elements_rules.specs.declared.reply.ReadReply.{ReadReply}
-use Rattle.elements_rules.specs.declared.reply.ReadReply.TheVariants.{Rows, Refused}
+use Rattle.std.specs.Prelude.{Result, Ok, Err}
+use Rattle.refusals.specs.declared.refusal.Refusal.{Refusal}
 
 -- ---- sizes that are known
 
@@ -48,16 +48,16 @@ BodyLiveOr =
 -- up to the payload's end.
 abbrev pub LiveReads : Type 0
 LiveReads =
-    (s : List ℕ) (start size parent : ℕ) (t : List ℕ) (r r' : ReadReply) (t' u' : List ℕ)
+    (s : List ℕ) (start size parent : ℕ) (t : List ℕ) (r r' : Result ℕ Refusal) (t' u' : List ℕ)
     → ReadPromise false s start size parent t r t' → ReadPromise true s start size parent t r' u'
-    → ((a : ℕ) × (r' ≡ Refused (unknown_size a))) ⊎ ((r' ≡ r) × (u' ≡ t'))
+    → ((a : ℕ) × (r' ≡ Err (unknown_size a))) ⊎ ((r' ≡ r) × (u' ≡ t'))
 
 -- If no header that the call reads in old mode has an unknown size, live mode gives the equal reply and table. With 14
 -- it reads none. It shuts out a live mode that gives 17 for a size of all ones in a payload's bytes, which are no
 -- header.
 abbrev pub EqualReads : Type 0
 EqualReads =
-    (s : List ℕ) (start size parent : ℕ) (t : List ℕ) (r r' : ReadReply) (t' u' : List ℕ)
+    (s : List ℕ) (start size parent : ℕ) (t : List ℕ) (r r' : Result ℕ Refusal) (t' u' : List ℕ)
     → (allowed s start (length t) ≡ true → AllKnown s
     (Comes s (keeping false) (length t / width) 0 parent start size 0))
     → ReadPromise false s start size parent t r t' → ReadPromise true s start size parent t r' u'
@@ -74,5 +74,5 @@ header_of_row r = record { id = r.id; size = r.payload; length = r.header }
 abbrev pub RowsKnown : Type 0
 RowsKnown =
     (s : List ℕ) (start size parent : ℕ) (t : List ℕ) (n : ℕ) (t' : List ℕ)
-    → ReadPromise true s start size parent t (Rows n) t'
+    → ReadPromise true s start size parent t (Ok n) t'
     → Each (λ r. unknown (header_of_row r) ≡ false) (rows_of t' n)

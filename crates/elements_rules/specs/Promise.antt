@@ -7,8 +7,8 @@ use Rattle.elements_rules.specs.Forest.{count}
 use Rattle.elements_rules.specs.Reading.{Outcome, done, refused, refuse_if, master_body}
 use Rattle.elements_rules.specs.Rows.{rows_at, width, flatten}
 use Rattle.elements_rules.specs.declared.row.Mode.{Mode}
-use Rattle.elements_rules.specs.declared.reply.ReadReply.{ReadReply}
-use Rattle.elements_rules.specs.declared.reply.ReadReply.TheVariants.{Rows, Refused}
+use Rattle.std.specs.Prelude.{Result, Ok, Err}
+use Rattle.refusals.specs.declared.refusal.Refusal.{Refusal}
 
 -- The most rows that a table has (document 01, Numbers that bound a call).
 abbrev pub most_rows : ℕ
@@ -50,11 +50,11 @@ table_of start numbers (done f) = flatten (rows_at start f) ++ zeros (numbers - 
 table_of start numbers (refused e) = zeros numbers
 
 -- Document 01's value for each case of `ReadReply`: the count of rows, or the refusal.
-abbrev pub read_told : ReadReply → Reply ℕ
-read_told (Rows n) = accepted n
-read_told (Refused e) = refusal e
+abbrev pub read_told : Result ℕ Refusal → Reply ℕ
+read_told (Ok n) = accepted n
+read_told (Err e) = refusal e
 
 pub record ReadPromise
-    (live : Bool) (s : List ℕ) (start size parent : ℕ) (t : List ℕ) (r : ReadReply) (t' : List ℕ) : Type 0 where
+    (live : Bool) (s : List ℕ) (start size parent : ℕ) (t : List ℕ) (r : Result ℕ Refusal) (t' : List ℕ) : Type 0 where
   pub reply : read_told r ≡ reply_of (read_of live s start size parent (length t))
   pub table : t' ≡ table_of start (length t) (read_of live s start size parent (length t))

@@ -6,7 +6,6 @@ use Rattle.header.specs.Header.{refused as refused_header}
 use Rattle.refusals.specs.Refusals.{because, overrun, too_deep, no_free_row}
 use Rattle.header.specs.Reads.{header_read}
 use Rattle.header.specs.declared.cursor.Header.{Header}
-use Rattle.header.specs.declared.cursor.HeaderRead.{HeaderRead}
 use Rattle.refusals.specs.declared.refusal.Cause.TheVariants.{UnknownSize}
 use Rattle.refusals.specs.declared.refusal.Refusal.{Refusal}
 use Rattle.sizes.specs.Unknown.{unknown}
@@ -16,6 +15,8 @@ use Rattle.bodies_rules.specs.Bodies.{refused as refused_body}
 use Rattle.bodies_rules.specs.declared.body.Body.TheVariants.{Value, Master}
 use Rattle.elements_rules.specs.Forest.{Element, Forest, none, node, span, count, join}
 use Rattle.elements_rules.specs.declared.row.Mode.{Mode}
+use Rattle.std.specs.Prelude.{Result}
+use Rattle.header.specs.declared.cursor.Headed.{Headed}
 
 -- What was read, or why reading stopped.
 pub data Outcome : Type 0 where
@@ -52,7 +53,7 @@ abbrev pub element_header : (live : Bool) → List ℕ → ℕ → Heading
 element_header live s at = taken live (header_of (drop at s))
 
 -- The same as the code tells it.
-abbrev pub element_header_read : (live : Bool) → List ℕ → ℕ → HeaderRead
+abbrev pub element_header_read : (live : Bool) → List ℕ → ℕ → Result Headed Refusal
 element_header_read live s at = header_read at (element_header live s at)
 
 -- What follows a header that was read at an address; one that is refused is refused there.

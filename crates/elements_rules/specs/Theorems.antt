@@ -5,7 +5,6 @@ use Rattle.refusals.specs.Theorems.{Listed}
 use Rattle.refusals.specs.declared.refusal.Refusal.{Refusal}
 use Rattle.header.specs.Reads.{headed_at, header_at}
 use Rattle.header.specs.Theorems.{Octets}
-use Rattle.header.specs.declared.cursor.HeaderRead.TheVariants.{Read}
 use Rattle.kinds.specs.Kinds.{number_of, kind_numbered, kind_under}
 use Rattle.bodies_rules.specs.Bodies.{body_of}
 use Rattle.elements_rules.specs.Forest.{Forest, none, span, count}
@@ -16,14 +15,13 @@ use Rattle.elements_rules.specs.Holds.{is_leaf, holders}
 use Rattle.elements_rules.specs.Promise.{ReadPromise}
 use Rattle.elements_rules.specs.declared.row.Row.{Row}
 use Rattle.elements_rules.specs.declared.row.Mode.{Mode}
-use Rattle.elements_rules.specs.declared.reply.ReadReply.{ReadReply}
-use Rattle.elements_rules.specs.declared.reply.ReadReply.TheVariants.{Rows, Refused}
+use Rattle.std.specs.Prelude.{Result, Ok, Err}
 
 -- Any two replies and tables that the promise permits to one question are equal (document 01, Strength of the
 -- promises). The numbers that stood in the lent table do not matter, only how many there are.
 abbrev pub OneReply : Type 0
 OneReply =
-    (live : Bool) (s : List ℕ) (start size parent : ℕ) (t u : List ℕ) (r r' : ReadReply) (t' u' : List ℕ)
+    (live : Bool) (s : List ℕ) (start size parent : ℕ) (t u : List ℕ) (r r' : Result ℕ Refusal) (t' u' : List ℕ)
     → length t ≡ length u
     → ReadPromise live s start size parent t r t' → ReadPromise live s start size parent u r' u' → (r ≡ r') × (t' ≡ u')
 
@@ -31,7 +29,7 @@ OneReply =
 abbrev pub RefusesListed : Type 0
 RefusesListed =
     (live : Bool) (s : List ℕ) (start size parent : ℕ) (t : List ℕ) (e : Refusal) (t' : List ℕ)
-    → ReadPromise live s start size parent t (Refused e) t' → Listed e
+    → ReadPromise live s start size parent t (Err e) t' → Listed e
 
 -- ---- the table loses nothing
 
@@ -40,7 +38,7 @@ RefusesListed =
 abbrev pub Partition : Type 0
 Partition =
     (live : Bool) (s : List ℕ) (start size parent : ℕ) (t : List ℕ) (n : ℕ) (t' : List ℕ)
-    → ReadPromise live s start size parent t (Rows n) t'
+    → ReadPromise live s start size parent t (Ok n) t'
     → (x : ℕ)
     → (start ≤ x → x < start + size → holders (rows_of t' n) x ≡ 1)
     × (x < start ⊎ start + size ≤ x → holders (rows_of t' n) x ≡ 0)
@@ -60,7 +58,7 @@ abbrev pub Lossless : Type 0
 Lossless =
     (live : Bool) (s s' : List ℕ) → Octets s → Octets s'
     → (start size parent : ℕ) (t u : List ℕ) (n m : ℕ) (t' : List ℕ)
-    → ReadPromise live s start size parent t (Rows n) t' → ReadPromise live s' start size parent u (Rows m) t'
+    → ReadPromise live s start size parent t (Ok n) t' → ReadPromise live s' start size parent u (Ok m) t'
     → Each (SameLeaf s s') (rows_of t' n)
     → take size (drop start s) ≡ take size (drop start s')
 
@@ -77,7 +75,7 @@ pub record Tree (live : Bool) (s : List ℕ) (start size parent n : ℕ) (t' : L
 abbrev pub ReadsATree : Type 0
 ReadsATree =
     (live : Bool) (s : List ℕ) (start size parent : ℕ) (t : List ℕ) (n : ℕ) (t' : List ℕ)
-    → ReadPromise live s start size parent t (Rows n) t' → Tree live s start size parent n t'
+    → ReadPromise live s start size parent t (Ok n) t' → Tree live s start size parent n t'
 
 -- A row beside its parent: a direct row has depth 0 and the kind that the caller's parent id gives; any other has a
 -- parent among the rows before it, one depth less, and the kind that the parent's id gives.
@@ -95,33 +93,33 @@ Family parent before (r ∷ rs) = Under parent before r × Family parent (before
 abbrev pub ParentsBefore : Type 0
 ParentsBefore =
     (live : Bool) (s : List ℕ) (start size parent : ℕ) (t : List ℕ) (n : ℕ) (t' : List ℕ)
-    → ReadPromise live s start size parent t (Rows n) t' → Family parent [] (rows_of t' n)
+    → ReadPromise live s start size parent t (Ok n) t' → Family parent [] (rows_of t' n)
 
 -- A row of an accepted read: its header stands at its address, header and payload lie in the recording, and a leaf's
 -- body is a value, so that it has the size that its kind asks.
 pub record Sound (s : List ℕ) (r : Row) : Type 0 where
   pub head :
       header_at s r.address
-      ≡ Read (headed_at r.address (record { id = r.id; size = r.payload; length = r.header }))
+      ≡ Ok (headed_at r.address (record { id = r.id; size = r.payload; length = r.header }))
   pub inside : r.address + r.header + r.payload ≤ length s
   pub value : is_leaf r ≡ true → IsValue (body_of s (r.address + r.header) r.payload (kind_numbered r.kind))
 
 abbrev pub RowsSound : Type 0
 RowsSound =
     (live : Bool) (s : List ℕ) (start size parent : ℕ) (t : List ℕ) (n : ℕ) (t' : List ℕ)
-    → ReadPromise live s start size parent t (Rows n) t' → Each (Sound s) (rows_of t' n)
+    → ReadPromise live s start size parent t (Ok n) t' → Each (Sound s) (rows_of t' n)
 
 -- The direct rows have depth 0, so no row is deeper than 15.
 abbrev pub DepthsAllowed : Type 0
 DepthsAllowed =
     (live : Bool) (s : List ℕ) (start size parent : ℕ) (t : List ℕ) (n : ℕ) (t' : List ℕ)
-    → ReadPromise live s start size parent t (Rows n) t' → Each (λ r. r.depth < depths) (rows_of t' n)
+    → ReadPromise live s start size parent t (Ok n) t' → Each (λ r. r.depth < depths) (rows_of t' n)
 
 -- There are no more rows than the table has, and it stays as long as it was.
 abbrev pub RowsFit : Type 0
 RowsFit =
     (live : Bool) (s : List ℕ) (start size parent : ℕ) (t : List ℕ) (n : ℕ) (t' : List ℕ)
-    → ReadPromise live s start size parent t (Rows n) t' → (n ≤ length t / width) × (length t' ≡ length t)
+    → ReadPromise live s start size parent t (Ok n) t' → (n ≤ length t / width) × (length t' ≡ length t)
 
 -- ---- the bound of the definition
 

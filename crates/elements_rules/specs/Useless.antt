@@ -4,8 +4,7 @@ use Rattle.std.specs.Prelude.{ℕ, ◌*◌, ◌≤◌, ◌≡◌, List, [], ◌�
 use Rattle.refusals.specs.declared.refusal.Refusal.{Refusal}
 use Rattle.elements_rules.specs.Rows.{width}
 use Rattle.elements_rules.specs.Promise.{zeros, ReadPromise}
-use Rattle.elements_rules.specs.declared.reply.ReadReply.{ReadReply}
-use Rattle.elements_rules.specs.declared.reply.ReadReply.TheVariants.{Rows, Refused}
+use Rattle.std.specs.Prelude.{Result, Ok, Err}
 
 -- P1's bytes, an empty TrackEntry, and an empty BlockGroup beside it.
 abbrev pub track_entry : List ℕ
@@ -18,15 +17,15 @@ block_group = 0xA0 ∷ 0x80 ∷ []
 -- the table is zeros.
 abbrev pub NotAllRefused : Type 0
 NotAllRefused =
-    (live : Bool) (t : List ℕ) (r : ReadReply) (t' : List ℕ) → length t ≡ 2 * width
+    (live : Bool) (t : List ℕ) (r : Result ℕ Refusal) (t' : List ℕ) → length t ≡ 2 * width
     → ReadPromise live track_entry 0 2 0 t r t'
-    → (r ≡ Rows 1) × (t' ≡ 0xAE ∷ 0 ∷ 0 ∷ 2 ∷ 0 ∷ 1 ∷ 0 ∷ 1 ∷ zeros width)
+    → (r ≡ Ok 1) × (t' ≡ 0xAE ∷ 0 ∷ 0 ∷ 2 ∷ 0 ∷ 1 ∷ 0 ∷ 1 ∷ zeros width)
 
 -- Not one that gives the same table for all bytes: these two payloads have no leaf, so that no leaf bytes could tell
 -- them apart. Where two rows are lent, no table at exit is permitted for both.
 abbrev pub NotOneTable : Type 0
 NotOneTable =
-    (live : Bool) (t u : List ℕ) (r r' : ReadReply) (t' : List ℕ) → length t ≡ 2 * width → length u ≡ 2 * width
+    (live : Bool) (t u : List ℕ) (r r' : Result ℕ Refusal) (t' : List ℕ) → length t ≡ 2 * width → length u ≡ 2 * width
     → ReadPromise live track_entry 0 2 0 t r t' → ReadPromise live block_group 0 2 0 u r' t' → ⊥
 
 -- Not one that touches nothing: whatever the table held, numbers beyond the last row are 0, and after a refusal all
@@ -34,5 +33,5 @@ NotOneTable =
 abbrev pub NotUntouched : Type 0
 NotUntouched =
     (live : Bool) (s : List ℕ) (start size parent : ℕ) (t t' : List ℕ)
-    → ((n : ℕ) → ReadPromise live s start size parent t (Rows n) t' → (k : ℕ) → n * width ≤ k → get_or t' k 0 ≡ 0)
-    × ((e : Refusal) → ReadPromise live s start size parent t (Refused e) t' → t' ≡ zeros (length t))
+    → ((n : ℕ) → ReadPromise live s start size parent t (Ok n) t' → (k : ℕ) → n * width ≤ k → get_or t' k 0 ≡ 0)
+    × ((e : Refusal) → ReadPromise live s start size parent t (Err e) t' → t' ≡ zeros (length t))

@@ -9,10 +9,3 @@ pub struct Above {
     pub row: usize,
     pub depth: u64,
 }
-
-// How many rows there are now, and the place after what was read; or a refusal.
-#[derive(Clone, Copy)]
-pub enum ElementRead {
-    Read { rows: usize, next: Cursor },
-    Refused(Refusal),
-}

@@ -7,6 +7,5 @@ mod element;
 mod reply;
 mod row;
 
-pub use element::{Above, ElementRead};
-pub use reply::ReadReply;
+pub use element::Above;
 pub use row::{Mode, Row};

@@ -11,7 +11,7 @@ ghost use Rattle.fields_rules.specs.Contract.{Readable, Holds};
 use bodies_rules::Range;
 use children::last_child;
 use elements_rules::Row;
-use fields_rules::{Below, Child, Content, Date, Flag, Language, Number, Real, TagValue};
+use fields_rules::{Below, Language, TagValue};
 use header::big_endian;
 use kinds::Kind;
 use number_bodies::{float_of_4, float_of_8, signed};
@@ -37,43 +37,49 @@ pub fn uint_in(recording: &[u8], row: Row) -> u64
 }
 
 // An unsigned number.
-pub fn number_field(recording: &[u8], table: &[u64], master: Below, id: u32) -> Number
+pub fn number_field(recording: &[u8], table: &[u64], master: Below, id: u32) -> Option<u64>
     requires { Readable recording.now table.now master }
     ensures { number_told result
         ≡ number_of recording.now master.parent (rows_in table.now master) id }
 {
     match last_child(table, master, id, Kind::Uint) {
-        Child::Absent => Number::Unset,
-        Child::At { number: _, row } => Number::Is(uint_in(recording, row)),
+        None => None,
+        Some((_, row)) => Some(uint_in(recording, row)),
     }
 }
 
 // A truth value: any number but 0 is yes.
-pub fn flag_field(recording: &[u8], table: &[u64], master: Below, id: u32) -> Flag
+pub fn flag_field(recording: &[u8], table: &[u64], master: Below, id: u32) -> Option<bool>
     requires { Readable recording.now table.now master }
     ensures { flag_told result
         ≡ flag_of recording.now master.parent (rows_in table.now master) id }
 {
     match last_child(table, master, id, Kind::Uint) {
-        Child::Absent => Flag::Unset,
-        Child::At { number: _, row } => {
+        None => None,
+        Some((_, row)) => {
             if uint_in(recording, row) == 0 {
-                return Flag::No;
+                return Some(false);
             }
-            Flag::Yes
+            Some(true)
         }
     }
 }
 
 // A text or bytes, by the kind.
-pub fn content_field(recording: &[u8], table: &[u64], master: Below, id: u32, kind: Kind) -> Content
+pub fn content_field(
+    recording: &[u8],
+    table: &[u64],
+    master: Below,
+    id: u32,
+    kind: Kind,
+) -> Option<Range>
     requires { Readable recording.now table.now master }
     ensures { content_told result
         ≡ content_of recording.now master.parent (rows_in table.now master) id kind }
 {
     match last_child(table, master, id, kind) {
-        Child::Absent => Content::Unset,
-        Child::At { number: _, row } => Content::At(range_of(row)),
+        None => None,
+        Some((_, row)) => Some(range_of(row)),
     }
 }
 
@@ -84,16 +90,16 @@ pub fn language_field(
     master: Below,
     iso: u32,
     ietf: u32,
-) -> Language
+) -> Option<Language>
     requires { Readable recording.now table.now master }
     ensures { language_told result
         ≡ language_of recording.now master.parent (rows_in table.now master) iso ietf }
 {
     match last_child(table, master, ietf, Kind::String) {
-        Child::At { number: _, row } => Language::Ietf(range_of(row)),
-        Child::Absent => match last_child(table, master, iso, Kind::String) {
-            Child::At { number: _, row } => Language::Iso(range_of(row)),
-            Child::Absent => Language::Unset,
+        Some((_, row)) => Some(Language::Ietf(range_of(row))),
+        None => match last_child(table, master, iso, Kind::String) {
+            Some((_, row)) => Some(Language::Iso(range_of(row))),
+            None => None,
         },
     }
 }
@@ -105,29 +111,23 @@ pub fn value_field(
     master: Below,
     text: u32,
     binary: u32,
-) -> TagValue
+) -> Option<TagValue>
     requires { Readable recording.now table.now master }
     ensures { value_told result
         ≡ value_of recording.now master.parent (rows_in table.now master) text binary }
 {
     match last_child(table, master, text, Kind::Utf8) {
-        Child::Absent => match last_child(table, master, binary, Kind::Binary) {
-            Child::Absent => TagValue::Unset,
-            Child::At { number: _, row } => TagValue::Binary(range_of(row)),
+        None => match last_child(table, master, binary, Kind::Binary) {
+            None => None,
+            Some((_, row)) => Some(TagValue::Binary(range_of(row))),
         },
-        Child::At {
-            number: first,
-            row: string,
-        } => match last_child(table, master, binary, Kind::Binary) {
-            Child::Absent => TagValue::Text(range_of(string)),
-            Child::At {
-                number: second,
-                row,
-            } => {
+        Some((first, string)) => match last_child(table, master, binary, Kind::Binary) {
+            None => Some(TagValue::Text(range_of(string))),
+            Some((second, row)) => {
                 if first < second {
-                    return TagValue::Binary(range_of(row));
+                    return Some(TagValue::Binary(range_of(row)));
                 }
-                TagValue::Text(range_of(string))
+                Some(TagValue::Text(range_of(string)))
             }
         },
     }
@@ -147,14 +147,14 @@ fn float_in(recording: &[u8], row: Row) -> f64
 }
 
 // A float, by value.
-pub fn real_field(recording: &[u8], table: &[u64], master: Below, id: u32) -> Real
+pub fn real_field(recording: &[u8], table: &[u64], master: Below, id: u32) -> Option<f64>
     requires { Readable recording.now table.now master }
     ensures { real_told result
         ≡ real_of recording.now master.parent (rows_in table.now master) id }
 {
     match last_child(table, master, id, Kind::Float) {
-        Child::Absent => Real::Unset,
-        Child::At { number: _, row } => Real::Is(float_in(recording, row)),
+        None => None,
+        Some((_, row)) => Some(float_in(recording, row)),
     }
 }
 
@@ -169,13 +169,13 @@ fn signed_in(recording: &[u8], row: Row) -> i64
 }
 
 // A date: how many nanoseconds, before or after.
-pub fn date_field(recording: &[u8], table: &[u64], master: Below, id: u32) -> Date
+pub fn date_field(recording: &[u8], table: &[u64], master: Below, id: u32) -> Option<i64>
     requires { Readable recording.now table.now master }
     ensures { date_told result
         ≡ date_of recording.now master.parent (rows_in table.now master) id }
 {
     match last_child(table, master, id, Kind::Date) {
-        Child::Absent => Date::Unset,
-        Child::At { number: _, row } => Date::Is(signed_in(recording, row)),
+        None => None,
+        Some((_, row)) => Some(signed_in(recording, row)),
     }
 }

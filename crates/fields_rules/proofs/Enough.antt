@@ -19,9 +19,8 @@ use Rattle.elements_rules.proofs.Jumps.{jumps_over}
 use Rattle.elements_rules.proofs.Sound.{each_append, reads_a_tree}
 use Rattle.fields_rules.specs.Children.{deeper, subtree, fits, children_from, children}
 use Rattle.fields_rules.specs.Theorems.{SubtreeIsEnough, AllJumpAfterRead}
-use Rattle.fields_rules.specs.declared.child.Child.{Child}
-use Rattle.fields_rules.specs.declared.child.Child.TheVariants.{At}
 use Rattle.fields_rules.proofs.Rest.{either, other_parent}
+use Rattle.std.proofs.Common.{Option, Some}
 
 -- ---- what holds of the rows of elements
 
@@ -213,7 +212,7 @@ parted p d at n (node e kids rest) k low l h =
 -- ---- the children among such rows
 
 module _ (parent id : ℕ) (kind : Kind) where
-  abbrev from : ℕ → List Row → List Child
+  abbrev from : ℕ → List Row → List (Option (ℕ × Row))
   from n rs = children_from n parent id kind rs
 
   skip_one : (n : ℕ) (r : Row) (rs : List Row) → Other parent r → from n (r ∷ rs) ≡ from (n + 1) rs
@@ -236,7 +235,7 @@ module _ (parent id : ℕ) (kind : Kind) where
   unfolding children_from
   drop_after n [] ss a = from_none n ss a
   drop_after n (r ∷ rs) ss a =
-      ap (λ (cs : List Child). cond (fits parent id kind r) (At n r ∷ cs) cs) (drop_after (n + 1) rs ss a)
+      ap (λ (cs : List (Option (ℕ × Row))). cond (fits parent id kind r) (Some (n, r) ∷ cs) cs) (drop_after (n + 1) rs ss a)
 
 drop_seam : (rs : List Row) (r : Row) (ss : List Row) → drop (suc (length rs)) (rs ++ (r ∷ ss)) ≡ ss
 drop_seam [] r ss = refl

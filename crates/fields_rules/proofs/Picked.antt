@@ -1,4 +1,5 @@
 -- A child that was picked is one of the rows, fits what was sought, and can be read. Assumes nothing.
+use Rattle.booleans.proofs.Pairs.{some_halves}
 use Prim.Native.Nat.{ℕ, zero, suc, ◌+◌, ◌-◌, ◌^◌, ◌≤◌, ◌<◌}
 use mathlib.Core.Path.{◌≡◌, refl, sym, ap, ◌∙◌, subst}
 use mathlib.Core.List.{List, [], ◌∷◌}
@@ -16,29 +17,28 @@ use Rattle.elements_rules.proofs.Numbered.{each_at}
 use Rattle.fields_rules.specs.Children.{fits, children_from, children, last_from, last_of, nth_of, rows_in}
 use Rattle.fields_rules.specs.Contract.{Readable, Holds}
 use Rattle.fields_rules.specs.declared.child.Below.{Below}
-use Rattle.fields_rules.specs.declared.child.Child.{Child}
-use Rattle.fields_rules.specs.declared.child.Child.TheVariants.{Absent, At}
+use Rattle.std.proofs.Common.{Option, Some, None}
 
 -- ---- what holds of each child holds of the last and of the k-th
 
 -- A child that is there has a property.
-abbrev pub If : (ℕ → Row → Type 0) → Child → Type 0
-If P c = (n : ℕ) (r : Row) → c ≡ At n r → P n r
+abbrev pub If : (ℕ → Row → Type 0) → Option (ℕ × Row) → Type 0
+If P c = (n : ℕ) (r : Row) → c ≡ Some (n, r) → P n r
 
-abbrev All : (ℕ → Row → Type 0) → List Child → Type 0
+abbrev All : (ℕ → Row → Type 0) → List (Option (ℕ × Row)) → Type 0
 All P [] = Unit
 All P (c ∷ cs) = If P c × All P cs
 
 module _ (P : ℕ → Row → Type 0) where
-  none_if : If P Absent
+  none_if : If P None
   none_if n r e = let z : ◌≡◌ {A = ℕ} 0 1 = cc in absurd (omega arith)
 
-  last_if : (cs : List Child) (c : Child) → If P c → All P cs → If P (last_from c cs)
+  last_if : (cs : List (Option (ℕ × Row))) (c : Option (ℕ × Row)) → If P c → All P cs → If P (last_from c cs)
   unfolding last_from
   last_if [] c a b = a
   last_if (d ∷ ds) c a b = last_if ds d b.0 b.1
 
-  nth_if : (k : ℕ) (cs : List Child) → All P cs → If P (nth_of k cs)
+  nth_if : (k : ℕ) (cs : List (Option (ℕ × Row))) → All P cs → If P (nth_of k cs)
   unfolding nth_of
   nth_if k [] b = none_if
   nth_if zero (c ∷ cs) b = b.0
@@ -54,11 +54,10 @@ pub record IsChild (rs : List Row) (from parent id : ℕ) (kind : Kind) (n : ℕ
 
 module _ (parent id : ℕ) (kind : Kind) where
   here : (rs : List Row) (from : ℕ) (x : Row) → fits parent id kind x ≡ true
-      → If (IsChild (x ∷ rs) from parent id kind) (At from x)
+      → If (IsChild (x ∷ rs) from parent id kind) (Some (from, x))
   unfolding nth
   here rs from x f n r e =
-      let a : from ≡ n = cc in
-      let b : x ≡ r = cc in
+      let (a, b) = some_halves e in
       let z : n - from ≡ 0 = omega arith in
       record {
         since = omega arith;
@@ -79,7 +78,7 @@ module _ (parent id : ℕ) (kind : Kind) where
         fit = i.fit;
       }
 
-  all_later : (rs : List Row) (from : ℕ) (x : Row) (cs : List Child) → All (IsChild rs (from + 1) parent id kind) cs
+  all_later : (rs : List Row) (from : ℕ) (x : Row) (cs : List (Option (ℕ × Row))) → All (IsChild rs (from + 1) parent id kind) cs
       → All (IsChild (x ∷ rs) from parent id kind) cs
   all_later rs from x [] a = tt
   all_later rs from x (c ∷ cs) a = (λ n r e. later rs from x n r (a.0 n r e), all_later rs from x cs a.1)
@@ -95,18 +94,18 @@ module _ (parent id : ℕ) (kind : Kind) where
       go : (b : Bool) → fits parent id kind x ≡ b
           → All (IsChild (x ∷ rs) from parent id kind) (children_from (from + 1) parent id kind rs)
           → All (IsChild (x ∷ rs) from parent id kind)
-          (cond b (At from x ∷ children_from (from + 1) parent id kind rs)
+          (cond b (Some (from, x) ∷ children_from (from + 1) parent id kind rs)
           (children_from (from + 1) parent id kind rs))
       go true f a = (here rs from x f, a)
       go false f a = a
 
-  pub last_is : (rs : List Row) (n : ℕ) (r : Row) → At n r ≡ last_of (children parent id kind rs)
+  pub last_is : (rs : List Row) (n : ℕ) (r : Row) → Some (n, r) ≡ last_of (children parent id kind rs)
       → IsChild rs parent parent id kind n r
   last_is rs n r e =
-      last_if (IsChild rs parent parent id kind) (children parent id kind rs) Absent
+      last_if (IsChild rs parent parent id kind) (children parent id kind rs) None
       (none_if (IsChild rs parent parent id kind)) (all_children rs parent) n r (sym e)
 
-  pub nth_is : (rs : List Row) (k n : ℕ) (r : Row) → At n r ≡ nth_of k (children parent id kind rs)
+  pub nth_is : (rs : List Row) (k n : ℕ) (r : Row) → Some (n, r) ≡ nth_of k (children parent id kind rs)
       → IsChild rs parent parent id kind n r
   nth_is rs k n r e =
       nth_if (IsChild rs parent parent id kind) k (children parent id kind rs) (all_children rs parent) n r (sym e)
@@ -134,18 +133,18 @@ module _ {s t : List ℕ} {b : Below} (h : Readable s t b) {id : ℕ} {kind : Ki
       }
 
 -- The last child that was found, and the k-th, can be read.
-module _ {s t : List ℕ} {b : Below} (h : Readable s t b) (id : ℕ) (kind : Kind) {c : Child} {n : ℕ} {r : Row} where
-  pub last_holds : c ≡ last_of (children b.parent id kind (rows_in t b)) → c ≡ At n r → Holds s kind r
+module _ {s t : List ℕ} {b : Below} (h : Readable s t b) (id : ℕ) (kind : Kind) {c : (Option (ℕ × Row))} {n : ℕ} {r : Row} where
+  pub last_holds : c ≡ last_of (children b.parent id kind (rows_in t b)) → c ≡ Some (n, r) → Holds s kind r
   last_holds e a = child_holds h (last_is b.parent id kind (rows_in t b) n r (sym a ∙ e))
 
-  pub nth_holds : (k : ℕ) → c ≡ nth_of k (children b.parent id kind (rows_in t b)) → c ≡ At n r → Holds s kind r
+  pub nth_holds : (k : ℕ) → c ≡ nth_of k (children b.parent id kind (rows_in t b)) → c ≡ Some (n, r) → Holds s kind r
   nth_holds k e a = child_holds h (nth_is b.parent id kind (rows_in t b) k n r (sym a ∙ e))
 
   -- The payload's place can be told, since it lies in the recording.
-  pub last_fits : c ≡ last_of (children b.parent id kind (rows_in t b)) → c ≡ At n r
+  pub last_fits : c ≡ last_of (children b.parent id kind (rows_in t b)) → c ≡ Some (n, r)
       → r.address + r.header < 2 ^ 64
   last_fits e a = let k = last_holds e a in omega (arith, k.short, k.sound.inside)
 
-  pub nth_fits : (k : ℕ) → c ≡ nth_of k (children b.parent id kind (rows_in t b)) → c ≡ At n r
+  pub nth_fits : (k : ℕ) → c ≡ nth_of k (children b.parent id kind (rows_in t b)) → c ≡ Some (n, r)
       → r.address + r.header < 2 ^ 64
   nth_fits k e a = let h = nth_holds k e a in omega (arith, h.short, h.sound.inside)

@@ -15,8 +15,7 @@ use Rattle.elements_rules.specs.declared.row.Row.{Row}
 use Rattle.fields_rules.specs.Children.{fits, children_from, children, nth_of, rows_in}
 use Rattle.fields_rules.specs.Contract.{Steps, Within}
 use Rattle.fields_rules.specs.declared.child.Below.{Below}
-use Rattle.fields_rules.specs.declared.child.Child.{Child}
-use Rattle.fields_rules.specs.declared.child.Child.TheVariants.{At}
+use Rattle.std.proofs.Common.{Option, Some}
 
 pub either : {A : Type 0} (a b : ℕ) → (a < b → A) → (b ≤ a → A) → A
 either {A = A} a b f g = go (ltb a b) refl
@@ -58,7 +57,7 @@ no_rows t e n l = let z : e - n ≡ 0 = omega arith in rw z
 -- ---- the children among them
 
 module _ (t : List ℕ) (parent id : ℕ) (kind : Kind) (e : ℕ) where
-  abbrev pub rest : ℕ → List Child
+  abbrev pub rest : ℕ → List (Option (ℕ × Row))
   rest n = children_from n parent id kind (rows_of (drop (n * width) t) (e - n))
 
   module _ (n : ℕ) where
@@ -67,7 +66,7 @@ module _ (t : List ℕ) (parent id : ℕ) (kind : Kind) (e : ℕ) where
     rest_end l = rw (no_rows t e n l)
 
     module _ (l : n < e) (r : Row) (q : r ≡ row_at t n) where
-      pub rest_hit : true ≡ fits parent id kind r → rest n ≡ At n r ∷ rest (n + 1)
+      pub rest_hit : true ≡ fits parent id kind r → rest n ≡ Some (n, r) ∷ rest (n + 1)
       unfolding children_from
       rest_hit f = rw (more_rows t e n l, ← q, ← f)
 
@@ -95,21 +94,21 @@ module _ (t : List ℕ) (parent id : ℕ) (kind : Kind) (e : ℕ) where
 -- ---- a loop over the rows of a master
 
 -- It has come to row n, and P holds of the children that are left.
-pub record Left (t : List ℕ) (b : Below) (id : ℕ) (kind : Kind) (P : List Child → Type 0) (n : ℕ) : Type 0 where
+pub record Left (t : List ℕ) (b : Below) (id : ℕ) (kind : Kind) (P : List (Option (ℕ × Row)) → Type 0) (n : ℕ) : Type 0 where
   pub low : b.parent ≤ n
   pub high : n ≤ b.end
   pub left : P (rest t b.parent id kind b.end n)
 
-pub at_first : (t : List ℕ) (b : Below) (id : ℕ) (kind : Kind) (P : List Child → Type 0) → Within t b
+pub at_first : (t : List ℕ) (b : Below) (id : ℕ) (kind : Kind) (P : List (Option (ℕ × Row)) → Type 0) → Within t b
     → P (children b.parent id kind (rows_in t b)) → Left t b id kind P b.parent
 at_first t b id kind P w p = record { low = omega arith; high = w.some; left = p }
 
-pub at_end : {t : List ℕ} {b : Below} {id : ℕ} {kind : Kind} {P : List Child → Type 0} {n : ℕ}
+pub at_end : {t : List ℕ} {b : Below} {id : ℕ} {kind : Kind} {P : List (Option (ℕ × Row)) → Type 0} {n : ℕ}
     → Left t b id kind P n → b.end ≤ n → P []
 at_end {t} {b} {id} {kind} {P} {n} l e = subst P (rest_end t b.parent id kind b.end n e) l.left
 
 -- One turn: a row that is a child is the first of those that were left; the rows below the row are passed over.
-module _ {t : List ℕ} {b : Below} (w : Within t b) {id : ℕ} {kind : Kind} {P : List Child → Type 0} {n : ℕ}
+module _ {t : List ℕ} {b : Below} (w : Within t b) {id : ℕ} {kind : Kind} {P : List (Option (ℕ × Row)) → Type 0} {n : ℕ}
     (l : Left t b id kind P n) (m : n < b.end) {r : Row} (q : r ≡ row_at t n) where
   abbrev steps : Steps t b.end n
   steps = w.steps n l.low m
@@ -133,7 +132,7 @@ module _ {t : List ℕ} {b : Below} (w : Within t b) {id : ℕ} {kind : Kind} {P
   over = onward t b.parent id kind b.end n r q l.low steps
 
   module _ {ok : Bool} (o : ok ≡ fits b.parent id kind r) where
-    pub turn_hit : ok ≡ true → {Q : List Child → Type 0} → ((cs : List Child) → P (At n r ∷ cs) → Q cs)
+    pub turn_hit : ok ≡ true → {Q : List (Option (ℕ × Row)) → Type 0} → ((cs : List (Option (ℕ × Row))) → P (Some (n, r) ∷ cs) → Q cs)
         → Left t b id kind Q r.after
     turn_hit f more =
         record {
@@ -142,7 +141,7 @@ module _ {t : List ℕ} {b : Below} (w : Within t b) {id : ℕ} {kind : Kind} {P
           left =
               more _
               (subst P
-              (rest_hit t b.parent id kind b.end n m r q (sym f ∙ o) ∙ ap (λ (cs : List Child). At n r ∷ cs) over)
+              (rest_hit t b.parent id kind b.end n m r q (sym f ∙ o) ∙ ap (λ (cs : List (Option (ℕ × Row))). Some (n, r) ∷ cs) over)
               l.left);
         }
 
@@ -155,12 +154,12 @@ module _ {t : List ℕ} {b : Below} (w : Within t b) {id : ℕ} {kind : Kind} {P
         }
 
     -- Where the loop ends at a child.
-    pub turn_here : ok ≡ true → P (At n r ∷ rest t b.parent id kind b.end (n + 1))
+    pub turn_here : ok ≡ true → P (Some (n, r) ∷ rest t b.parent id kind b.end (n + 1))
     turn_here f = subst P (rest_hit t b.parent id kind b.end n m r q (sym f ∙ o)) l.left
 
 -- ---- the k-th child: of those that are left, k is the first, or the one before it is passed
 
-module _ (c d : Child) (cs : List Child) (k : ℕ) (e : c ≡ nth_of k (d ∷ cs)) where
+module _ (c d : Option (ℕ × Row)) (cs : List (Option (ℕ × Row))) (k : ℕ) (e : c ≡ nth_of k (d ∷ cs)) where
   pub nth_here : k ≡ 0 → d ≡ c
   unfolding nth_of
   nth_here z = sym (e ∙ ap (λ (x : ℕ). nth_of x (d ∷ cs)) z)

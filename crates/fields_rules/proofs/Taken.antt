@@ -17,8 +17,7 @@ use Rattle.fields_rules.specs.Values.{unset, number, flag, content, iso, ietf, t
 use Rattle.fields_rules.specs.Values.{range_in, uint_in, float_in, signed_in, number_in, flag_in, content_in, real_in}
 use Rattle.fields_rules.specs.Values.{date_in, language_in, value_in}
 use Rattle.fields_rules.specs.Fields.{number_of, flag_of, content_of, real_of, date_of, language_of, value_of}
-use Rattle.fields_rules.specs.declared.child.Child.{Child}
-use Rattle.fields_rules.specs.declared.child.Child.TheVariants.{Absent, At}
+use Rattle.std.proofs.Common.{Option, Some, None}
 
 -- ---- the pattern of a float or a date
 
@@ -41,16 +40,16 @@ module _ (s : List ℕ) (r : Row) (v : ℕ) (q : v ≡ uint_in s r) where
 
 module _ (s : List ℕ) (parent : ℕ) (below : List Row) where
   module _ (id : ℕ) where
-    module _ {c : Child} (e : c ≡ last_of (children parent id Uint below)) where
-      pub number_unset : c ≡ Absent → unset ≡ number_of s parent below id
+    module _ {c : (Option (ℕ × Row))} (e : c ≡ last_of (children parent id Uint below)) where
+      pub number_unset : c ≡ None → unset ≡ number_of s parent below id
       unfolding number_of
       number_unset a = ap (number_in s) (sym a ∙ e)
 
-      pub flag_unset : c ≡ Absent → unset ≡ flag_of s parent below id
+      pub flag_unset : c ≡ None → unset ≡ flag_of s parent below id
       unfolding flag_of
       flag_unset a = ap (flag_in s) (sym a ∙ e)
 
-      module _ {n v : ℕ} {r : Row} (a : c ≡ At n r) (q : v ≡ uint_in s r) where
+      module _ {n v : ℕ} {r : Row} (a : c ≡ Some (n, r)) (q : v ≡ uint_in s r) where
         pub number_is : number v ≡ number_of s parent below id
         unfolding number_of
         number_is = ap number q ∙ ap (number_in s) (sym a ∙ e)
@@ -65,82 +64,82 @@ module _ (s : List ℕ) (parent : ℕ) (below : List Row) where
         pub flag_yes : (v ≡ 0 → ⊥) → flag true ≡ flag_of s parent below id
         flag_yes z = rw (ne_eqb v 0 z) at flag_is
 
-    module _ {c : Child} (e : c ≡ last_of (children parent id Float below)) where
-      pub real_unset : c ≡ Absent → unset ≡ real_of s parent below id
+    module _ {c : (Option (ℕ × Row))} (e : c ≡ last_of (children parent id Float below)) where
+      pub real_unset : c ≡ None → unset ≡ real_of s parent below id
       unfolding real_of
       real_unset a = ap (real_in s) (sym a ∙ e)
 
-      pub real_is : {n : ℕ} {r : Row} {x : Floats} → c ≡ At n r → x ≡ float_in s r → real x ≡ real_of s parent below id
+      pub real_is : {n : ℕ} {r : Row} {x : Floats} → c ≡ Some (n, r) → x ≡ float_in s r → real x ≡ real_of s parent below id
       unfolding real_of
       real_is a q = ap real q ∙ ap (real_in s) (sym a ∙ e)
 
-    module _ {c : Child} (e : c ≡ last_of (children parent id Date below)) where
-      pub date_unset : c ≡ Absent → unset ≡ date_of s parent below id
+    module _ {c : (Option (ℕ × Row))} (e : c ≡ last_of (children parent id Date below)) where
+      pub date_unset : c ≡ None → unset ≡ date_of s parent below id
       unfolding date_of
       date_unset a = ap (date_in s) (sym a ∙ e)
 
-      pub date_is : {n : ℕ} {r : Row} {z : ℤ} → c ≡ At n r → z ≡ signed_in s r → date z ≡ date_of s parent below id
+      pub date_is : {n : ℕ} {r : Row} {z : ℤ} → c ≡ Some (n, r) → z ≡ signed_in s r → date z ≡ date_of s parent below id
       unfolding date_of
       date_is a q = ap date q ∙ ap (date_in s) (sym a ∙ e)
 
-    module _ (kind : Kind) {c : Child} (e : c ≡ last_of (children parent id kind below)) where
-      pub content_unset : c ≡ Absent → unset ≡ content_of s parent below id kind
+    module _ (kind : Kind) {c : (Option (ℕ × Row))} (e : c ≡ last_of (children parent id kind below)) where
+      pub content_unset : c ≡ None → unset ≡ content_of s parent below id kind
       unfolding content_of
       content_unset a = ap content_in (sym a ∙ e)
 
-      pub content_at : {n : ℕ} {r : Row} {g : Range} → c ≡ At n r → g ≡ range_in r
+      pub content_at : {n : ℕ} {r : Row} {g : Range} → c ≡ Some (n, r) → g ≡ range_in r
           → content g.at g.length ≡ content_of s parent below id kind
       unfolding content_of
       content_at a q = ap (λ (x : Range). content x.at x.length) q ∙ ap content_in (sym a ∙ e)
 
   -- The one that decides comes first: an IETF language, else an ISO 639 one.
-  module _ (isos ietfs : ℕ) {c : Child} (e : c ≡ last_of (children parent ietfs String below)) where
-    pub language_ietf : {n : ℕ} {r : Row} {g : Range} → c ≡ At n r → g ≡ range_in r
+  module _ (isos ietfs : ℕ) {c : (Option (ℕ × Row))} (e : c ≡ last_of (children parent ietfs String below)) where
+    pub language_ietf : {n : ℕ} {r : Row} {g : Range} → c ≡ Some (n, r) → g ≡ range_in r
         → ietf g.at g.length ≡ language_of s parent below isos ietfs
     unfolding language_of
     language_ietf a q =
         ap (λ (x : Range). ietf x.at x.length) q
-        ∙ ap (λ (x : Child). language_in x (last_of (children parent isos String below))) (sym a ∙ e)
+        ∙ ap (λ (x : Option (ℕ × Row)). language_in x (last_of (children parent isos String below))) (sym a ∙ e)
 
-    module _ (a : c ≡ Absent) {d : Child} (f : d ≡ last_of (children parent isos String below)) where
-      without : language_in Absent d ≡ language_of s parent below isos ietfs
+    module _ (a : c ≡ None) {d : (Option (ℕ × Row))} (f : d ≡ last_of (children parent isos String below)) where
+      without : language_in None d ≡ language_of s parent below isos ietfs
       unfolding language_of
-      without = ap (language_in Absent) f
-          ∙ ap (λ (x : Child). language_in x (last_of (children parent isos String below))) (sym a ∙ e)
+      without = ap (language_in None) f
+          ∙ ap (λ (x : Option (ℕ × Row)). language_in x (last_of (children parent isos String below))) (sym a ∙ e)
 
-      pub language_iso : {n : ℕ} {r : Row} {g : Range} → d ≡ At n r → g ≡ range_in r
+      pub language_iso : {n : ℕ} {r : Row} {g : Range} → d ≡ Some (n, r) → g ≡ range_in r
           → iso g.at g.length ≡ language_of s parent below isos ietfs
       language_iso b q =
-          ap (λ (x : Range). iso x.at x.length) q ∙ ap (language_in Absent) (sym b) ∙ without
+          ap (λ (x : Range). iso x.at x.length) q ∙ ap (language_in None) (sym b) ∙ without
 
-      pub language_unset : d ≡ Absent → unset ≡ language_of s parent below isos ietfs
-      language_unset b = ap (language_in Absent) (sym b) ∙ without
+      pub language_unset : d ≡ None → unset ≡ language_of s parent below isos ietfs
+      language_unset b = ap (language_in None) (sym b) ∙ without
 
   -- The later of a text and bytes.
-  module _ (texts binaries : ℕ) {c d : Child} (e : c ≡ last_of (children parent texts Utf8 below))
+  module _ (texts binaries : ℕ) {c d : (Option (ℕ × Row))} (e : c ≡ last_of (children parent texts Utf8 below))
       (f : d ≡ last_of (children parent binaries Binary below)) where
-    both : (x y : Child) → c ≡ x → d ≡ y → value_in x y ≡ value_of s parent below texts binaries
+    both : (x y : Option (ℕ × Row)) → c ≡ x → d ≡ y → value_in x y ≡ value_of s parent below texts binaries
     unfolding value_of
     both x y a b =
-        ap (λ (z : Child). value_in z y) (sym a ∙ e)
+        ap (λ (z : Option (ℕ × Row)). value_in z y) (sym a ∙ e)
         ∙ ap (value_in (last_of (children parent texts Utf8 below))) (sym b ∙ f)
 
-    pub value_unset : c ≡ Absent → d ≡ Absent → unset ≡ value_of s parent below texts binaries
-    value_unset a b = both Absent Absent a b
+    pub value_unset : c ≡ None → d ≡ None → unset ≡ value_of s parent below texts binaries
+    value_unset a b = both None None a b
 
-    pub value_binary : {m : ℕ} {q : Row} {g : Range} → c ≡ Absent → d ≡ At m q → g ≡ range_in q
+    pub value_binary : {m : ℕ} {q : Row} {g : Range} → c ≡ None → d ≡ Some (m, q) → g ≡ range_in q
         → binary g.at g.length ≡ value_of s parent below texts binaries
-    value_binary {m} {q} a b w = ap (λ (x : Range). binary x.at x.length) w ∙ both Absent (At m q) a b
+    value_binary {m} {q} a b w = ap (λ (x : Range). binary x.at x.length) w ∙ both None (Some (m, q)) a b
 
-    pub value_text : {n : ℕ} {r : Row} {g : Range} → c ≡ At n r → d ≡ Absent → g ≡ range_in r
+    pub value_text : {n : ℕ} {r : Row} {g : Range} → c ≡ Some (n, r) → d ≡ None → g ≡ range_in r
         → text g.at g.length ≡ value_of s parent below texts binaries
-    value_text {n} {r} a b w = ap (λ (x : Range). text x.at x.length) w ∙ both (At n r) Absent a b
+    value_text {n} {r} a b w = ap (λ (x : Range). text x.at x.length) w ∙ both (Some (n, r)) None a b
 
-    module _ {n m : ℕ} {r q : Row} {g : Range} (a : c ≡ At n r) (b : d ≡ At m q) where
+    module _ {n m : ℕ} {r q : Row} {g : Range} (a : c ≡ Some (n, r)) (b : d ≡ Some (m, q)) where
       pub later_binary : n < m → g ≡ range_in q → binary g.at g.length ≡ value_of s parent below texts binaries
       later_binary l w =
-          ap (λ (x : Range). binary x.at x.length) w ∙ sym (rw (lt-ltb n m l)) ∙ both (At n r) (At m q) a b
+          ap (λ (x : Range). binary x.at x.length) w ∙ sym (rw (lt-ltb n m l)) ∙ both (Some (n, r)) (Some (m, q)) a b
 
       pub later_text : m ≤ n → g ≡ range_in r → text g.at g.length ≡ value_of s parent below texts binaries
       later_text l w =
-          ap (λ (x : Range). text x.at x.length) w ∙ sym (rw (le-ltb n m l)) ∙ both (At n r) (At m q) a b
+          ap (λ (x : Range). text x.at x.length) w ∙ sym (rw (le-ltb n m l)) ∙ both (Some (n, r)) (Some (m, q)) a b

@@ -5,8 +5,7 @@ use Rattle.kinds.specs.declared.kind.Kind.{Kind}
 use Rattle.elements_rules.specs.Rows.{width, rows_of, nth}
 use Rattle.elements_rules.specs.declared.row.Row.{Row}
 use Rattle.fields_rules.specs.declared.child.Below.{Below}
-use Rattle.fields_rules.specs.declared.child.Child.{Child}
-use Rattle.fields_rules.specs.declared.child.Child.TheVariants.{Absent, At}
+use Rattle.std.specs.Prelude.{Option, Some, None}
 
 -- The rows that are deeper, up to the first that is not.
 unfoldable pub deeper : ℕ → List Row → List Row
@@ -24,27 +23,27 @@ unfoldable pub fits : (parent id : ℕ) → Kind → Row → Bool
 fits parent id kind r = eqb r.parent parent && (eqb r.id id && eqb r.kind (number_of kind))
 
 -- The children among rows that are counted from row n on, in order.
-unfoldable pub children_from : (n parent id : ℕ) → Kind → List Row → List Child
+unfoldable pub children_from : (n parent id : ℕ) → Kind → List Row → List (Option (ℕ × Row))
 children_from n parent id kind [] = []
 children_from n parent id kind (r ∷ rs) =
-    cond (fits parent id kind r) (At n r ∷ children_from (n + 1) parent id kind rs)
+    cond (fits parent id kind r) (Some (n, r) ∷ children_from (n + 1) parent id kind rs)
     (children_from (n + 1) parent id kind rs)
 
 -- The direct children of this id and kind, among the rows below the master: the first of those is row `parent`.
-abbrev pub children : (parent id : ℕ) → Kind → List Row → List Child
+abbrev pub children : (parent id : ℕ) → Kind → List Row → List (Option (ℕ × Row))
 children parent id kind below = children_from parent parent id kind below
 
 -- The last of them, or c where there is none.
-unfoldable pub last_from : Child → List Child → Child
+unfoldable pub last_from : Option (ℕ × Row) → List (Option (ℕ × Row)) → Option (ℕ × Row)
 last_from c [] = c
 last_from c (d ∷ ds) = last_from d ds
 
-abbrev pub last_of : List Child → Child
-last_of cs = last_from Absent cs
+abbrev pub last_of : List (Option (ℕ × Row)) → Option (ℕ × Row)
+last_of cs = last_from None cs
 
 -- The k-th of them, counted from 0.
-unfoldable pub nth_of : ℕ → List Child → Child
-nth_of k [] = Absent
+unfoldable pub nth_of : ℕ → List (Option (ℕ × Row)) → Option (ℕ × Row)
+nth_of k [] = None
 nth_of zero (c ∷ cs) = c
 nth_of (suc k) (c ∷ cs) = nth_of k cs
 

@@ -7,11 +7,11 @@ use Rattle.elements_rules.specs.declared.row.Row.{Row}
 use Rattle.fields_rules.specs.Children.{children, last_of}
 use Rattle.fields_rules.specs.Values.{FieldValue, count}
 use Rattle.fields_rules.specs.Values.{number_in, flag_in, content_in, real_in, date_in, language_in, value_in}
-use Rattle.fields_rules.specs.declared.child.Child.{Child}
+use Rattle.std.specs.Prelude.{Option}
 
 -- Of the master `parent` with the rows below it.
 module _ (s : List ℕ) (parent : ℕ) (below : List Row) where
-  abbrev pub last_child : ℕ → Kind → Child
+  abbrev pub last_child : ℕ → Kind → Option (ℕ × Row)
   last_child id kind = last_of (children parent id kind below)
 
   unfoldable pub number_of : ℕ → FieldValue

@@ -4,19 +4,17 @@ use Rattle.kinds.specs.declared.kind.Kind.{Kind}
 use Rattle.elements_rules.specs.Rows.{rows_of, nth}
 use Rattle.elements_rules.specs.Promise.{ReadPromise}
 use Rattle.elements_rules.specs.declared.row.Row.{Row}
-use Rattle.elements_rules.specs.declared.reply.ReadReply.TheVariants.{Rows}
 use Rattle.fields_rules.specs.Children.{subtree, fits, children_from, children, last_of}
 use Rattle.fields_rules.specs.Contract.{AllJump}
-use Rattle.fields_rules.specs.declared.child.Child.{Child}
-use Rattle.fields_rules.specs.declared.child.Child.TheVariants.{Absent, At}
+use Rattle.std.specs.Prelude.{Option, Ok, Some, None}
 
 -- The last of the rows below a master that is a direct child of this id and kind, or that none is.
-pub data Last (parent id : ℕ) (kind : Kind) (below : List Row) (c : Child) : Type 0 where
+pub data Last (parent id : ℕ) (kind : Kind) (below : List Row) (c : Option (ℕ × Row)) : Type 0 where
   none :
-      c ≡ Absent → ((m : ℕ) → m < length below → fits parent id kind (nth below m) ≡ false)
+      c ≡ None → ((m : ℕ) → m < length below → fits parent id kind (nth below m) ≡ false)
       → Last parent id kind below c
   last :
-      (k : ℕ) → k < length below → fits parent id kind (nth below k) ≡ true → c ≡ At (parent + k) (nth below k)
+      (k : ℕ) → k < length below → fits parent id kind (nth below k) ≡ true → c ≡ Some (parent + k, nth below k)
       → ((m : ℕ) → k < m → m < length below → fits parent id kind (nth below m) ≡ false)
       → Last parent id kind below c
 
@@ -31,7 +29,7 @@ LastIsLast =
 abbrev pub SubtreeIsEnough : Type 0
 SubtreeIsEnough =
     (live : Bool) (s : List ℕ) (start size under : ℕ) (t : List ℕ) (n : ℕ) (t' : List ℕ)
-    → ReadPromise live s start size under t (Rows n) t'
+    → ReadPromise live s start size under t (Ok n) t'
     → (parent id : ℕ) (kind : Kind) → parent ≤ n
     → children parent id kind (subtree (rows_of t' n) parent) ≡ children_from 0 parent id kind (rows_of t' n)
 
@@ -39,4 +37,4 @@ SubtreeIsEnough =
 abbrev pub AllJumpAfterRead : Type 0
 AllJumpAfterRead =
     (live : Bool) (s : List ℕ) (start size under : ℕ) (t : List ℕ) (n : ℕ) (t' : List ℕ)
-    → ReadPromise live s start size under t (Rows n) t' → AllJump t' n
+    → ReadPromise live s start size under t (Ok n) t' → AllJump t' n

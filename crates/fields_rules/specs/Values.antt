@@ -5,8 +5,7 @@ use Rattle.bodies_rules.specs.Numbers.{signed_of, float_of}
 use Rattle.bodies_rules.specs.declared.body.Range.{Range}
 use Rattle.elements_rules.specs.Rows.{payload_of}
 use Rattle.elements_rules.specs.declared.row.Row.{Row}
-use Rattle.fields_rules.specs.declared.child.Child.{Child}
-use Rattle.fields_rules.specs.declared.child.Child.TheVariants.{Absent, At}
+use Rattle.std.specs.Prelude.{Option, Some, None}
 
 -- The value of a field, or that it is unset: a mark of its own. A text or bytes is an address and a length.
 pub data FieldValue : Type 0 where
@@ -46,36 +45,36 @@ signed_in s r = signed_of r.payload (uint_in s r)
 
 -- ---- what a field holds, by the child that sets it
 
-abbrev pub number_in : List ℕ → Child → FieldValue
-number_in s Absent = unset
-number_in s (At n r) = number (uint_in s r)
+abbrev pub number_in : List ℕ → Option (ℕ × Row) → FieldValue
+number_in s None = unset
+number_in s (Some (n, r)) = number (uint_in s r)
 
 -- A flag is a truth value: any number but 0 is yes.
-abbrev pub flag_in : List ℕ → Child → FieldValue
-flag_in s Absent = unset
-flag_in s (At n r) = flag (not (eqb (uint_in s r) 0))
+abbrev pub flag_in : List ℕ → Option (ℕ × Row) → FieldValue
+flag_in s None = unset
+flag_in s (Some (n, r)) = flag (not (eqb (uint_in s r) 0))
 
-abbrev pub content_in : Child → FieldValue
-content_in Absent = unset
-content_in (At n r) = placed content r
+abbrev pub content_in : Option (ℕ × Row) → FieldValue
+content_in None = unset
+content_in (Some (n, r)) = placed content r
 
-abbrev pub real_in : List ℕ → Child → FieldValue
-real_in s Absent = unset
-real_in s (At n r) = real (float_in s r)
+abbrev pub real_in : List ℕ → Option (ℕ × Row) → FieldValue
+real_in s None = unset
+real_in s (Some (n, r)) = real (float_in s r)
 
-abbrev pub date_in : List ℕ → Child → FieldValue
-date_in s Absent = unset
-date_in s (At n r) = date (signed_in s r)
+abbrev pub date_in : List ℕ → Option (ℕ × Row) → FieldValue
+date_in s None = unset
+date_in s (Some (n, r)) = date (signed_in s r)
 
 -- An ISO 639 language never replaces an IETF one.
-abbrev pub language_in : (ietfs isos : Child) → FieldValue
-language_in (At n r) isos = placed ietf r
-language_in Absent (At n r) = placed iso r
-language_in Absent Absent = unset
+abbrev pub language_in : (ietfs isos : Option (ℕ × Row)) → FieldValue
+language_in (Some (n, r)) isos = placed ietf r
+language_in None (Some (n, r)) = placed iso r
+language_in None None = unset
 
 -- A tag's value: the later of its text and its bytes.
-abbrev pub value_in : (texts binaries : Child) → FieldValue
-value_in Absent Absent = unset
-value_in (At n r) Absent = placed text r
-value_in Absent (At m q) = placed binary q
-value_in (At n r) (At m q) = cond (ltb n m) (placed binary q) (placed text r)
+abbrev pub value_in : (texts binaries : Option (ℕ × Row)) → FieldValue
+value_in None None = unset
+value_in (Some (n, r)) None = placed text r
+value_in None (Some (m, q)) = placed binary q
+value_in (Some (n, r)) (Some (m, q)) = cond (ltb n m) (placed binary q) (placed text r)

@@ -8,10 +8,3 @@ pub struct Below {
     pub parent: usize,
     pub end: usize,
 }
-
-// A direct child: its row's number, and the row; or that there is none.
-#[derive(Clone, Copy)]
-pub enum Child {
-    Absent,
-    At { number: usize, row: Row },
-}

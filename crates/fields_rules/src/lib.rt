@@ -5,5 +5,5 @@
 mod child;
 mod field;
 
-pub use child::{Below, Child};
-pub use field::{Content, Date, Flag, Language, Number, Real, TagValue};
+pub use child::Below;
+pub use field::{Language, TagValue};

@@ -12,24 +12,25 @@ use Rattle.header.specs.Header.{sized, named, header_of}
 use Rattle.header.specs.Reads.{vint_read, vint_at, header_read, header_at}
 use Rattle.header.specs.declared.cursor.VintRead.{VintRead}
 use Rattle.header.specs.declared.cursor.VintRead.TheVariants.{Vint as VintIs, Ends as VintEnds, Long as VintLong}
-use Rattle.header.specs.declared.cursor.HeaderRead.{HeaderRead}
-use Rattle.header.specs.declared.cursor.HeaderRead.TheVariants.{Read, Refused}
+use Rattle.std.proofs.Common.{Result, Ok, Err}
+use Rattle.header.specs.declared.cursor.Headed.{Headed}
+use Rattle.refusals.specs.declared.refusal.Refusal.{Refusal}
 
 -- what follows from the VINT of the size, of a header at a place with an id of n octets
-abbrev pub with_size : ℕ → ℕ → ℕ → VintRead → HeaderRead
-with_size at id n VintEnds = Refused (because PastEnd at)
-with_size at id n VintLong = Refused (because InvalidSize at)
+abbrev pub with_size : ℕ → ℕ → ℕ → VintRead → Result Headed Refusal
+with_size at id n VintEnds = Err (because PastEnd at)
+with_size at id n VintLong = Err (because InvalidSize at)
 with_size at id n (VintIs m value next) =
-    Read (record {
+    Ok (record {
       place = record { at = at };
       payload = next;
       header = record { id = id; size = vint_data m value; length = n + m };
     })
 
 -- what follows from the VINT of the id
-abbrev pub with_id : List ℕ → ℕ → VintRead → HeaderRead
-with_id s at VintEnds = Refused (because PastEnd at)
-with_id s at VintLong = Refused (because InvalidId at)
+abbrev pub with_id : List ℕ → ℕ → VintRead → Result Headed Refusal
+with_id s at VintEnds = Err (because PastEnd at)
+with_id s at VintLong = Err (because InvalidId at)
 with_id s at (VintIs n id next) = with_size at id n (vint_at s next.at 8)
 
 module _ (s : List ℕ) (at : ℕ) where

@@ -15,10 +15,10 @@ use Rattle.header.specs.Header.{Heading, heading, refused, sized, named, header_
 use Rattle.header.specs.Reads.{headed_at, header_read, header_at}
 use Rattle.header.specs.declared.cursor.Headed.{Headed}
 use Rattle.header.specs.declared.cursor.Header.{Header}
-use Rattle.header.specs.declared.cursor.HeaderRead.TheVariants.{Read, Refused}
 use Rattle.refusals.specs.Refusals.{because}
 use Rattle.refusals.specs.declared.refusal.Cause.{Cause}
 use Rattle.refusals.specs.declared.refusal.Refusal.{Refusal}
+use Rattle.std.proofs.Common.{Ok, Err}
 
 -- what a VINT of z zero bits is made of
 pub record Made (most : ℕ) (s : List ℕ) (w : Width) (n v : ℕ) : Type 0 where
@@ -102,12 +102,12 @@ module _ (s : List ℕ) (at : ℕ) where
       omega arith
 
   -- What a read header says of the octets at its place.
-  pub header_read_law : (e : Headed) → header_at s at ≡ Read e
+  pub header_read_law : (e : Headed) → header_at s at ≡ Ok e
       → (header_of (drop at s) ≡ heading e.header) × (e ≡ headed_at at e.header)
   unfolding header_at header_read
   header_read_law e = go (header_of (drop at s))
     where
-      go : (x : Heading) → header_read at x ≡ Read e → (x ≡ heading e.header) × (e ≡ headed_at at e.header)
+      go : (x : Heading) → header_read at x ≡ Ok e → (x ≡ heading e.header) × (e ≡ headed_at at e.header)
       go (heading h) w =
           let q : headed_at at h ≡ e = cc in
           let k : h ≡ e.header = ap (λ (x : Headed). x.header) q in
@@ -124,7 +124,7 @@ module _ (s : List ℕ) (at : ℕ) where
     pub inside : e.payload.at ≤ length s
     pub sized : e.header.size < 2 ^ 56
 
-  pub header_there : (e : Headed) → header_at s at ≡ Read e → HeaderThere e
+  pub header_there : (e : Headed) → header_at s at ≡ Ok e → HeaderThere e
   header_there e q =
       let (h, n) = header_read_law e q in
       let i = header_inside e.header h in
@@ -140,12 +140,12 @@ module _ (s : List ℕ) (at : ℕ) where
       }
 
   -- A header that is refused is refused by its own octets, at its place.
-  pub header_refused : (e : Refusal) → header_at s at ≡ Refused e
+  pub header_refused : (e : Refusal) → header_at s at ≡ Err e
       → (header_of (drop at s) ≡ refused e.cause) × (because e.cause at ≡ e)
   unfolding header_at header_read
   header_refused e = go (header_of (drop at s))
     where
-      go : (x : Heading) → header_read at x ≡ Refused e → (x ≡ refused e.cause) × (because e.cause at ≡ e)
+      go : (x : Heading) → header_read at x ≡ Err e → (x ≡ refused e.cause) × (because e.cause at ≡ e)
       go (heading h) w = let x : ◌≡◌ {A = ℕ} 0 1 = cc in absurd (omega arith)
       go (refused c) w =
           let q : because c at ≡ e = cc in

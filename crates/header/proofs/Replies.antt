@@ -10,13 +10,14 @@ use Rattle.header.specs.Reads.{header_read, header_at}
 use Rattle.refusals.specs.Reply.{Reply, accepted, refusal}
 use Rattle.header.specs.Promise.{most_bytes, reply_of, header_reply}
 use Rattle.header.specs.declared.cursor.Header.{Header}
-use Rattle.header.specs.declared.cursor.HeaderRead.{HeaderRead}
-use Rattle.header.specs.declared.cursor.HeaderRead.TheVariants.{Read, Refused}
+use Rattle.std.proofs.Common.{Result, Ok, Err}
+use Rattle.header.specs.declared.cursor.Headed.{Headed}
+use Rattle.refusals.specs.declared.refusal.Refusal.{Refusal}
 
 -- what the inner reader gives, in document 01's terms
-abbrev pub read_reply : HeaderRead → Reply Header
-read_reply (Read e) = accepted e.header
-read_reply (Refused e) = refusal e
+abbrev pub read_reply : Result Headed Refusal → Reply Header
+read_reply (Ok e) = accepted e.header
+read_reply (Err e) = refusal e
 
 read_reply_law : (at : ℕ) (h : Heading) → read_reply (header_read at h) ≡ reply_of at h
 unfolding header_read

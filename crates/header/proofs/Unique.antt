@@ -6,15 +6,16 @@ use native.Mathlib.Omega.{arith}
 use Rattle.refusals.proofs.Listed.{listed}
 use Rattle.header.specs.Promise.{header_told}
 use Rattle.header.specs.Theorems.{OneReply, RefusesListed}
-use Rattle.header.specs.declared.reply.HeaderReply.{HeaderReply}
-use Rattle.header.specs.declared.reply.HeaderReply.TheVariants.{Header as HeaderIs, Refused}
+use Rattle.std.proofs.Common.{Result, Ok, Err}
+use Rattle.header.specs.declared.cursor.Header.{Header}
+use Rattle.refusals.specs.declared.refusal.Refusal.{Refusal}
 
 -- document 01's values tell every case of the answer apart
-told_once : (r r' : HeaderReply) → header_told r ≡ header_told r' → r ≡ r'
-told_once (HeaderIs h) (HeaderIs h') q = ap HeaderIs (cc)
-told_once (HeaderIs h) (Refused e) q = let x : ◌≡◌ {A = ℕ} 0 1 = cc in absurd (omega arith)
-told_once (Refused e) (HeaderIs h) q = let x : ◌≡◌ {A = ℕ} 0 1 = cc in absurd (omega arith)
-told_once (Refused e) (Refused e') q = ap Refused (cc)
+told_once : (r r' : Result Header Refusal) → header_told r ≡ header_told r' → r ≡ r'
+told_once (Ok h) (Ok h') q = ap Ok (cc)
+told_once (Ok h) (Err e) q = let x : ◌≡◌ {A = ℕ} 0 1 = cc in absurd (omega arith)
+told_once (Err e) (Ok h) q = let x : ◌≡◌ {A = ℕ} 0 1 = cc in absurd (omega arith)
+told_once (Err e) (Err e') q = ap Err (cc)
 
 pub header_unique : OneReply
 header_unique s at r r' p q = told_once r r' (p.reply ∙ sym q.reply)

@@ -9,10 +9,10 @@ use lib.Dec.{leb}
 use borrow.Author.Tests.{lt-ltb, le-ltb, le-leb, lt-leb, leb-true, leb-false}
 use Rattle.header.specs.Vint.{Width, unmarked, zeros, big_endian, vint, ends, long, of_width, vint_of}
 use Rattle.header.specs.Reads.{width_at, octets_of, number_at, vint_read, vint_at}
-use Rattle.header.specs.declared.cursor.NumberRead.{NumberRead}
-use Rattle.header.specs.declared.cursor.NumberRead.TheVariants.{Number, Ends as NumberEnds}
 use Rattle.header.specs.declared.cursor.VintRead.{VintRead}
 use Rattle.header.specs.declared.cursor.VintRead.TheVariants.{Vint as VintIs, Ends as VintEnds, Long as VintLong}
+use Rattle.std.proofs.Common.{Option, Some, None}
+use Rattle.header.specs.declared.cursor.Cursor.{Cursor}
 
 module _ (most : ℕ) (s : List ℕ) where
   of_unmarked : (w : Width) → 0 ≡ octets_of w → of_width most s w ≡ ends
@@ -40,21 +40,21 @@ module _ (most : ℕ) (s : List ℕ) where
 
 -- ---- numbers at a place
 
-pub number_ends : (s : List ℕ) (at n : ℕ) → length s < at + n → number_at s at n ≡ NumberEnds
+pub number_ends : (s : List ℕ) (at n : ℕ) → length s < at + n → number_at s at n ≡ None
 unfolding number_at
 number_ends s at n h = rw (lt-leb (at + n) (length s) h)
 
 pub number_there : (s : List ℕ) (at n : ℕ) → at + n ≤ length s
-    → number_at s at n ≡ Number (big_endian (take n (drop at s))) (record { at = at + n })
+    → number_at s at n ≡ Some (big_endian (take n (drop at s)), record { at = at + n })
 unfolding number_at
 number_there s at n h = rw (le-leb (at + n) (length s) h)
 
 -- ---- VINTs at a place
 
 -- a VINT of n octets is the number of the n octets there, or ends with them
-abbrev pub as_vint : ℕ → NumberRead → VintRead
-as_vint n (Number value next) = VintIs n value next
-as_vint n NumberEnds = VintEnds
+abbrev pub as_vint : ℕ → Option (ℕ × Cursor) → VintRead
+as_vint n (Some (value, next)) = VintIs n value next
+as_vint n None = VintEnds
 
 module _ (s : List ℕ) (at most : ℕ) (m : most ≤ 8) where
   pub vint_unmarked : 0 ≡ octets_of (width_at s at) → vint_at s at most ≡ VintEnds

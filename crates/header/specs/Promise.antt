@@ -4,8 +4,8 @@ use Rattle.refusals.specs.Refusals.{because, bad_argument}
 use Rattle.refusals.specs.Reply.{Reply, accepted, refusal}
 use Rattle.header.specs.Header.{Heading, heading, refused, header_of}
 use Rattle.header.specs.declared.cursor.Header.{Header}
-use Rattle.header.specs.declared.reply.HeaderReply.{HeaderReply}
-use Rattle.header.specs.declared.reply.HeaderReply.TheVariants.{Header as HeaderIs, Refused}
+use Rattle.std.specs.Prelude.{Result, Ok, Err}
+use Rattle.refusals.specs.declared.refusal.Refusal.{Refusal}
 
 -- The longest recording (document 01, Numbers that bound a call).
 abbrev pub most_bytes : ℕ
@@ -23,9 +23,9 @@ header_reply s at =
     cond (leb (length s) most_bytes && leb at (length s)) (reply_of at (header_of (drop at s))) (refusal bad_argument)
 
 -- Document 01's values for each case of `HeaderReply`: id, size and length by their names, or the refusal.
-abbrev pub header_told : HeaderReply → Reply Header
-header_told (HeaderIs h) = accepted h
-header_told (Refused e) = refusal e
+abbrev pub header_told : Result Header Refusal → Reply Header
+header_told (Ok h) = accepted h
+header_told (Err e) = refusal e
 
-pub record HeaderPromise (s : List ℕ) (at : ℕ) (r : HeaderReply) : Type 0 where
+pub record HeaderPromise (s : List ℕ) (at : ℕ) (r : Result Header Refusal) : Type 0 where
   pub reply : header_told r ≡ header_reply s at

@@ -5,12 +5,11 @@ use Rattle.header.specs.Header.{Heading, heading, refused, header_of}
 use Rattle.refusals.specs.Refusals.{because}
 use Rattle.header.specs.declared.cursor.Header.{Header}
 use Rattle.header.specs.declared.cursor.Headed.{Headed}
-use Rattle.header.specs.declared.cursor.NumberRead.{NumberRead}
-use Rattle.header.specs.declared.cursor.NumberRead.TheVariants.{Number, Ends as NumberEnds}
 use Rattle.header.specs.declared.cursor.VintRead.{VintRead}
 use Rattle.header.specs.declared.cursor.VintRead.TheVariants.{Vint as VintIs, Ends as VintEnds, Long as VintLong}
-use Rattle.header.specs.declared.cursor.HeaderRead.{HeaderRead}
-use Rattle.header.specs.declared.cursor.HeaderRead.TheVariants.{Read, Refused}
+use Rattle.std.specs.Prelude.{Result, Option, Ok, Err, Some, None}
+use Rattle.header.specs.declared.cursor.Cursor.{Cursor}
+use Rattle.refusals.specs.declared.refusal.Refusal.{Refusal}
 
 -- The VINT_WIDTH of what stands at a place.
 abbrev pub width_at : List ℕ → ℕ → Width
@@ -26,9 +25,9 @@ unfoldable pub octets_of : Width → ℕ
 octets_of unmarked = 0
 octets_of (zeros z) = min (z + 1) 9
 
-unfoldable pub number_at : List ℕ → (at n : ℕ) → NumberRead
+unfoldable pub number_at : List ℕ → (at n : ℕ) → Option (ℕ × Cursor)
 number_at s at n =
-    cond (leb (at + n) (length s)) (Number (big_endian (take n (drop at s))) (record { at = at + n })) NumberEnds
+    cond (leb (at + n) (length s)) (Some (big_endian (take n (drop at s)), record { at = at + n })) None
 
 unfoldable pub vint_read : ℕ → Vint → VintRead
 vint_read at (vint n value) = VintIs n value (record { at = at + n })
@@ -46,17 +45,17 @@ headed_at at h = record { place = record { at = at }; payload = record { at = at
 abbrev pub behind : Headed → ℕ
 behind e = e.payload.at + e.header.size
 
-unfoldable pub header_read : ℕ → Heading → HeaderRead
-header_read at (heading h) = Read (headed_at at h)
-header_read at (refused cause) = Refused (because cause at)
+unfoldable pub header_read : ℕ → Heading → Result Headed Refusal
+header_read at (heading h) = Ok (headed_at at h)
+header_read at (refused cause) = Err (because cause at)
 
-unfoldable pub header_at : List ℕ → ℕ → HeaderRead
+unfoldable pub header_at : List ℕ → ℕ → Result Headed Refusal
 header_at s at = header_read at (header_of (drop at s))
 
 -- What a caller needs of a number of n bytes, and of a VINT, besides its value: that it fits.
-abbrev pub NumberFits : ℕ → NumberRead → Type 0
-NumberFits n (Number value next) = value < 2 ^ (8 * n)
-NumberFits n NumberEnds = Unit
+abbrev pub NumberFits : ℕ → Option (ℕ × Cursor) → Type 0
+NumberFits n (Some (value, next)) = value < 2 ^ (8 * n)
+NumberFits n None = Unit
 
 abbrev pub VintFits : ℕ → VintRead → Type 0
 VintFits most (VintIs n value next) = (n ≤ most) × (value < 2 ^ (8 * n))

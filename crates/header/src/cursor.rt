@@ -29,13 +29,6 @@ pub struct Headed {
     pub header: Header,
 }
 
-// A big-endian number, or the end of the recording before its last byte.
-#[derive(Clone, Copy)]
-pub enum NumberRead {
-    Number(u64, Cursor),
-    Ends,
-}
-
 // A variable-size integer: its octets, and all their bits as one number.
 #[derive(Clone, Copy)]
 pub enum VintRead {
@@ -48,13 +41,6 @@ pub enum VintRead {
     Ends,
     // It has more octets than it may.
     Long,
-}
-
-// The element that a header tells, or a refusal.
-#[derive(Clone, Copy)]
-pub enum HeaderRead {
-    Read(Headed),
-    Refused(Refusal),
 }
 
 // A byte as a wider number; apart, so that a byte that was read asks for no proof that it fits.
@@ -124,21 +110,21 @@ impl Cursor {
     }
 
     // The big-endian number of the next n bytes.
-    pub fn number(self, recording: &[u8], n: u64) -> NumberRead
+    pub fn number(self, recording: &[u8], n: u64) -> Option<(u64, Cursor)>
         requires { n ≤ 8 }
         ensures { (result ≡ number_at recording.now self.at n) × NumberFits n result }
     {
         let at = self.at;
         let length = recording.len() as u64;
         if length < at {
-            return NumberRead::Ends;
+            return None;
         }
         if length - at < n {
-            return NumberRead::Ends;
+            return None;
         }
         let value = big_endian(recording, at as usize, n as usize);
         let next = at + n;
-        NumberRead::Number(value, Cursor { at: next })
+        Some((value, Cursor { at: next }))
     }
 
     // The variable-size integer here, of at most `most` octets.
@@ -154,8 +140,8 @@ impl Cursor {
             return VintRead::Long;
         }
         match self.number(recording, octets) {
-            NumberRead::Ends => VintRead::Ends,
-            NumberRead::Number(value, next) => VintRead::Vint {
+            None => VintRead::Ends,
+            Some((value, next)) => VintRead::Vint {
                 octets,
                 value,
                 next,
@@ -164,15 +150,15 @@ impl Cursor {
     }
 
     // The header here: its id, then its size.
-    pub fn header(self, recording: &[u8]) -> HeaderRead
+    pub fn header(self, recording: &[u8]) -> Result<Headed, Refusal>
         ensures { result ≡ header_at recording.now self.at }
     {
         match self.vint(recording, 4) {
-            VintRead::Ends => HeaderRead::Refused(Refusal {
+            VintRead::Ends => Err(Refusal {
                 address: self.at,
                 cause: Cause::PastEnd,
             }),
-            VintRead::Long => HeaderRead::Refused(Refusal {
+            VintRead::Long => Err(Refusal {
                 address: self.at,
                 cause: Cause::InvalidId,
             }),
@@ -181,11 +167,11 @@ impl Cursor {
                 value: id_value,
                 next: after_id,
             } => match after_id.vint(recording, 8) {
-                VintRead::Ends => HeaderRead::Refused(Refusal {
+                VintRead::Ends => Err(Refusal {
                     address: self.at,
                     cause: Cause::PastEnd,
                 }),
-                VintRead::Long => HeaderRead::Refused(Refusal {
+                VintRead::Long => Err(Refusal {
                     address: self.at,
                     cause: Cause::InvalidSize,
                 }),
@@ -197,7 +183,7 @@ impl Cursor {
                     let id = id_value as u32;
                     let size = vint_data(size_octets, size_value);
                     let length = id_octets + size_octets;
-                    HeaderRead::Read(Headed {
+                    Ok(Headed {
                         place: self,
                         payload: after_size,
                         header: Header { id, size, length },

@@ -6,5 +6,5 @@
 mod cursor;
 mod reply;
 
-pub use cursor::{Cursor, Headed, Header, HeaderRead, NumberRead, big_endian};
-pub use reply::{HeaderReply, MOST_BYTES, header_at};
+pub use cursor::{Cursor, Headed, Header, big_endian};
+pub use reply::{MOST_BYTES, header_at};

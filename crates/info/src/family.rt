@@ -6,24 +6,24 @@ ghost use Rattle.fields_rules.specs.Told.{content_told};
 ghost use Rattle.info_rules.specs.Records.{family_in};
 ghost use Rattle.info_rules.specs.Promise.{FamilyPromise};
 
+use bodies_rules::Range;
 use children::nth_child;
 use fields::range_of;
-use fields_rules::{Below, Child, Content};
-use info_rules::FamilyReply;
+use fields_rules::Below;
 use kinds::{Kind, ids};
 use locate::locate;
-use locate_rules::{Located, Step, Way};
+use locate_rules::{Step, Way};
 use refusals::{Cause, Refusal};
 use rowstore::clear;
 
 // The uid of family i of an Info; unset where there is none. The recording itself is not looked at.
-pub fn family_in(recording: &[u8], table: &[u64], master: Below, i: u64) -> Content
+pub fn family_in(recording: &[u8], table: &[u64], master: Below, i: u64) -> Option<Range>
     requires { Readable recording.now table.now master }
     ensures { content_told result ≡ content_in (family_in table.now master i) }
 {
     match nth_child(table, master, ids::SEGMENTFAMILY, Kind::Binary, i) {
-        Child::Absent => Content::Unset,
-        Child::At { number: _, row } => Content::At(range_of(row)),
+        None => None,
+        Some((_, row)) => Some(range_of(row)),
     }
 }
 
@@ -37,7 +37,7 @@ pub fn family_at(
     k: u64,
     i: u64,
     table: &mut [u64],
-) -> FamilyReply
+) -> Result<(Range, u64), Refusal>
     ensures { FamilyPromise live recording.now start size k i
         table.old result table.new }
 {
@@ -47,19 +47,16 @@ pub fn family_at(
         third: Step::Here,
     };
     match locate(recording, live, start, size, ids::INFO, way, table) {
-        Located::Refused(refusal) => FamilyReply::Refused(refusal),
-        Located::At { master, rows } => match family_in(recording, table, master, i) {
-            Content::Unset => {
+        Err(refusal) => Err(refusal),
+        Ok((master, rows)) => match family_in(recording, table, master, i) {
+            None => {
                 clear(table);
-                FamilyReply::Refused(Refusal {
+                Err(Refusal {
                     address: 0,
                     cause: Cause::Outside,
                 })
             }
-            Content::At(uid) => FamilyReply::Family {
-                uid,
-                rows: rows as u64,
-            },
+            Some(uid) => Ok((uid, rows as u64)),
         },
     }
 }

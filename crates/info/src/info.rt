@@ -9,10 +9,11 @@ ghost use Rattle.info_rules.specs.Promise.{InfoPromise};
 use children::count_children;
 use fields::{content_field, date_field, number_field, real_field};
 use fields_rules::Below;
-use info_rules::{Info, InfoReply};
+use info_rules::Info;
 use kinds::{Kind, ids};
 use locate::locate;
-use locate_rules::{Located, Step, Way};
+use locate_rules::{Step, Way};
+use refusals::Refusal;
 
 // The record, by the rows below its master.
 pub fn info_in(recording: &[u8], table: &[u64], master: Below) -> Info
@@ -42,7 +43,7 @@ pub fn info_at(
     size: u64,
     k: u64,
     table: &mut [u64],
-) -> InfoReply
+) -> Result<(Info, u64), Refusal>
     ensures { InfoPromise live recording.now start size k
         table.old result table.new }
 {
@@ -52,10 +53,7 @@ pub fn info_at(
         third: Step::Here,
     };
     match locate(recording, live, start, size, ids::INFO, way, table) {
-        Located::Refused(refusal) => InfoReply::Refused(refusal),
-        Located::At { master, rows } => InfoReply::Info {
-            info: info_in(recording, table, master),
-            rows: rows as u64,
-        },
+        Err(refusal) => Err(refusal),
+        Ok((master, rows)) => Ok((info_in(recording, table, master), rows as u64)),
     }
 }

@@ -16,44 +16,39 @@ use Rattle.fields_rules.specs.Children.{children, nth_of}
 use Rattle.fields_rules.specs.Values.{FieldValue, unset, content, range_in, content_in}
 use Rattle.fields_rules.specs.Told.{content_told}
 use Rattle.fields_rules.specs.declared.child.Below.{Below}
-use Rattle.fields_rules.specs.declared.child.Child.{Child}
-use Rattle.fields_rules.specs.declared.child.Child.TheVariants.{At as ChildAt, Absent as NoChild}
-use Rattle.fields_rules.specs.declared.field.Content.{Content}
-use Rattle.fields_rules.specs.declared.field.Content.TheVariants.{Unset, At as ContentAt}
 use Rattle.locate_rules.specs.Asked.{Asked, found, refusing, has_member, listed, table_after}
 use Rattle.locate_rules.specs.Told.{fields, refusal}
 use Rattle.locate_rules.specs.Contract.{LocateMet}
 use Rattle.locate_rules.specs.Promise.{answer_of, RecordPromise}
-use Rattle.locate_rules.specs.declared.steps.Located.{Located}
-use Rattle.locate_rules.specs.declared.steps.Located.TheVariants.{At, Refused}
 use Rattle.locate_rules.proofs.Told.{stands_at}
 use Rattle.info_rules.specs.Records.{family_of, family_in, family_fields}
+use Rattle.std.proofs.Common.{Result, Option, Ok, Err, Some, None}
 
 -- As it is looked up.
-module _ (t : List ℕ) (b : Below) (i : ℕ) {c : Child} (e : c ≡ family_in t b i) where
-  pub family_unset : c ≡ NoChild → unset ≡ content_in (family_in t b i)
+module _ (t : List ℕ) (b : Below) (i : ℕ) {c : (Option (ℕ × Row))} (e : c ≡ family_in t b i) where
+  pub family_unset : c ≡ None → unset ≡ content_in (family_in t b i)
   family_unset a = ap content_in (sym a ∙ e)
 
-  pub family_is : {n : ℕ} {r : Row} {g : Range} → c ≡ ChildAt n r → g ≡ range_in r
+  pub family_is : {n : ℕ} {r : Row} {g : Range} → c ≡ Some (n, r) → g ≡ range_in r
       → content g.at g.length ≡ content_in (family_in t b i)
   family_is a q = ap (λ (x : Range). content x.at x.length) q ∙ ap content_in (sym a ∙ e)
 
 -- As it is asked for.
 module _ (x : Asked) where
-  no_family : (c : Child) → unset ≡ content_in c → has_member x c ≡ refusing no_record
-  no_family NoChild q = refl
-  no_family (ChildAt n r) q = cc
+  no_family : (c : Option (ℕ × Row)) → unset ≡ content_in c → has_member x c ≡ refusing no_record
+  no_family None q = refl
+  no_family (Some (n, r)) q = cc
 
-  a_family : (c : Child) (at n : ℕ) → content at n ≡ content_in c → has_member x c ≡ x
-  a_family NoChild at n q = cc
-  a_family (ChildAt m r) at n q = refl
+  a_family : (c : Option (ℕ × Row)) (at n : ℕ) → content at n ≡ content_in c → has_member x c ≡ x
+  a_family None at n q = cc
+  a_family (Some (m, r)) at n q = refl
 
-module _ {s : List ℕ} {a : Asked} {numbers : ℕ} {r : Located} {t₁ : List ℕ} (p : LocateMet s a numbers r t₁)
+module _ {s : List ℕ} {a : Asked} {numbers : ℕ} {r : (Result (Below × ℕ) Refusal)} {t₁ : List ℕ} (p : LocateMet s a numbers r t₁)
     (i : ℕ) where
   abbrev question : Asked
   question = listed a (family_of i)
 
-  pub family_refused : {e : Refusal} → r ≡ Refused e → RecordPromise (family_fields i) question numbers (refusal e) t₁
+  pub family_refused : {e : Refusal} → r ≡ Err e → RecordPromise (family_fields i) question numbers (refusal e) t₁
   family_refused {e} q =
       let w : a ≡ refusing e = (rw q at p).reply in
       let d : question ≡ refusing e = ap (λ (x : Asked). listed x (family_of i)) w in
@@ -62,8 +57,8 @@ module _ {s : List ℕ} {a : Asked} {numbers : ℕ} {r : Located} {t₁ : List �
         table = p.table ∙ ap (table_after numbers) (w ∙ sym d);
       }
 
-  module _ {b : Below} {n : ℕ} (q : r ≡ At b n) (m : Content) (e : content_told m ≡ content_in (family_in t₁ b i)) where
-    abbrev member : Child
+  module _ {b : Below} {n : ℕ} (q : r ≡ Ok (b, n)) (m : Option Range) (e : content_told m ≡ content_in (family_in t₁ b i)) where
+    abbrev member : Option (ℕ × Row)
     member = family_of i (rows_of t₁ n) b.parent
 
     told : content_told m ≡ content_in member
@@ -75,7 +70,7 @@ module _ {s : List ℕ} {a : Asked} {numbers : ℕ} {r : Located} {t₁ : List �
     asks : question ≡ has_member (found (rows_of t₁ n) b.parent) member
     asks = ap (λ (x : Asked). listed x (family_of i)) (rw q at p).reply.0
 
-    pub family_none : {f : Refusal} {t' : List ℕ} → m ≡ Unset → f ≡ no_record → length t₁ ≡ numbers
+    pub family_none : {f : Refusal} {t' : List ℕ} → m ≡ None → f ≡ no_record → length t₁ ≡ numbers
         → t' ≡ zeros (length t₁) → RecordPromise (family_fields i) question numbers (refusal f) t'
     family_none {f} u w l z =
         let d : question ≡ refusing f = asks ∙ no_family _ member (rw u at told) ∙ ap refusing (sym w) in
@@ -84,7 +79,7 @@ module _ {s : List ℕ} {a : Asked} {numbers : ℕ} {r : Located} {t₁ : List �
           table = z ∙ zeros_as l ∙ sym (ap (table_after numbers) d);
         }
 
-    pub family_found : {g : Range} → m ≡ ContentAt g
+    pub family_found : {g : Range} → m ≡ Some g
         → RecordPromise (family_fields i) question numbers (fields (content g.at g.length ∷ []) n) t₁
     unfolding family_fields
     family_found {g} u =

@@ -4,7 +4,6 @@ use mathlib.Core.Path.{◌≡◌, refl, ap}
 use Rattle.refusals.proofs.Listed.{listed}
 use Rattle.bodies_rules.specs.declared.body.Range.{Range}
 use Rattle.fields_rules.proofs.Once.{number_once, content_once, real_once, date_once, count_once}
-use Rattle.fields_rules.specs.declared.field.Content.TheVariants.{At}
 use Rattle.locate_rules.proofs.Honest.{answer_honest}
 use Rattle.locate_rules.proofs.Unique.{one_reply}
 use Rattle.locate_rules.proofs.Live.{record_modes, member_modes}
@@ -12,10 +11,9 @@ use Rattle.info_rules.specs.Told.{info_values, info_told, family_told}
 use Rattle.info_rules.specs.Promise.{info_asked, family_asked}
 use Rattle.info_rules.specs.Theorems.{OneInfo, OneFamily, InfoRefusesListed, InfoHonest, InfoLive}
 use Rattle.info_rules.specs.declared.info.Info.{Info}
-use Rattle.info_rules.specs.declared.info.InfoReply.{InfoReply}
-use Rattle.info_rules.specs.declared.info.InfoReply.TheVariants.{Info as IsInfo, Refused as NoInfo}
-use Rattle.info_rules.specs.declared.family.FamilyReply.{FamilyReply}
-use Rattle.info_rules.specs.declared.family.FamilyReply.TheVariants.{Family, Refused as NoFamily}
+use Rattle.std.proofs.Common.{Result, Ok, Err}
+use Rattle.refusals.specs.declared.refusal.Refusal.{Refusal}
+use Prim.Native.Nat.{ℕ}
 
 -- The fields tell the record, and document 01's values the reply.
 info_once : (a b : Info) → info_values a ≡ info_values b → a ≡ b
@@ -33,21 +31,21 @@ info_once a b q i =
       writing_app = content_once a.writing_app b.writing_app (cc) i;
     }
 
-info_told_law : (r r' : InfoReply) → info_told r ≡ info_told r' → r ≡ r'
-info_told_law (IsInfo a n) (IsInfo b m) q = cc (info_once a b (cc))
-info_told_law (IsInfo a n) (NoInfo e) q = cc
-info_told_law (NoInfo e) (IsInfo b m) q = cc
-info_told_law (NoInfo e) (NoInfo f) q = cc
+info_told_law : (r r' : Result (Info × ℕ) Refusal) → info_told r ≡ info_told r' → r ≡ r'
+info_told_law (Ok (a, n)) (Ok (b, m)) q = cc (info_once a b (cc))
+info_told_law (Ok (a, n)) (Err e) q = cc
+info_told_law (Err e) (Ok (b, m)) q = cc
+info_told_law (Err e) (Err f) q = cc
 
 -- Two ranges of the same place.
 same_place : (g h : Range) → g.at ≡ h.at → g.length ≡ h.length → g ≡ h
 same_place g h a l i = record { at = a i; length = l i }
 
-family_told_law : (r r' : FamilyReply) → family_told r ≡ family_told r' → r ≡ r'
-family_told_law (Family g n) (Family h m) q = cc (same_place g h (cc) (cc))
-family_told_law (Family g n) (NoFamily e) q = cc
-family_told_law (NoFamily e) (Family h m) q = cc
-family_told_law (NoFamily e) (NoFamily f) q = cc
+family_told_law : (r r' : Result (Range × ℕ) Refusal) → family_told r ≡ family_told r' → r ≡ r'
+family_told_law (Ok (g, n)) (Ok (h, m)) q = cc (same_place g h (cc) (cc))
+family_told_law (Ok (g, n)) (Err e) q = cc
+family_told_law (Err e) (Ok (h, m)) q = cc
+family_told_law (Err e) (Err f) q = cc
 
 -- ---- the theorems
 
@@ -72,6 +70,6 @@ info_honest = record {
 
 pub info_live : InfoLive
 info_live = record {
-  info = λ s start size k. record_modes info_told NoInfo info_told_law (λ e. refl) _ s start size _ _;
-  family = λ s start size k i. member_modes family_told NoFamily family_told_law (λ e. refl) _ s start size _ _ _;
+  info = λ s start size k. record_modes info_told Err info_told_law (λ e. refl) _ s start size _ _;
+  family = λ s start size k i. member_modes family_told Err family_told_law (λ e. refl) _ s start size _ _ _;
 }

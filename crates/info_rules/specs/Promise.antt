@@ -6,8 +6,10 @@ use Rattle.locate_rules.specs.Promise.{RecordPromise, of_below}
 use Rattle.locate_rules.specs.declared.steps.Step.TheVariants.{Here, Only}
 use Rattle.info_rules.specs.Records.{info_of, family_of, family_fields}
 use Rattle.info_rules.specs.Told.{info_told, family_told}
-use Rattle.info_rules.specs.declared.info.InfoReply.{InfoReply}
-use Rattle.info_rules.specs.declared.family.FamilyReply.{FamilyReply}
+use Rattle.std.specs.Prelude.{Result}
+use Rattle.info_rules.specs.declared.info.Info.{Info}
+use Rattle.bodies_rules.specs.declared.body.Range.{Range}
+use Rattle.refusals.specs.declared.refusal.Refusal.{Refusal}
 
 -- ---- the questions, with a table of so many numbers
 
@@ -24,11 +26,11 @@ module _ (live : Bool) (s : List ℕ) (start size k : ℕ) where
 -- ---- the promises
 
 abbrev pub InfoPromise :
-    (live : Bool) (s : List ℕ) (start size k : ℕ) (t : List ℕ) (r : InfoReply) (t' : List ℕ) → Type 0
+    (live : Bool) (s : List ℕ) (start size k : ℕ) (t : List ℕ) (r : Result (Info × ℕ) Refusal) (t' : List ℕ) → Type 0
 InfoPromise live s start size k t r t' =
     RecordPromise (of_below (info_of s)) (info_asked live s start size k (length t)) (length t) (info_told r) t'
 
 abbrev pub FamilyPromise :
-    (live : Bool) (s : List ℕ) (start size k i : ℕ) (t : List ℕ) (r : FamilyReply) (t' : List ℕ) → Type 0
+    (live : Bool) (s : List ℕ) (start size k i : ℕ) (t : List ℕ) (r : Result (Range × ℕ) Refusal) (t' : List ℕ) → Type 0
 FamilyPromise live s start size k i t r t' =
     RecordPromise (family_fields i) (family_asked live s start size k i (length t)) (length t) (family_told r) t'

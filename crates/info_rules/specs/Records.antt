@@ -7,7 +7,7 @@ use Rattle.fields_rules.specs.Children.{subtree, children, nth_of, rows_in}
 use Rattle.fields_rules.specs.Values.{FieldValue, content_in}
 use Rattle.fields_rules.specs.Fields.{number_of, content_of, real_of, date_of, count_of}
 use Rattle.fields_rules.specs.declared.child.Below.{Below}
-use Rattle.fields_rules.specs.declared.child.Child.{Child}
+use Rattle.std.specs.Prelude.{Option}
 
 -- Of a master in a recording, with the rows below it. The duration stays as it is, with the scale beside it.
 module _ (s : List ℕ) (parent : ℕ) (below : List Row) where
@@ -26,10 +26,10 @@ module _ (s : List ℕ) (parent : ℕ) (below : List Row) where
       ∷ []
 
 -- The i-th family below the master; and of a master's rows in a table.
-abbrev pub family_of : ℕ → List Row → ℕ → Child
+abbrev pub family_of : ℕ → List Row → ℕ → Option (ℕ × Row)
 family_of i rs parent = nth_of i (children parent 0x4444 Binary (subtree rs parent))
 
-abbrev pub family_in : List ℕ → Below → ℕ → Child
+abbrev pub family_in : List ℕ → Below → ℕ → Option (ℕ × Row)
 family_in t b i = nth_of i (children b.parent 0x4444 Binary (rows_in t b))
 
 -- What is told of it.

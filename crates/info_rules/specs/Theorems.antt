@@ -5,8 +5,7 @@ use Rattle.locate_rules.specs.Theorems.{OneReply, OnlyListed, OnlyHonest, Addres
 use Rattle.locate_rules.specs.Live.{BothModes}
 use Rattle.info_rules.specs.Records.{info_of, family_fields}
 use Rattle.info_rules.specs.Promise.{info_asked, family_asked, InfoPromise, FamilyPromise}
-use Rattle.info_rules.specs.declared.info.InfoReply.TheVariants.{Refused as NoInfo}
-use Rattle.info_rules.specs.declared.family.FamilyReply.TheVariants.{Refused as NoFamily}
+use Rattle.std.specs.Prelude.{Err}
 
 -- Any two replies and tables that a promise permits to one question are equal (document 01, Strength of the promises).
 -- The numbers that stood in the lent table do not matter, only how many there are.
@@ -18,18 +17,18 @@ OneFamily = (live : Bool) (s : List ℕ) (start size k i : ℕ) → OneReply (Fa
 
 -- A refusal among the replies that a promise permits is one of the list (`Listed`).
 pub record InfoRefusesListed : Type 0 where
-  pub info : (live : Bool) (s : List ℕ) (start size k : ℕ) → OnlyListed NoInfo (InfoPromise live s start size k)
+  pub info : (live : Bool) (s : List ℕ) (start size k : ℕ) → OnlyListed Err (InfoPromise live s start size k)
   pub family :
-      (live : Bool) (s : List ℕ) (start size k i : ℕ) → OnlyListed NoFamily (FamilyPromise live s start size k i)
+      (live : Bool) (s : List ℕ) (start size k i : ℕ) → OnlyListed Err (FamilyPromise live s start size k i)
 
 -- Where it broke: the payload's refusals are honest, and 14 and 15 have address 0.
 pub record InfoHonest : Type 0 where
   pub info :
       (live : Bool) (s : List ℕ) (start size k : ℕ)
-      → OnlyHonest live s start size 0x1549A966 NoInfo (InfoPromise live s start size k)
+      → OnlyHonest live s start size 0x1549A966 Err (InfoPromise live s start size k)
   pub family :
       (live : Bool) (s : List ℕ) (start size k i : ℕ)
-      → OnlyHonest live s start size 0x1549A966 NoFamily (FamilyPromise live s start size k i)
+      → OnlyHonest live s start size 0x1549A966 Err (FamilyPromise live s start size k i)
 
 -- Every address in a record that is told is the payload's place of one of the rows that the table holds at exit.
 pub record InfoAddressed : Type 0 where
@@ -44,7 +43,7 @@ pub record InfoAddressed : Type 0 where
 pub record InfoLive : Type 0 where
   pub info :
       (s : List ℕ) (start size k : ℕ)
-      → BothModes s start size 0x1549A966 NoInfo (λ (live : Bool). InfoPromise live s start size k)
+      → BothModes s start size 0x1549A966 Err (λ (live : Bool). InfoPromise live s start size k)
   pub family :
       (s : List ℕ) (start size k i : ℕ)
-      → BothModes s start size 0x1549A966 NoFamily (λ (live : Bool). FamilyPromise live s start size k i)
+      → BothModes s start size 0x1549A966 Err (λ (live : Bool). FamilyPromise live s start size k i)

@@ -4,10 +4,10 @@ use Rattle.fields_rules.specs.Values.{FieldValue, content, count}
 use Rattle.fields_rules.specs.Told.{number_told, content_told, real_told, date_told}
 use Rattle.locate_rules.specs.Told.{Answer, fields, refusal}
 use Rattle.info_rules.specs.declared.info.Info.{Info}
-use Rattle.info_rules.specs.declared.info.InfoReply.{InfoReply}
-use Rattle.info_rules.specs.declared.info.InfoReply.TheVariants.{Info as IsInfo, Refused as NoInfo}
-use Rattle.info_rules.specs.declared.family.FamilyReply.{FamilyReply}
-use Rattle.info_rules.specs.declared.family.FamilyReply.TheVariants.{Family, Refused as NoFamily}
+use Rattle.std.specs.Prelude.{Result, Ok, Err}
+use Rattle.bodies_rules.specs.declared.body.Range.{Range}
+use Rattle.refusals.specs.declared.refusal.Refusal.{Refusal}
+use Rattle.std.specs.Prelude.{ℕ}
 
 -- ---- the fields of the record
 
@@ -27,10 +27,10 @@ info_values a =
 
 -- ---- the replies
 
-abbrev pub info_told : InfoReply → Answer
-info_told (IsInfo a rows) = fields (info_values a) rows
-info_told (NoInfo e) = refusal e
+abbrev pub info_told : Result (Info × ℕ) Refusal → Answer
+info_told (Ok (a, rows)) = fields (info_values a) rows
+info_told (Err e) = refusal e
 
-abbrev pub family_told : FamilyReply → Answer
-family_told (Family uid rows) = fields (content uid.at uid.length ∷ []) rows
-family_told (NoFamily e) = refusal e
+abbrev pub family_told : Result (Range × ℕ) Refusal → Answer
+family_told (Ok (uid, rows)) = fields (content uid.at uid.length ∷ []) rows
+family_told (Err e) = refusal e

@@ -1,27 +1,20 @@
 // Info, and the reply of `info_at`.
-use fields_rules::{Content, Date, Number, Real};
+use bodies_rules::Range;
 use refusals::Refusal;
 
 #[derive(Clone, Copy)]
 pub struct Info {
-    pub uid: Content,
-    pub prev_uid: Content,
-    pub next_uid: Content,
+    pub uid: Option<Range>,
+    pub prev_uid: Option<Range>,
+    pub next_uid: Option<Range>,
     // How many families it belongs to.
     pub families: u64,
-    pub title: Content,
+    pub title: Option<Range>,
     // In units of the timestamp scale.
-    pub duration: Real,
+    pub duration: Option<f64>,
     // In nanoseconds. The crate has no field for it, and takes 1,000,000 where it is unset.
-    pub timestamp_scale: Number,
-    pub date_utc: Date,
-    pub muxing_app: Content,
-    pub writing_app: Content,
-}
-
-// The record with how many rows the table holds, or a refusal.
-#[derive(Clone, Copy)]
-pub enum InfoReply {
-    Info { info: Info, rows: u64 },
-    Refused(Refusal),
+    pub timestamp_scale: Option<u64>,
+    pub date_utc: Option<i64>,
+    pub muxing_app: Option<Range>,
+    pub writing_app: Option<Range>,
 }

@@ -4,5 +4,4 @@
 mod family;
 mod info;
 
-pub use family::FamilyReply;
-pub use info::{Info, InfoReply};
+pub use info::Info;

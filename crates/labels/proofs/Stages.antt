@@ -6,11 +6,10 @@ use native.Mathlib.Omega.{arith}
 use lib.ListN.{length, take, drop}
 use borrow.Author.Tests.{le-leb, lt-leb}
 use Rattle.bodies_rules.specs.declared.body.Range.{Range}
-use Rattle.fields_rules.specs.declared.field.Content.{Content}
-use Rattle.fields_rules.specs.declared.field.Content.TheVariants.{Unset, At}
 use Rattle.shown_rules.specs.Shown.{shown}
 use Rattle.labels.specs.Labels.{or_own, label_of}
 use Rattle.labels.specs.Promise.{LabelPromise}
+use Rattle.std.proofs.Common.{Option, Some, None}
 
 -- ---- an empty text is no label
 
@@ -27,23 +26,23 @@ none_shown (b ∷ text) e = absurd (omega arith)
 
 -- ---- the label by the string
 
-module _ (s own : List ℕ) {string : Content} where
-  pub label_unset : string ≡ Unset → LabelPromise s string own own
+module _ (s own : List ℕ) {string : (Option Range)} where
+  pub label_unset : string ≡ None → LabelPromise s string own own
   unfolding label_of
-  label_unset e = record { reply = sym (ap (λ (x : Content). label_of s x own) e) }
+  label_unset e = record { reply = sym (ap (λ (x : Option Range). label_of s x own) e) }
 
-  module _ {r : Range} (e : string ≡ At r) where
+  module _ {r : Range} (e : string ≡ Some r) where
     pub label_outside : length s < r.at + r.length → LabelPromise s string own own
     unfolding label_of
     label_outside l =
         record {
-          reply = sym (ap (λ (x : Content). label_of s x own) e ∙ rw (lt-leb (r.at + r.length) (length s) l));
+          reply = sym (ap (λ (x : Option Range). label_of s x own) e ∙ rw (lt-leb (r.at + r.length) (length s) l));
         }
 
     module _ (l : r.at + r.length ≤ length s) where
       pub label_in : label_of s string own ≡ or_own (shown (take r.length (drop r.at s))) own
       unfolding label_of
-      label_in = ap (λ (x : Content). label_of s x own) e ∙ rw (le-leb (r.at + r.length) (length s) l)
+      label_in = ap (λ (x : Option Range). label_of s x own) e ∙ rw (le-leb (r.at + r.length) (length s) l)
 
       -- What is shown of the string.
       module _ {text : List ℕ} (m : text ≡ shown (take (r.at + r.length - r.at) (drop r.at s))) where

@@ -11,20 +11,15 @@ use Rattle.kinds.specs.declared.kind.Kind.TheVariants.{Utf8}
 use Rattle.elements_rules.specs.Rows.{width, row_at, rows_of, nth}
 use Rattle.elements_rules.specs.Promise.{zeros, ReadPromise}
 use Rattle.elements_rules.specs.declared.row.Row.{Row}
-use Rattle.elements_rules.specs.declared.reply.ReadReply.TheVariants.{Rows}
 use Rattle.elements_rules.proofs.Numbered.{row_of_law}
 use Rattle.elements_rules.proofs.Readback.{rows_back}
 use Rattle.places_rules.specs.Payload.{range, bytes_of}
 use Rattle.places_rules.specs.Promise.{values_of, RangePromise}
-use Rattle.places_rules.specs.declared.payload.RangeReply.TheVariants.{Range as RangeIs}
 use Rattle.places_rules.proofs.Accepted.{rows_have_ranges}
 use Rattle.fields_rules.specs.Children.{subtree, children, last_of}
 use Rattle.fields_rules.specs.Values.{content, content_in}
 use Rattle.fields_rules.specs.Fields.{content_of}
 use Rattle.fields_rules.specs.Told.{content_told}
-use Rattle.fields_rules.specs.declared.child.Child.{Child}
-use Rattle.fields_rules.specs.declared.child.Child.TheVariants.{At as ChildAt, Absent as NoChild}
-use Rattle.fields_rules.specs.declared.field.Content.TheVariants.{At}
 use Rattle.fields_rules.proofs.Picked.{last_is, fits_kind}
 use Rattle.locate_rules.specs.Asked.{Asked, found, refusing, table_after}
 use Rattle.locate_rules.specs.Promise.{answer_of, of_below}
@@ -35,20 +30,20 @@ use Rattle.chapters.specs.Told.{display_told}
 use Rattle.chapters.specs.Promise.{display_asked, DisplayPromise}
 use Rattle.chapters.specs.Theorems.{string_told}
 use Rattle.chapters.specs.declared.display.ChapterDisplay.{ChapterDisplay}
-use Rattle.chapters.specs.declared.display.DisplayReply.{DisplayReply}
-use Rattle.chapters.specs.declared.display.DisplayReply.TheVariants.{Display, Refused}
 use Rattle.chapters.proofs.Displays.{first_of_displays}
 use Rattle.shown_rules.specs.Shown.{is_text, text_range}
 use Rattle.shown_rules.specs.Promise.{ShownPromise}
 use Rattle.shown_rules.proofs.Accepted.{accepted_shown}
 use Rattle.labels.specs.Theorems.{StageIsShown, ShownBy, FirstIsShown}
 use Rattle.labels.proofs.Inside.{label_is_shown}
+use Rattle.std.proofs.Common.{Result, Option, Ok, Err, Some, None}
+use Rattle.refusals.specs.declared.refusal.Refusal.{Refusal}
 
 -- A part that is told comes from a child.
-from_child : (c : Child) (g : Range) → content g.at g.length ≡ content_in c
-    → (n : ℕ) × (r : Row) × (c ≡ ChildAt n r) × (r.address + r.header ≡ g.at) × (r.payload ≡ g.length)
-from_child NoChild g q = let z : ◌≡◌ {A = ℕ} 0 1 = cc in absurd (omega arith)
-from_child (ChildAt n r) g q = (n, r, refl, cc, cc)
+from_child : (c : Option (ℕ × Row)) (g : Range) → content g.at g.length ≡ content_in c
+    → (n : ℕ) × (r : Row) × (c ≡ Some (n, r)) × (r.address + r.header ≡ g.at) × (r.payload ≡ g.length)
+from_child None g q = let z : ◌≡◌ {A = ℕ} 0 1 = cc in absurd (omega arith)
+from_child (Some (n, r)) g q = (n, r, refl, cc, cc)
 
 -- A row whose kind is UTF-8 is a text row.
 utf8_is_text : (kind : ℕ) → kind ≡ 5 → is_text kind ≡ true
@@ -62,7 +57,7 @@ held_row t' rs n r w l q = sym (row_of_law t' (length rs) n l) ∙ ap (λ (x : L
 
 -- The question was not refused, and the string is the display's first field.
 string_from : (s : List ℕ) (a : Asked) (numbers : ℕ) (d : ChapterDisplay) (rows : ℕ) (g : Range)
-    → display_told (Display d rows) ≡ answer_of (of_below (display_of s)) a → d.string ≡ At g
+    → display_told (Ok (d, rows)) ≡ answer_of (of_below (display_of s)) a → d.string ≡ Some g
     → (rs : List Row) × (master : ℕ) × (a ≡ found rs master) × (rows ≡ length rs)
     × (content g.at g.length ≡ content_in (last_of (children master 0x85 Utf8 (subtree rs master))))
 unfolding display_of content_of
@@ -80,7 +75,7 @@ stage_is_shown live s start size k i j t d rows t' g p w =
     let (there, row) = child_row s rs master known 0x85 Utf8 n r (sym c) in
     let kind = fits_kind master 0x85 Utf8 r (last_is master 0x85 Utf8 (subtree rs master) n r (sym c)).fit in
     let u = p.table ∙ ap (table_after (length t)) a in
-    let read = subst (ReadPromise live s start size 0x45B9 t (Rows (length rs))) (sym u)
+    let read = subst (ReadPromise live s start size 0x45B9 t (Ok (length rs))) (sym u)
     (record_is_read live s start size 0x45B9 t _ rs master a) in
     let held = held_row t' rs n r
     (ap (λ (x : List ℕ). rows_of x (length rs)) u ∙ rows_back rs (zeros (length t - length rs * width))) there row in
@@ -88,7 +83,7 @@ stage_is_shown live s start size k i j t d rows t' g p w =
     let first = ap (λ (x : Row). x.address + x.header) held ∙ at in
     let many = ap (λ (x : Row). x.payload) held ∙ long in
     let at_row = rows_have_ranges live s start size 0x45B9 t (length rs) t' read n there ∙ ap₂ range first many in
-    let place : RangePromise s t' n (RangeIs g) = record { reply = sym (ap values_of at_row) } in
+    let place : RangePromise s t' n (Ok g) = record { reply = sym (ap values_of at_row) } in
     let shown : ShownPromise s t' n (bytes_of s (text_range s t' n)) = record { reply = refl } in
     let shows = accepted_shown live s start size 0x45B9 t (length rs) t' read n there is_text_law _ shown in
     record {
@@ -107,13 +102,13 @@ first_is_shown live s start size k i t replies tables p rs chapter a j g q =
     let first = first_of_displays live s start size k i t replies tables p rs chapter a in
     by (replies j) refl ((first.at j g).0 q).0
   where
-    by : (r : DisplayReply) → replies j ≡ r → string_told r ≡ At g → ShownBy s (replies j) (tables j) g
-    by (Display d rows) e w =
-        let shown : DisplayPromise live s start size k i j t (Display d rows) (tables j) = rw e at (p j) in
+    by : (r : Result (ChapterDisplay × ℕ) Refusal) → replies j ≡ r → string_told r ≡ Some g → ShownBy s (replies j) (tables j) g
+    by (Ok (d, rows)) e w =
+        let shown : DisplayPromise live s start size k i j t (Ok (d, rows)) (tables j) = rw e at (p j) in
         record {
           display = d;
           rows = rows;
           told = e;
           row = stage_is_shown live s start size k i j t d rows (tables j) g shown w;
         }
-    by (Refused e) x w = let z : ◌≡◌ {A = ℕ} 0 1 = cc in absurd (omega arith)
+    by (Err e) x w = let z : ◌≡◌ {A = ℕ} 0 1 = cc in absurd (omega arith)

@@ -1,13 +1,12 @@
 -- Worked labels, as one table: a question about a few octets, and the label. They show the rule of document 02, C-13.
 use Rattle.std.specs.Prelude.{ℕ, ◌≡◌, List, [], ◌∷◌, false, length}
-use Rattle.fields_rules.specs.declared.field.Content.TheVariants.{Unset, At}
 use Rattle.locate_rules.specs.Asked.{Asked, found, refusing}
 use Rattle.locate_rules.specs.Cases.{numbers}
 use Rattle.chapters.specs.First.{first_string}
 use Rattle.chapters.specs.Promise.{chapter_asked}
-use Rattle.chapters.specs.declared.first.FirstString.{FirstString}
-use Rattle.chapters.specs.declared.first.FirstString.TheVariants.{Absent, At as FirstAt}
 use Rattle.labels.specs.Labels.{label_of}
+use Rattle.std.specs.Prelude.{Option, Some, None}
+use Rattle.bodies_rules.specs.declared.body.Range.{Range}
 
 -- A label, and what it has to be.
 pub data Case : Type 0 where
@@ -20,14 +19,14 @@ Hold (case label due ∷ cases) = (label ≡ due) × Hold cases
 
 -- The label that is asked with a range of the recording.
 abbrev label : (s : List ℕ) (at n : ℕ) (own due : List ℕ) → Case
-label s at n own due = case (label_of s (At (record { at = at; length = n })) own) due
+label s at n own due = case (label_of s (Some (record { at = at; length = n })) own) due
 
 -- The label of chapter i of edition k of a whole payload, read in old mode, asked with the chapter's first display with
 -- a set string.
 module _ (s own : List ℕ) where
-  abbrev by_first : FirstString → List ℕ
-  by_first Absent = label_of s Unset own
-  by_first (FirstAt j string) = label_of s (At string) own
+  abbrev by_first : Option (ℕ × Range) → List ℕ
+  by_first None = label_of s None own
+  by_first (Some (j, string)) = label_of s (Some string) own
 
   abbrev by_chapter : Asked → List ℕ
   by_chapter (found rs chapter) = by_first (first_string s rs chapter)

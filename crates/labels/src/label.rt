@@ -1,17 +1,17 @@
 // The stage label: the shown text of a chapter's first display with a set string, or the caller's own label.
 ghost use Rattle.labels.specs.Promise.{LabelPromise};
 
-use fields_rules::Content;
+use bodies_rules::Range;
 use shown::shown_part;
 
 // What is shown of the part of the recording that the string's range names; the caller's own label where nothing is
 // shown, or the range is unset or not in the recording. Nothing is copied, and nothing refused.
-pub fn stage_label<'a>(recording: &'a [u8], string: Content, own: &'a [u8]) -> &'a [u8]
+pub fn stage_label<'a>(recording: &'a [u8], string: Option<Range>, own: &'a [u8]) -> &'a [u8]
     ensures { LabelPromise recording.now string own.now result.now }
 {
     match string {
-        Content::Unset => own,
-        Content::At(range) => {
+        None => own,
+        Some(range) => {
             let at = range.at;
             let length = range.length;
             let end = recording.len() as u64;

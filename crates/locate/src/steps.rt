@@ -8,37 +8,37 @@ ghost use Rattle.locate_rules.specs.Contract.{Numbered, Known, FindMet, LocateMe
 
 use children::{last_child, nth_child, rows_below};
 use elements::read;
-use elements_rules::ReadReply;
-use fields_rules::Child;
+use elements_rules::Row;
+use fields_rules::Below;
 use kinds::Kind;
-use locate_rules::{Found, Located, Spot, Step, Way};
+use locate_rules::{Step, Way};
 use refusals::{Cause, Refusal};
 use rowstore::clear;
 
-fn spot_of(child: Child) -> Spot
+fn spot_of(child: Option<(usize, Row)>) -> Option<usize>
     requires { Numbered child }
     ensures { result ≡ spot_of child }
 {
     match child {
-        Child::Absent => Spot::Absent,
-        Child::At { number, row: _ } => Spot::At(number + 1),
+        None => None,
+        Some((number, _)) => Some(number + 1),
     }
 }
 
 // One step on from a master.
-fn enter(table: &[u64], rows: usize, from: Spot, step: Step) -> Spot
+fn enter(table: &[u64], rows: usize, from: Option<usize>, step: Step) -> Option<usize>
     requires { Ordered table.now rows × Known rows from }
     ensures { result ≡ entered (rows_of table.now rows) from step }
 {
     match from {
-        Spot::Absent => Spot::Absent,
-        Spot::At(parent) => match step {
-            Step::Here => Spot::At(parent),
+        None => None,
+        Some(parent) => match step {
+            Step::Here => Some(parent),
             Step::Only(k) => {
                 if k == 0 {
-                    return Spot::At(parent);
+                    return Some(parent);
                 }
-                Spot::Absent
+                None
             }
             Step::Nth { id, k } => {
                 let master = rows_below(table, rows, parent);
@@ -53,18 +53,18 @@ fn enter(table: &[u64], rows: usize, from: Spot, step: Step) -> Spot
 }
 
 // From the payload that was read, a step for each level: the rows below the master that they lead to.
-pub fn find(table: &[u64], rows: usize, way: Way) -> Found
+pub fn find(table: &[u64], rows: usize, way: Way) -> Option<Below>
     requires { Ordered table.now rows }
     ensures { FindMet table.now rows way result }
 {
     let first = way.first;
     let second = way.second;
     let third = way.third;
-    let one = enter(table, rows, Spot::At(0), first);
+    let one = enter(table, rows, Some(0), first);
     let two = enter(table, rows, one, second);
     match enter(table, rows, two, third) {
-        Spot::Absent => Found::Absent,
-        Spot::At(parent) => Found::At(rows_below(table, rows, parent)),
+        None => None,
+        Some(parent) => Some(rows_below(table, rows, parent)),
     }
 }
 
@@ -78,24 +78,24 @@ pub fn locate(
     parent: u32,
     way: Way,
     table: &mut [u64],
-) -> Located
+) -> Result<(Below, usize), Refusal>
     ensures { LocateMet recording.now
         (asked live recording.now start size parent (length table.old) way)
         (length table.old) result table.new }
 {
     match read(recording, live, start, size, parent, table) {
-        ReadReply::Refused(refusal) => Located::Refused(refusal),
-        ReadReply::Rows(count) => {
+        Err(refusal) => Err(refusal),
+        Ok(count) => {
             let rows = count as usize;
             match find(table, rows, way) {
-                Found::Absent => {
+                None => {
                     clear(table);
-                    Located::Refused(Refusal {
+                    Err(Refusal {
                         address: 0,
                         cause: Cause::Outside,
                     })
                 }
-                Found::At(master) => Located::At { master, rows },
+                Some(master) => Ok((master, rows)),
             }
         }
     }

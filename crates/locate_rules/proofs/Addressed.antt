@@ -18,8 +18,6 @@ use Rattle.fields_rules.specs.Children.{deeper, subtree, children, last_of, nth_
 use Rattle.fields_rules.specs.Values.{FieldValue, text, binary}
 use Rattle.fields_rules.specs.Values.{number_in, flag_in, content_in, real_in, date_in, language_in, value_in}
 use Rattle.fields_rules.specs.Fields.{number_of, flag_of, content_of, real_of, date_of, language_of, value_of, count_of}
-use Rattle.fields_rules.specs.declared.child.Child.{Child}
-use Rattle.fields_rules.specs.declared.child.Child.TheVariants.{At as ChildAt, Absent as NoChild}
 use Rattle.fields_rules.proofs.Picked.{IsChild, last_is, nth_is}
 use Rattle.locate_rules.specs.Steps.{reached}
 use Rattle.locate_rules.specs.Asked.{Asked, found, refusing, settled, sought, asked, has_member, listed}
@@ -28,9 +26,8 @@ use Rattle.locate_rules.specs.Contract.{Known}
 use Rattle.locate_rules.specs.Promise.{RecordPromise}
 use Rattle.locate_rules.specs.Theorems.{PayloadOf, Placed, AllPlaced, Addressed}
 use Rattle.locate_rules.specs.declared.steps.Way.{Way}
-use Rattle.locate_rules.specs.declared.steps.Spot.{Spot}
-use Rattle.locate_rules.specs.declared.steps.Spot.TheVariants.{Absent, At}
 use Rattle.locate_rules.proofs.Ways.{subtree_fits, reached_known}
+use Rattle.std.proofs.Common.{Option, Some, None}
 
 -- ---- a row below a master is one of the rows
 
@@ -75,7 +72,7 @@ module _ (s : List ℕ) (rs : List Row) (parent : ℕ) (l : parent ≤ length rs
 
   -- So is the last one that was found.
   pub child_row : (id : ℕ) (kind : Kind) (n : ℕ) (r : Row)
-      → ChildAt n r ≡ last_of (children parent id kind (subtree rs parent)) → (n < length rs) × (nth rs n ≡ r)
+      → Some (n, r) ≡ last_of (children parent id kind (subtree rs parent)) → (n < length rs) × (nth rs n ≡ r)
   child_row id kind n r e = is_row id kind n r (last_is parent id kind (subtree rs parent) n r e)
 
   -- So its payload is that of a row.
@@ -90,55 +87,55 @@ module _ (s : List ℕ) (rs : List Row) (parent : ℕ) (l : parent ≤ length rs
         long = ap (λ (x : Row). x.payload) q;
       }
 
-  pub number_placed : (c : Child) → Placed rs (number_in s c)
-  number_placed NoChild = tt
-  number_placed (ChildAt n r) = tt
+  pub number_placed : (c : Option (ℕ × Row)) → Placed rs (number_in s c)
+  number_placed None = tt
+  number_placed (Some (n, r)) = tt
 
-  flag_placed : (c : Child) → Placed rs (flag_in s c)
-  flag_placed NoChild = tt
-  flag_placed (ChildAt n r) = tt
+  flag_placed : (c : Option (ℕ × Row)) → Placed rs (flag_in s c)
+  flag_placed None = tt
+  flag_placed (Some (n, r)) = tt
 
-  real_placed : (c : Child) → Placed rs (real_in s c)
-  real_placed NoChild = tt
-  real_placed (ChildAt n r) = tt
+  real_placed : (c : Option (ℕ × Row)) → Placed rs (real_in s c)
+  real_placed None = tt
+  real_placed (Some (n, r)) = tt
 
-  date_placed : (c : Child) → Placed rs (date_in s c)
-  date_placed NoChild = tt
-  date_placed (ChildAt n r) = tt
+  date_placed : (c : Option (ℕ × Row)) → Placed rs (date_in s c)
+  date_placed None = tt
+  date_placed (Some (n, r)) = tt
 
   -- A child whose payload is a row's, if it is there.
-  abbrev Paid : Child → Type 0
-  Paid NoChild = Unit
-  Paid (ChildAt n r) = PayloadOf rs (r.address + r.header) r.payload
+  abbrev Paid : Option (ℕ × Row) → Type 0
+  Paid None = Unit
+  Paid (Some (n, r)) = PayloadOf rs (r.address + r.header) r.payload
 
   paid : (id : ℕ) (kind : Kind) → Paid (last_of (children parent id kind (subtree rs parent)))
   paid id kind = go (last_of (children parent id kind (subtree rs parent))) refl
     where
-      go : (c : Child) → last_of (children parent id kind (subtree rs parent)) ≡ c → Paid c
-      go NoChild e = tt
-      go (ChildAt n r) e = is_payload id kind n r (last_is parent id kind (subtree rs parent) n r (sym e))
+      go : (c : Option (ℕ × Row)) → last_of (children parent id kind (subtree rs parent)) ≡ c → Paid c
+      go None e = tt
+      go (Some (n, r)) e = is_payload id kind n r (last_is parent id kind (subtree rs parent) n r (sym e))
 
   nth_paid : (id : ℕ) (kind : Kind) (k : ℕ) → Paid (nth_of k (children parent id kind (subtree rs parent)))
   nth_paid id kind k = go (nth_of k (children parent id kind (subtree rs parent))) refl
     where
-      go : (c : Child) → nth_of k (children parent id kind (subtree rs parent)) ≡ c → Paid c
-      go NoChild e = tt
-      go (ChildAt n r) e = is_payload id kind n r (nth_is parent id kind (subtree rs parent) k n r (sym e))
+      go : (c : Option (ℕ × Row)) → nth_of k (children parent id kind (subtree rs parent)) ≡ c → Paid c
+      go None e = tt
+      go (Some (n, r)) e = is_payload id kind n r (nth_is parent id kind (subtree rs parent) k n r (sym e))
 
-  part_placed : (c : Child) → Paid c → Placed rs (content_in c)
-  part_placed NoChild p = tt
-  part_placed (ChildAt n r) p = p
+  part_placed : (c : Option (ℕ × Row)) → Paid c → Placed rs (content_in c)
+  part_placed None p = tt
+  part_placed (Some (n, r)) p = p
 
-  language_placed : (c d : Child) → Paid c → Paid d → Placed rs (language_in c d)
-  language_placed (ChildAt n r) d p q = p
-  language_placed NoChild (ChildAt n r) p q = q
-  language_placed NoChild NoChild p q = tt
+  language_placed : (c d : Option (ℕ × Row)) → Paid c → Paid d → Placed rs (language_in c d)
+  language_placed (Some (n, r)) d p q = p
+  language_placed None (Some (n, r)) p q = q
+  language_placed None None p q = tt
 
-  value_placed : (c d : Child) → Paid c → Paid d → Placed rs (value_in c d)
-  value_placed NoChild NoChild p q = tt
-  value_placed (ChildAt n r) NoChild p q = p
-  value_placed NoChild (ChildAt m x) p q = q
-  value_placed (ChildAt n r) (ChildAt m x) p q = go (ltb n m)
+  value_placed : (c d : Option (ℕ × Row)) → Paid c → Paid d → Placed rs (value_in c d)
+  value_placed None None p q = tt
+  value_placed (Some (n, r)) None p q = p
+  value_placed None (Some (m, x)) p q = q
+  value_placed (Some (n, r)) (Some (m, x)) p q = go (ltb n m)
     where
       go : (b : Bool)
           → Placed rs
@@ -196,9 +193,9 @@ abbrev pub Known-in : Asked → Type 0
 Known-in (found rs parent) = parent ≤ length rs
 Known-in (refusing e) = Unit
 
-settled_in : (rs : List Row) (to : Spot) → Known (length rs) to → Known-in (settled rs to)
-settled_in rs Absent k = tt
-settled_in rs (At parent) k = k
+settled_in : (rs : List Row) (to : Option ℕ) → Known (length rs) to → Known-in (settled rs to)
+settled_in rs None k = tt
+settled_in rs (Some parent) k = k
 
 pub asked_in : (live : Bool) (s : List ℕ) (start size parent numbers : ℕ) (w : Way)
     → Known-in (asked live s start size parent numbers w)
@@ -209,13 +206,13 @@ asked_in live s start size parent numbers w = go (read_of live s start size pare
     go (refused e) = tt
     go (done f) = let rs = rows 0 0 start 0 f in settled_in rs (reached rs w) (reached_known rs w)
 
-listed_in : (a : Asked) (member : List Row → ℕ → Child) → Known-in a → Known-in (listed a member)
+listed_in : (a : Asked) (member : List Row → ℕ → Option (ℕ × Row)) → Known-in a → Known-in (listed a member)
 listed_in (refusing e) member k = tt
 listed_in (found rs parent) member k = go (member rs parent)
   where
-    go : (c : Child) → Known-in (has_member (found rs parent) c)
-    go NoChild = tt
-    go (ChildAt n r) = k
+    go : (c : Option (ℕ × Row)) → Known-in (has_member (found rs parent) c)
+    go None = tt
+    go (Some (n, r)) = k
 
 addressed :
     (values : List Row → ℕ → List FieldValue) (a : Asked) (numbers : ℕ) (vs : List FieldValue) (n : ℕ) (t' : List ℕ)
@@ -243,7 +240,7 @@ module _ (live : Bool) (values : List Row → ℕ → List FieldValue)
       addressed values (ask numbers) numbers vs n t' f (asked_in live s start size parent numbers w)
 
   -- The same of a member of one of its lists.
-  pub listed_addressed : (member : List Row → ℕ → Child) → Addressed values (λ numbers. listed (ask numbers) member)
+  pub listed_addressed : (member : List Row → ℕ → Option (ℕ × Row)) → Addressed values (λ numbers. listed (ask numbers) member)
   listed_addressed member numbers vs n t' =
       addressed values (listed (ask numbers) member) numbers vs n t' f
       (listed_in (ask numbers) member (asked_in live s start size parent numbers w))

@@ -14,16 +14,13 @@ use Rattle.elements_rules.specs.Faults.{HonestReading, callers}
 use Rattle.elements_rules.specs.declared.row.Row.{Row}
 use Rattle.elements_rules.proofs.Faults.{reading_honest}
 use Rattle.fields_rules.specs.Values.{FieldValue}
-use Rattle.fields_rules.specs.declared.child.Child.{Child}
-use Rattle.fields_rules.specs.declared.child.Child.TheVariants.{At as ChildAt, Absent as NoChild}
 use Rattle.locate_rules.specs.Steps.{reached}
 use Rattle.locate_rules.specs.Asked.{Asked, found, refusing, settled, sought, asked, has_member, listed}
 use Rattle.locate_rules.specs.Told.{refusal}
 use Rattle.locate_rules.specs.Promise.{answer_of}
 use Rattle.locate_rules.specs.Theorems.{AnswerHonest}
 use Rattle.locate_rules.specs.declared.steps.Way.{Way}
-use Rattle.locate_rules.specs.declared.steps.Spot.{Spot}
-use Rattle.locate_rules.specs.declared.steps.Spot.TheVariants.{Absent, At}
+use Rattle.std.proofs.Common.{Option, Some, None}
 
 -- An answer that refuses is a question that is refused.
 of_answer : (values : List Row → ℕ → List FieldValue) (a : Asked) (e : Refusal) → refusal e ≡ answer_of values a
@@ -43,9 +40,9 @@ module _ (live : Bool) (s : List ℕ) (start size parent numbers : ℕ) where
   unfolding asked
   asked_honest w e q = by (read_of live s start size parent numbers) refl q
     where
-      by_spot : (rs : List Row) (p : Spot) → settled rs p ≡ refusing e → HonestHere e
-      by_spot rs Absent r = none e (cc)
-      by_spot rs (At x) r = let z : ◌≡◌ {A = ℕ} 0 1 = cc in absurd (let y : ⊥ = omega arith in y)
+      by_spot : (rs : List Row) (p : Option ℕ) → settled rs p ≡ refusing e → HonestHere e
+      by_spot rs None r = none e (cc)
+      by_spot rs (Some x) r = let z : ◌≡◌ {A = ℕ} 0 1 = cc in absurd (let y : ⊥ = omega arith in y)
 
       by : (o : Outcome) → read_of live s start size parent numbers ≡ o
           → sought start o (λ rs. reached rs w) ≡ refusing e → HonestHere e
@@ -54,13 +51,13 @@ module _ (live : Bool) (s : List ℕ) (start size parent numbers : ℕ) where
           let i : e' ≡ e = cc in
           reading_honest live s start size parent numbers e (k ∙ ap refused i)
 
-  listed_honest : (w : Way) (member : List Row → ℕ → Child) (e : Refusal)
+  listed_honest : (w : Way) (member : List Row → ℕ → Option (ℕ × Row)) (e : Refusal)
       → listed (asked live s start size parent numbers w) member ≡ refusing e → HonestHere e
   listed_honest w member e q = by (asked live s start size parent numbers w) refl q
     where
-      by_child : (a : Asked) (c : Child) → has_member a c ≡ refusing e → (a ≡ refusing e → HonestHere e) → HonestHere e
-      by_child a NoChild r first = none e (cc)
-      by_child a (ChildAt n x) r first = first r
+      by_child : (a : Asked) (c : Option (ℕ × Row)) → has_member a c ≡ refusing e → (a ≡ refusing e → HonestHere e) → HonestHere e
+      by_child a None r first = none e (cc)
+      by_child a (Some (n, x)) r first = first r
 
       by : (a : Asked) → asked live s start size parent numbers w ≡ a → listed a member ≡ refusing e → HonestHere e
       by (found rs p) k r = by_child (found rs p) (member rs p) r (λ z. asked_honest w e (k ∙ z))

@@ -16,13 +16,13 @@ use Rattle.elements_rules.specs.declared.row.Row.{Row}
 use Rattle.elements_rules.proofs.Faults.{of_test}
 use Rattle.elements_rules.proofs.Live.{read_or, known_reading}
 use Rattle.fields_rules.specs.Values.{FieldValue}
-use Rattle.fields_rules.specs.declared.child.Child.{Child}
 use Rattle.locate_rules.specs.Steps.{reached}
 use Rattle.locate_rules.specs.Asked.{Asked, refusing, sought, asked, listed, table_after}
 use Rattle.locate_rules.specs.Told.{Answer, refusal}
 use Rattle.locate_rules.specs.Promise.{answer_of, RecordPromise}
 use Rattle.locate_rules.specs.Live.{PayloadKnown, BothModes, AnswerModes}
 use Rattle.locate_rules.specs.declared.steps.Way.{Way}
+use Rattle.std.proofs.Common.{Option}
 
 -- ---- what is asked
 
@@ -67,7 +67,7 @@ module _ (s : List ℕ) (start size parent numbers : ℕ) (w : Way) where
       by (seventeen a e) = absurd (not_unknown a k e)
       by (equal e) = ap from e
 
-listed_or : {a b : Asked} (member : List Row → ℕ → Child) → AskedOr a b → AskedOr (listed a member) (listed b member)
+listed_or : {a b : Asked} (member : List Row → ℕ → Option (ℕ × Row)) → AskedOr a b → AskedOr (listed a member) (listed b member)
 listed_or member (inl (a, e)) = inl (a, ap (λ (x : Asked). listed x member) e)
 listed_or member (inr e) = inr (ap (λ (x : Asked). listed x member) e)
 
@@ -125,7 +125,7 @@ module _ {R : Type 0} (told : R → Answer) (refused : Refusal → R) (once : (r
         RecordPromise values (asked live s start size parent (length t) w) (length t) (told r) t')
     record_modes = replies_modes _ (answer_modes.of_record values s start size parent w)
 
-    pub member_modes : (member : List Row → ℕ → Child)
+    pub member_modes : (member : List Row → ℕ → Option (ℕ × Row))
         → BothModes s start size parent refused (λ (live : Bool) (t : List ℕ) (r : R) (t' : List ℕ).
         RecordPromise values (listed (asked live s start size parent (length t) w) member) (length t) (told r) t')
     member_modes member = replies_modes _ (answer_modes.of_member values member s start size parent w)

@@ -14,8 +14,6 @@ use Rattle.elements_rules.specs.Reading.{Outcome, done, refused}
 use Rattle.elements_rules.specs.Rows.{rows, width, flatten, rows_of}
 use Rattle.elements_rules.specs.Promise.{read_of, reply_of, table_of, zeros, ReadPromise}
 use Rattle.elements_rules.specs.declared.row.Row.{Row}
-use Rattle.elements_rules.specs.declared.reply.ReadReply.{ReadReply}
-use Rattle.elements_rules.specs.declared.reply.ReadReply.TheVariants.{Rows, Refused as ReadRefused}
 use Rattle.elements_rules.proofs.Forests.{length_rows}
 use Rattle.elements_rules.proofs.Limits.{within}
 use Rattle.elements_rules.proofs.Numbered.{length_rows_of}
@@ -33,12 +31,8 @@ use Rattle.locate_rules.specs.Theorems.{FilledAfterRead, FoundStands, RecordIsRe
 use Rattle.locate_rules.specs.declared.steps.Step.{Step}
 use Rattle.locate_rules.specs.declared.steps.Step.TheVariants.{Here}
 use Rattle.locate_rules.specs.declared.steps.Way.{Way}
-use Rattle.locate_rules.specs.declared.steps.Spot.{Spot}
-use Rattle.locate_rules.specs.declared.steps.Spot.TheVariants.{Absent, At as SpotAt}
-use Rattle.locate_rules.specs.declared.steps.Found.{Found}
-use Rattle.locate_rules.specs.declared.steps.Found.TheVariants.{Absent as Nowhere, At as FoundAt}
-use Rattle.locate_rules.specs.declared.steps.Located.TheVariants.{At, Refused}
 use Rattle.locate_rules.proofs.Ways.{readable}
+use Rattle.std.proofs.Common.{Result, Option, Ok, Err, Some, None}
 
 -- ---- a filled table
 
@@ -55,8 +49,8 @@ told_refused e (done f) q = cc
 told_refused e (refused g) q = cc
 
 -- The table that an accepted read leaves, whichever reply tells of it.
-module _ {live : Bool} {s : List ℕ} {start size parent : ℕ} {t t₁ : List ℕ} {r : ReadReply}
-    (p : ReadPromise live s start size parent t r t₁) {n : ℕ} (q : r ≡ Rows n) where
+module _ {live : Bool} {s : List ℕ} {start size parent : ℕ} {t t₁ : List ℕ} {r : (Result ℕ Refusal)}
+    (p : ReadPromise live s start size parent t r t₁) {n : ℕ} (q : r ≡ Ok n) where
   accept : Accepted live s start size parent (length t) n t₁
   accept = accepted_read live s start size parent t n t₁ (rw q at p)
 
@@ -77,19 +71,19 @@ module _ {live : Bool} {s : List ℕ} {start size parent : ℕ} {t t₁ : List �
       }
 
   -- A master that was found in it, for the builders of records.
-  module _ {w : Way} {f : Found} (m : FindMet t₁ n w f) {b : Below} (a : f ≡ FoundAt b) where
+  module _ {w : Way} {f : (Option Below)} (m : FindMet t₁ n w f) {b : Below} (a : f ≡ Some b) where
     pub found_stands : Stands s t₁ n b
     found_stands = (find_stands s t₁ n w b read_filled (rw a at m)).0
 
     pub found_readable : Readable s t₁ b
     found_readable = (find_stands s t₁ n w b read_filled (rw a at m)).1
 
-module _ {live : Bool} {s : List ℕ} {start size parent : ℕ} {t t₁ : List ℕ} {r : ReadReply}
+module _ {live : Bool} {s : List ℕ} {start size parent : ℕ} {t t₁ : List ℕ} {r : (Result ℕ Refusal)}
     (p : ReadPromise live s start size parent t r t₁) (w : Way) where
   abbrev question : Asked
   question = asked live s start size parent (length t) w
 
-  pub read_refused : {e : Refusal} → r ≡ ReadRefused e → LocateMet s question (length t) (Refused e) t₁
+  pub read_refused : {e : Refusal} → r ≡ Err e → LocateMet s question (length t) (Err e) t₁
   unfolding asked table_of
   read_refused {e} q =
       let o = told_refused e (read_of live s start size parent (length t)) (rw q at p).reply in
@@ -99,9 +93,9 @@ module _ {live : Bool} {s : List ℕ} {start size parent : ℕ} {t t₁ : List �
         table = p.table ∙ ap (table_of start (length t)) o ∙ sym (ap (table_after (length t)) a);
       }
 
-  module _ {n : ℕ} (q : r ≡ Rows n) where
+  module _ {n : ℕ} (q : r ≡ Ok n) where
     -- Among the rows of the table, the way leads to that spot.
-    pub came : (to : Spot) → reached (rows_of t₁ n) w ≡ to → question ≡ settled (rows_of t₁ n) to
+    pub came : (to : Option ℕ) → reached (rows_of t₁ n) w ≡ to → question ≡ settled (rows_of t₁ n) to
     unfolding asked
     came to e =
         let a = accept p q in
@@ -119,16 +113,16 @@ module _ {live : Bool} {s : List ℕ} {start size parent : ℕ} {t t₁ : List �
         ∙ ap (λ (x : List Row). flatten x ++ zeros (length t - count a.forest * width)) (sym a.rows_are)
         ∙ ap (λ (x : ℕ). flatten (rows_of t₁ n) ++ zeros (length t - x * width)) l
 
-    module _ {f : Found} (m : FindMet t₁ n w f) where
-      pub found_none : {e : Refusal} {t' : List ℕ} → f ≡ Nowhere → e ≡ no_record → t' ≡ zeros (length t₁)
-          → LocateMet s question (length t) (Refused e) t'
+    module _ {f : (Option Below)} (m : FindMet t₁ n w f) where
+      pub found_none : {e : Refusal} {t' : List ℕ} → f ≡ None → e ≡ no_record → t' ≡ zeros (length t₁)
+          → LocateMet s question (length t) (Err e) t'
       found_none {e} a b z =
-          let d : question ≡ refusing e = came Absent (rw a at m).leads ∙ ap refusing (sym b) in
+          let d : question ≡ refusing e = came None (rw a at m).leads ∙ ap refusing (sym b) in
           record { reply = d; table = z ∙ zeros_as (accept p q).as_long ∙ sym (ap (table_after (length t)) d) }
 
-      pub found_at : {b : Below} → f ≡ FoundAt b → LocateMet s question (length t) (At b n) t₁
+      pub found_at : {b : Below} → f ≡ Some b → LocateMet s question (length t) (Ok (b, n)) t₁
       found_at {b} a =
-          let d = came (SpotAt b.parent) (rw a at m).leads.0 in
+          let d = came (Some b.parent) (rw a at m).leads.0 in
           record {
             reply = (d, found_stands p q m a);
             table = kept ∙ sym (ap (table_after (length t)) d);
@@ -140,11 +134,11 @@ filled_after_read live s start size parent t n t' p = read_filled p refl
 -- ---- one level further: from a master that was found, the third step leads on
 
 module _ (first second third : Step) where
-  further_from : (us : List Row) (at : Spot) (rs : List Row) (master : ℕ)
+  further_from : (us : List Row) (at : Option ℕ) (rs : List Row) (master : ℕ)
       → settled us (entered us at Here) ≡ found rs master
       → settled us (entered us at third) ≡ settled rs (stepped rs master third)
-  further_from us Absent rs master q = cc
-  further_from us (SpotAt p) rs master q =
+  further_from us None rs master q = cc
+  further_from us (Some p) rs master q =
       let e : us ≡ rs = cc in
       let m : p ≡ master = cc in
       ap (λ (x : List Row). settled x (stepped x p third)) e ∙ ap (λ (x : ℕ). settled rs (stepped rs x third)) m
@@ -160,13 +154,13 @@ module _ (first second third : Step) where
       go (refused e) q = cc
       go (done f) q =
           let us = rows 0 0 start 0 f in
-          further_from us (entered us (entered us (SpotAt 0) first) second) rs master q
+          further_from us (entered us (entered us (Some 0) first) second) rs master q
 
 -- ---- a question that is not refused is a read
 
-settled_found : (rs : List Row) (to : Spot) (us : List Row) (master : ℕ) → settled rs to ≡ found us master → us ≡ rs
-settled_found rs Absent us master q = let z : ◌≡◌ {A = ℕ} 0 1 = cc in absurd (omega arith)
-settled_found rs (SpotAt to) us master q = let z : rs ≡ us = cc in sym z
+settled_found : (rs : List Row) (to : Option ℕ) (us : List Row) (master : ℕ) → settled rs to ≡ found us master → us ≡ rs
+settled_found rs None us master q = let z : ◌≡◌ {A = ℕ} 0 1 = cc in absurd (omega arith)
+settled_found rs (Some to) us master q = let z : rs ≡ us = cc in sym z
 
 pub record_is_read : RecordIsRead
 unfolding asked table_of
@@ -175,7 +169,7 @@ record_is_read live s start size parent t w rs master q =
   where
     go : (o : Outcome) → read_of live s start size parent (length t) ≡ o
         → sought start o (λ us. reached us w) ≡ found rs master
-        → ReadPromise live s start size parent t (Rows (length rs)) (table_after (length t) (found rs master))
+        → ReadPromise live s start size parent t (Ok (length rs)) (table_after (length t) (found rs master))
     go (refused e) h q = let z : ◌≡◌ {A = ℕ} 0 1 = cc in absurd (omega arith)
     go (done f) h q =
         let us = rows 0 0 start 0 f in

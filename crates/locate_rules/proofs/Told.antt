@@ -15,16 +15,15 @@ use Rattle.locate_rules.specs.Asked.{Asked}
 use Rattle.locate_rules.specs.Told.{fields, refusal}
 use Rattle.locate_rules.specs.Contract.{Stands, LocateMet}
 use Rattle.locate_rules.specs.Promise.{answer_of, RecordPromise, of_below}
-use Rattle.locate_rules.specs.declared.steps.Located.{Located}
-use Rattle.locate_rules.specs.declared.steps.Located.TheVariants.{At, Refused}
 use Rattle.locate_rules.proofs.Ways.{readable}
+use Rattle.std.proofs.Common.{Result, Ok, Err}
 
-module _ {s : List ℕ} {a : Asked} {numbers : ℕ} {r : Located} {t' : List ℕ} (p : LocateMet s a numbers r t') where
-  pub told_refused : {values : List Row → ℕ → List FieldValue} {e : Refusal} → r ≡ Refused e
+module _ {s : List ℕ} {a : Asked} {numbers : ℕ} {r : (Result (Below × ℕ) Refusal)} {t' : List ℕ} (p : LocateMet s a numbers r t') where
+  pub told_refused : {values : List Row → ℕ → List FieldValue} {e : Refusal} → r ≡ Err e
       → RecordPromise values a numbers (refusal e) t'
   told_refused {values} q = record { reply = sym (ap (answer_of values) (rw q at p).reply); table = p.table }
 
-  module _ {b : Below} {n : ℕ} (q : r ≡ At b n) where
+  module _ {b : Below} {n : ℕ} (q : r ≡ Ok (b, n)) where
     pub stands_at : Stands s t' n b
     stands_at = (rw q at p).reply.1
 
@@ -44,7 +43,7 @@ module _ {s : List ℕ} {a : Asked} {numbers : ℕ} {r : Located} {t' : List ℕ
         }
 
 -- The same of a record that is built of the rows below its master.
-module _ (values : List ℕ → ℕ → List Row → List FieldValue) {s : List ℕ} {a : Asked} {numbers : ℕ} {r : Located} where
-  pub told_below : {t' : List ℕ} {b : Below} {n : ℕ} {vs : List FieldValue} → LocateMet s a numbers r t' → r ≡ At b n
+module _ (values : List ℕ → ℕ → List Row → List FieldValue) {s : List ℕ} {a : Asked} {numbers : ℕ} {r : (Result (Below × ℕ) Refusal)} where
+  pub told_below : {t' : List ℕ} {b : Below} {n : ℕ} {vs : List FieldValue} → LocateMet s a numbers r t' → r ≡ Ok (b, n)
       → vs ≡ values s b.parent (rows_in t' b) → RecordPromise (of_below (values s)) a numbers (fields vs n) t'
   told_below {b = b} p q e = told_found p q (e ∙ ap (values s b.parent) (stands_at p q).below.are)

@@ -16,17 +16,13 @@ use Rattle.elements_rules.proofs.Numbered.{length_rows_of}
 use Rattle.fields_rules.specs.Children.{deeper, subtree, children, last_of, nth_of, rows_in}
 use Rattle.fields_rules.specs.Contract.{BelowIs, Within, Readable}
 use Rattle.fields_rules.specs.declared.child.Below.{Below}
-use Rattle.fields_rules.specs.declared.child.Child.{Child}
-use Rattle.fields_rules.specs.declared.child.Child.TheVariants.{At as ChildAt, Absent as NoChild}
 use Rattle.fields_rules.proofs.Picked.{IsChild, last_is, nth_is}
 use Rattle.locate_rules.specs.Steps.{spot_of, stepped, entered, reached}
 use Rattle.locate_rules.specs.Contract.{Known, Numbered, Stands, FindMet}
 use Rattle.locate_rules.specs.declared.steps.Step.{Step}
 use Rattle.locate_rules.specs.declared.steps.Step.TheVariants.{Here, Only, Nth, Last}
 use Rattle.locate_rules.specs.declared.steps.Way.{Way}
-use Rattle.locate_rules.specs.declared.steps.Spot.{Spot}
-use Rattle.locate_rules.specs.declared.steps.Spot.TheVariants.{Absent, At}
-use Rattle.locate_rules.specs.declared.steps.Found.TheVariants.{Absent as Nowhere, At as FoundAt}
+use Rattle.std.proofs.Common.{Option, Some, None}
 
 -- ---- the rows below a master are some of the rows
 
@@ -95,23 +91,23 @@ module _ (rs : List Row) (parent id : ℕ) (kind : Kind) (l : parent ≤ length 
   child_known : (n : ℕ) (r : Row) → IsChild (subtree rs parent) parent parent id kind n r → suc n ≤ length rs
   child_known n r i = let f = subtree_fits rs parent l in omega (arith, i.before)
 
-  nth_known : (k n : ℕ) (r : Row) → ChildAt n r ≡ nth_of k (children parent id kind (subtree rs parent))
+  nth_known : (k n : ℕ) (r : Row) → Some (n, r) ≡ nth_of k (children parent id kind (subtree rs parent))
       → suc n ≤ length rs
   nth_known k n r e = child_known n r (nth_is parent id kind (subtree rs parent) k n r e)
 
-  pub last_known : (n : ℕ) (r : Row) → ChildAt n r ≡ last_of (children parent id kind (subtree rs parent))
+  pub last_known : (n : ℕ) (r : Row) → Some (n, r) ≡ last_of (children parent id kind (subtree rs parent))
       → suc n ≤ length rs
   last_known n r e = child_known n r (last_is parent id kind (subtree rs parent) n r e)
 
 -- ---- a step
 
 module _ (rs : List Row) where
-  spot_known : (c : Child) → ((n : ℕ) (r : Row) → ChildAt n r ≡ c → suc n ≤ length rs)
+  spot_known : (c : Option (ℕ × Row)) → ((n : ℕ) (r : Row) → Some (n, r) ≡ c → suc n ≤ length rs)
       → Known (length rs) (spot_of c)
-  spot_known NoChild f = tt
-  spot_known (ChildAt n r) f = f n r refl
+  spot_known None f = tt
+  spot_known (Some (n, r)) f = f n r refl
 
-  only_known : (b : Bool) (parent : ℕ) → parent ≤ length rs → Known (length rs) (cond b (At parent) Absent)
+  only_known : (b : Bool) (parent : ℕ) → parent ≤ length rs → Known (length rs) (cond b (Some parent) None)
   only_known true parent l = l
   only_known false parent l = tt
 
@@ -123,24 +119,24 @@ module _ (rs : List Row) where
   stepped_known parent (Last id) l =
       spot_known (last_of (children parent id Master (subtree rs parent))) (last_known rs parent id Master l)
 
-  entered_known : (from : Spot) (step : Step) → Known (length rs) from → Known (length rs) (entered rs from step)
-  entered_known Absent step l = tt
-  entered_known (At parent) step l = stepped_known parent step l
+  entered_known : (from : Option ℕ) (step : Step) → Known (length rs) from → Known (length rs) (entered rs from step)
+  entered_known None step l = tt
+  entered_known (Some parent) step l = stepped_known parent step l
 
   -- Where a way leads is one of the rows.
   pub reached_known : (w : Way) → Known (length rs) (reached rs w)
   unfolding reached
   reached_known w =
-      let one = entered_known (At 0) w.first (omega arith) in
-      let two = entered_known (entered rs (At 0) w.first) w.second one in
-      entered_known (entered rs (entered rs (At 0) w.first) w.second) w.third two
+      let one = entered_known (Some 0) w.first (omega arith) in
+      let two = entered_known (entered rs (Some 0) w.first) w.second one in
+      entered_known (entered rs (entered rs (Some 0) w.first) w.second) w.third two
 
 -- ---- as the code has it: the rows of a table, and the spot that it came to
 
-pub known_at : {rows : ℕ} {from : Spot} {parent : ℕ} → Known rows from → from ≡ At parent → parent ≤ rows
+pub known_at : {rows : ℕ} {from : (Option ℕ)} {parent : ℕ} → Known rows from → from ≡ Some parent → parent ≤ rows
 known_at {rows} l e = subst (Known rows) e l
 
-pub still_known : (t : List ℕ) (rows : ℕ) (from to : Spot) (step : Step) → Known rows from
+pub still_known : (t : List ℕ) (rows : ℕ) (from to : Option ℕ) (step : Step) → Known rows from
     → to ≡ entered (rows_of t rows) from step → Known rows to
 still_known t rows from to step l e =
     let c = length_rows_of t rows in
@@ -157,12 +153,12 @@ module _ {t : List ℕ} {rows parent : ℕ} {b : Below} (m : BelowIs t rows pare
   low : parent ≤ length (rows_of t rows)
   low = omega (arith, length_rows_of t rows, m.master, m.some, m.held)
 
-  numbered : rows < 2 ^ 64 → (c : Child) → ((n : ℕ) (r : Row) → ChildAt n r ≡ c → suc n ≤ length (rows_of t rows))
+  numbered : rows < 2 ^ 64 → (c : Option (ℕ × Row)) → ((n : ℕ) (r : Row) → Some (n, r) ≡ c → suc n ≤ length (rows_of t rows))
       → Numbered c
-  numbered u NoChild f = tt
-  numbered u (ChildAt n r) f = omega (arith, length_rows_of t rows, f n r refl)
+  numbered u None f = tt
+  numbered u (Some (n, r)) f = omega (arith, length_rows_of t rows, f n r refl)
 
-  module _ (id : ℕ) {c : Child} where
+  module _ (id : ℕ) {c : (Option (ℕ × Row))} where
     pub nth_numbered : (k : ℕ) → rows < 2 ^ 64 → c ≡ nth_of k (children b.parent id Master (rows_in t b))
         → Numbered c
     nth_numbered k u e =
@@ -173,7 +169,7 @@ module _ {t : List ℕ} {rows parent : ℕ} {b : Below} (m : BelowIs t rows pare
         numbered u c (λ n r q. last_known _ parent id Master low n r (q ∙ e ∙ ap last_of (kids id Master)))
 
   -- A step to a child.
-  module _ {id : ℕ} {from to : Spot} {step : Step} (a : from ≡ At parent) {c : Child} (q : to ≡ spot_of c) where
+  module _ {id : ℕ} {from to : (Option ℕ)} {step : Step} (a : from ≡ Some parent) {c : (Option (ℕ × Row))} (q : to ≡ spot_of c) where
     pub nth_step : {k : ℕ} → step ≡ Nth id k → c ≡ nth_of k (children b.parent id Master (rows_in t b))
         → to ≡ entered (rows_of t rows) from step
     nth_step {k} f e = rw (a, f) (q ∙ ap spot_of (e ∙ ap (nth_of k) (kids id Master)))
@@ -182,42 +178,42 @@ module _ {t : List ℕ} {rows parent : ℕ} {b : Below} (m : BelowIs t rows pare
         → to ≡ entered (rows_of t rows) from step
     last_step f e = rw (a, f) (q ∙ ap spot_of (e ∙ ap last_of (kids id Master)))
 
-pub spot_fits : {c : Child} {n : ℕ} {r : Row} → Numbered c → c ≡ ChildAt n r → n + 1 < 2 ^ 64
+pub spot_fits : {c : (Option (ℕ × Row))} {n : ℕ} {r : Row} → Numbered c → c ≡ Some (n, r) → n + 1 < 2 ^ 64
 spot_fits l e = let g = subst Numbered e l in omega arith
 
-pub spot_at : {c : Child} {n : ℕ} {r : Row} → c ≡ ChildAt n r → At (n + 1) ≡ spot_of c
+pub spot_at : {c : (Option (ℕ × Row))} {n : ℕ} {r : Row} → c ≡ Some (n, r) → Some (n + 1) ≡ spot_of c
 spot_at {c} {n} e = let m : n + 1 ≡ suc n = omega arith in rw (e, m)
 
 -- A step that stays.
-module _ (rs : List Row) (step : Step) {from : Spot} where
-  pub none_from : from ≡ Absent → Absent ≡ entered rs from step
+module _ (rs : List Row) (step : Step) {from : (Option ℕ)} where
+  pub none_from : from ≡ None → None ≡ entered rs from step
   none_from a = rw a
 
-  module _ {parent : ℕ} (a : from ≡ At parent) where
-    pub stays : step ≡ Here → At parent ≡ entered rs from step
+  module _ {parent : ℕ} (a : from ≡ Some parent) where
+    pub stays : step ≡ Here → Some parent ≡ entered rs from step
     stays f = rw (a, f)
 
-    pub only_here : {k : ℕ} → step ≡ Only k → k ≡ 0 → At parent ≡ entered rs from step
+    pub only_here : {k : ℕ} → step ≡ Only k → k ≡ 0 → Some parent ≡ entered rs from step
     only_here {k} f z = rw (a, f, eq-eqb k 0 z)
 
-    pub only_none : {k : ℕ} → step ≡ Only k → (k ≡ 0 → ⊥) → Absent ≡ entered rs from step
+    pub only_none : {k : ℕ} → step ≡ Only k → (k ≡ 0 → ⊥) → None ≡ entered rs from step
     only_none {k} f z = rw (a, f, ne_eqb k 0 z)
 
 -- The way is a step for each level.
-module _ (t : List ℕ) (rows : ℕ) (w : Way) {one two to : Spot} (a : one ≡ entered (rows_of t rows) (At 0) w.first)
+module _ (t : List ℕ) (rows : ℕ) (w : Way) {one two to : (Option ℕ)} (a : one ≡ entered (rows_of t rows) (Some 0) w.first)
     (b : two ≡ entered (rows_of t rows) one w.second) (c : to ≡ entered (rows_of t rows) two w.third) where
   gone : to ≡ reached (rows_of t rows) w
   unfolding reached
   gone = rw (c, b, a) refl
 
-  pub leads_nowhere : to ≡ Absent → FindMet t rows w Nowhere
+  pub leads_nowhere : to ≡ None → FindMet t rows w None
   leads_nowhere e = record { leads = sym gone ∙ e }
 
-  pub leads_to : {parent : ℕ} {m : Below} → to ≡ At parent → BelowIs t rows parent m → FindMet t rows w (FoundAt m)
+  pub leads_to : {parent : ℕ} {m : Below} → to ≡ Some parent → BelowIs t rows parent m → FindMet t rows w (Some m)
   leads_to {parent} {m} e h =
       record {
         leads = (
-          sym gone ∙ e ∙ ap At (sym h.master),
+          sym gone ∙ e ∙ ap Some (sym h.master),
           subst (λ (x : ℕ). BelowIs t rows x m) (sym h.master) h,
         );
       }

@@ -7,24 +7,21 @@ use Rattle.elements_rules.specs.Reading.{Outcome, done, refused}
 use Rattle.elements_rules.specs.Rows.{rows_at, width, flatten}
 use Rattle.elements_rules.specs.Promise.{read_of, zeros}
 use Rattle.elements_rules.specs.declared.row.Row.{Row}
-use Rattle.fields_rules.specs.declared.child.Child.{Child}
-use Rattle.fields_rules.specs.declared.child.Child.TheVariants.{At as ChildAt, Absent as NoChild}
 use Rattle.locate_rules.specs.Steps.{reached}
 use Rattle.locate_rules.specs.declared.steps.Way.{Way}
-use Rattle.locate_rules.specs.declared.steps.Spot.{Spot}
-use Rattle.locate_rules.specs.declared.steps.Spot.TheVariants.{Absent, At}
+use Rattle.std.specs.Prelude.{Option, Some, None}
 
 -- The rows that were read and the master among them, told as in a row's parent; or a refusal.
 pub data Asked : Type 0 where
   found : List Row → ℕ → Asked
   refusing : Refusal → Asked
 
-abbrev pub settled : List Row → Spot → Asked
-settled rs Absent = refusing no_record
-settled rs (At parent) = found rs parent
+abbrev pub settled : List Row → Option ℕ → Asked
+settled rs None = refusing no_record
+settled rs (Some parent) = found rs parent
 
 -- What is sought among the rows of a read.
-abbrev pub sought : ℕ → Outcome → (List Row → Spot) → Asked
+abbrev pub sought : ℕ → Outcome → (List Row → Option ℕ) → Asked
 sought start (done f) way = settled (rows_at start f) (way (rows_at start f))
 sought start (refused e) way = refusing e
 
@@ -33,11 +30,11 @@ unfoldable pub asked : (live : Bool) → List ℕ → (start size parent numbers
 asked live s start size parent numbers w = sought start (read_of live s start size parent numbers) (λ rs. reached rs w)
 
 -- And 15 where the master has no such child.
-abbrev pub has_member : Asked → Child → Asked
-has_member a NoChild = refusing no_record
-has_member a (ChildAt n r) = a
+abbrev pub has_member : Asked → Option (ℕ × Row) → Asked
+has_member a None = refusing no_record
+has_member a (Some (n, r)) = a
 
-abbrev pub listed : Asked → (List Row → ℕ → Child) → Asked
+abbrev pub listed : Asked → (List Row → ℕ → Option (ℕ × Row)) → Asked
 listed (found rs parent) member = has_member (found rs parent) (member rs parent)
 listed (refusing e) member = refusing e
 

@@ -9,11 +9,11 @@ use Rattle.elements_rules.specs.Faults.{Comes}
 use Rattle.elements_rules.specs.Live.{AllKnown}
 use Rattle.elements_rules.specs.declared.row.Row.{Row}
 use Rattle.fields_rules.specs.Values.{FieldValue}
-use Rattle.fields_rules.specs.declared.child.Child.{Child}
 use Rattle.locate_rules.specs.Asked.{asked, listed}
 use Rattle.locate_rules.specs.Told.{Answer, refusal}
 use Rattle.locate_rules.specs.Promise.{RecordPromise}
 use Rattle.locate_rules.specs.declared.steps.Way.{Way}
+use Rattle.std.specs.Prelude.{Option}
 
 -- No header that old mode reads in the payload, with a table of so many numbers, has an unknown size; it reads none
 -- where it ends in 14.
@@ -45,7 +45,7 @@ pub record AnswerModes : Type 0 where
       → BothModes s start size parent refusal (λ (live : Bool) (t : List ℕ) (x : Answer) (t' : List ℕ).
       RecordPromise values (asked live s start size parent (length t) w) (length t) x t')
   pub of_member :
-      (values : List Row → ℕ → List FieldValue) (member : List Row → ℕ → Child) (s : List ℕ)
+      (values : List Row → ℕ → List FieldValue) (member : List Row → ℕ → Option (ℕ × Row)) (s : List ℕ)
       (start size parent : ℕ) (w : Way)
       → BothModes s start size parent refusal (λ (live : Bool) (t : List ℕ) (x : Answer) (t' : List ℕ).
       RecordPromise values (listed (asked live s start size parent (length t) w) member) (length t) x t')

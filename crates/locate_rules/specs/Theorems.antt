@@ -6,18 +6,16 @@ use Rattle.elements_rules.specs.Rows.{rows_of, nth}
 use Rattle.elements_rules.specs.Promise.{ReadPromise}
 use Rattle.elements_rules.specs.Faults.{HonestReading}
 use Rattle.elements_rules.specs.declared.row.Row.{Row}
-use Rattle.elements_rules.specs.declared.reply.ReadReply.TheVariants.{Rows}
 use Rattle.fields_rules.specs.Values.{FieldValue, unset, number, flag, content, iso, ietf, text, binary, real, date}
 use Rattle.fields_rules.specs.Values.{count}
 use Rattle.fields_rules.specs.Contract.{Readable}
 use Rattle.fields_rules.specs.declared.child.Below.{Below}
-use Rattle.fields_rules.specs.declared.child.Child.{Child}
 use Rattle.locate_rules.specs.Asked.{Asked, found, asked, listed, table_after}
 use Rattle.locate_rules.specs.Told.{Answer, fields, refusal}
 use Rattle.locate_rules.specs.Contract.{Filled, Stands, FindMet}
 use Rattle.locate_rules.specs.Promise.{RecordPromise}
 use Rattle.locate_rules.specs.declared.steps.Way.{Way}
-use Rattle.locate_rules.specs.declared.steps.Found.TheVariants.{At}
+use Rattle.std.specs.Prelude.{Option, Ok, Some}
 
 -- Any two answers and tables that the promise permits to one question are equal (document 01, Strength of the
 -- promises). The numbers that stood in the lent table do not matter, only how many there are.
@@ -53,7 +51,7 @@ pub record AnswerHonest : Type 0 where
       → RecordPromise values (asked live s start size parent numbers w) numbers (refusal e) t'
       → HonestReading live s start size parent numbers e
   pub of_member :
-      (live : Bool) (values : List Row → ℕ → List FieldValue) (member : List Row → ℕ → Child) (s : List ℕ)
+      (live : Bool) (values : List Row → ℕ → List FieldValue) (member : List Row → ℕ → Option (ℕ × Row)) (s : List ℕ)
       (start size parent numbers : ℕ) (w : Way) (e : Refusal) (t' : List ℕ)
       → RecordPromise values (listed (asked live s start size parent numbers w) member) numbers (refusal e) t'
       → HonestReading live s start size parent numbers e
@@ -97,13 +95,13 @@ Addressed values ask =
 abbrev pub FilledAfterRead : Type 0
 FilledAfterRead =
     (live : Bool) (s : List ℕ) (start size parent : ℕ) (t : List ℕ) (n : ℕ) (t' : List ℕ)
-    → ReadPromise live s start size parent t (Rows n) t' → Filled s t' n
+    → ReadPromise live s start size parent t (Ok n) t' → Filled s t' n
 
 -- And a master that `find` gives in it stands there: the builders ask no more, those that need the other rows too ask
 -- `Stands`, the others `Readable`.
 abbrev pub FoundStands : Type 0
 FoundStands =
-    (s t : List ℕ) (rows : ℕ) (w : Way) (b : Below) → Filled s t rows → FindMet t rows w (At b)
+    (s t : List ℕ) (rows : ℕ) (w : Way) (b : Below) → Filled s t rows → FindMet t rows w (Some b)
     → Stands s t rows b × Readable s t b
 
 -- A question that is not refused leaves the table that the public read leaves, and counts its rows: all that is proved
@@ -112,7 +110,7 @@ abbrev pub RecordIsRead : Type 0
 RecordIsRead =
     (live : Bool) (s : List ℕ) (start size parent : ℕ) (t : List ℕ) (w : Way) (rs : List Row) (master : ℕ)
     → asked live s start size parent (length t) w ≡ found rs master
-    → ReadPromise live s start size parent t (Rows (length rs)) (table_after (length t) (found rs master))
+    → ReadPromise live s start size parent t (Ok (length rs)) (table_after (length t) (found rs master))
 
 -- The same of the promise itself: a record that is told leaves the table that the public read leaves, and counts its
 -- rows.
@@ -121,12 +119,12 @@ AnswerIsRead =
     (live : Bool) (values : List Row → ℕ → List FieldValue) (s : List ℕ) (start size parent : ℕ) (t : List ℕ) (w : Way)
     (vs : List FieldValue) (n : ℕ) (t' : List ℕ)
     → RecordPromise values (asked live s start size parent (length t) w) (length t) (fields vs n) t'
-    → ReadPromise live s start size parent t (Rows n) t'
+    → ReadPromise live s start size parent t (Ok n) t'
 
 -- And of the question for a list member.
 abbrev pub MemberIsRead : Type 0
 MemberIsRead =
-    (live : Bool) (values : List Row → ℕ → List FieldValue) (member : List Row → ℕ → Child) (s : List ℕ)
+    (live : Bool) (values : List Row → ℕ → List FieldValue) (member : List Row → ℕ → Option (ℕ × Row)) (s : List ℕ)
     (start size parent : ℕ) (t : List ℕ) (w : Way) (vs : List FieldValue) (n : ℕ) (t' : List ℕ)
     → RecordPromise values (listed (asked live s start size parent (length t) w) member) (length t) (fields vs n) t'
-    → ReadPromise live s start size parent t (Rows n) t'
+    → ReadPromise live s start size parent t (Ok n) t'

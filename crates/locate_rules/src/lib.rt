@@ -4,4 +4,4 @@
 
 mod steps;
 
-pub use steps::{Found, Located, Spot, Step, Way};
+pub use steps::{Step, Way};

@@ -21,24 +21,3 @@ pub struct Way {
     pub second: Step,
     pub third: Step,
 }
-
-// A master: its row number plus 1, or 0 for the payload that was read; or that there is none.
-#[derive(Clone, Copy)]
-pub enum Spot {
-    Absent,
-    At(usize),
-}
-
-// The rows below the master that a way leads to, or that it leads to none.
-#[derive(Clone, Copy)]
-pub enum Found {
-    Absent,
-    At(Below),
-}
-
-// The rows below the master that was asked for, and how many rows there are in all; or a refusal.
-#[derive(Clone, Copy)]
-pub enum Located {
-    At { master: Below, rows: usize },
-    Refused(Refusal),
-}

@@ -10,8 +10,9 @@ use fields::{number_field, real_field};
 use fields_rules::Below;
 use kinds::ids;
 use locate::locate;
-use locate_rules::{Located, Step, Way};
-use media_rules::{Audio, AudioReply};
+use locate_rules::{Step, Way};
+use media_rules::Audio;
+use refusals::Refusal;
 
 // The audio settings, by the rows below their master.
 pub fn audio_in(recording: &[u8], table: &[u64], master: Below) -> Audio
@@ -34,7 +35,7 @@ pub fn audio_at(
     size: u64,
     k: u64,
     table: &mut [u64],
-) -> AudioReply
+) -> Result<(Audio, u64), Refusal>
     ensures { AudioPromise live recording.now start size k
         table.old result table.new }
 {
@@ -44,10 +45,7 @@ pub fn audio_at(
         third: Step::Here,
     };
     match locate(recording, live, start, size, ids::AUDIO, way, table) {
-        Located::Refused(refusal) => AudioReply::Refused(refusal),
-        Located::At { master, rows } => AudioReply::Audio {
-            audio: audio_in(recording, table, master),
-            rows: rows as u64,
-        },
+        Err(refusal) => Err(refusal),
+        Ok((master, rows)) => Ok((audio_in(recording, table, master), rows as u64)),
     }
 }

@@ -10,20 +10,20 @@ ghost use Rattle.media_rules.specs.Told.{video_values};
 
 use crate::stereo::stereo_of;
 use fields::{number_field, real_field};
-use fields_rules::{Below, Flag, Number};
+use fields_rules::Below;
 use kinds::ids;
 use media_rules::Video;
 
 // 1 is yes and 2 is no; any other number is unset.
-fn interlaced_of(number: Number) -> Flag
+fn interlaced_of(number: Option<u64>) -> Option<bool>
     ensures { flag_told result ≡ said interlaced number }
 {
     match number {
-        Number::Unset => Flag::Unset,
-        Number::Is(n) => match n {
-            1 => Flag::Yes,
-            2 => Flag::No,
-            _ => Flag::Unset,
+        None => None,
+        Some(n) => match n {
+            1 => Some(true),
+            2 => Some(false),
+            _ => None,
         },
     }
 }

@@ -10,8 +10,6 @@ use Rattle.elements_rules.specs.declared.row.Row.{Row}
 use Rattle.fields_rules.specs.Children.{subtree}
 use Rattle.fields_rules.specs.Values.{FieldValue, unset, number, flag}
 use Rattle.fields_rules.specs.Fields.{last_child}
-use Rattle.fields_rules.specs.declared.child.Child.{Child}
-use Rattle.fields_rules.specs.declared.child.Child.TheVariants.{At as ChildAt, Absent as NoChild}
 use Rattle.locate_rules.specs.Theorems.{Placed, AllPlaced}
 use Rattle.locate_rules.proofs.Addressed.{numbers, reals, asked_addressed}
 use Rattle.media_rules.specs.Said.{said_in, said_of}
@@ -19,6 +17,7 @@ use Rattle.codes.specs.Stereo.{modes}
 use Rattle.media_rules.specs.Video.{interlaced, stereo}
 use Rattle.media_rules.specs.Records.{audio_of, video_of}
 use Rattle.media_rules.specs.Theorems.{MediaAddressed}
+use Rattle.std.proofs.Common.{Option, Some, None}
 
 -- What a number says is placed, if it is so for each number.
 pub said_placed : (rs : List Row) (says : ℕ → FieldValue) → ((n : ℕ) → Placed rs (says n))
@@ -26,9 +25,9 @@ pub said_placed : (rs : List Row) (says : ℕ → FieldValue) → ((n : ℕ) →
 unfolding said_of
 said_placed rs says p s parent below id = go (last_child s parent below id Uint)
   where
-    go : (c : Child) → Placed rs (said_in says s c)
-    go NoChild = tt
-    go (ChildAt n r) = p _
+    go : (c : Option (ℕ × Row)) → Placed rs (said_in says s c)
+    go None = tt
+    go (Some (n, r)) = p _
 
 one_placed : (rs : List Row) (b : Bool) (v w : FieldValue) → Placed rs v → Placed rs w → Placed rs (cond b v w)
 one_placed rs true v w p q = p

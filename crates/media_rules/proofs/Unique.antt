@@ -11,19 +11,19 @@ use Rattle.media_rules.specs.Told.{stereo_told, audio_values, video_values, audi
 use Rattle.media_rules.specs.Promise.{audio_asked}
 use Rattle.media_rules.specs.Theorems.{OneAudio, MediaRefuseListed, MediaHonest, MediaLive}
 use Rattle.media_rules.specs.declared.audio.Audio.{Audio}
-use Rattle.media_rules.specs.declared.audio.AudioReply.{AudioReply}
-use Rattle.media_rules.specs.declared.audio.AudioReply.TheVariants.{Audio as IsAudio, Refused as NoAudio}
-use Rattle.media_rules.specs.declared.stereo.Stereo.{Stereo}
-use Rattle.media_rules.specs.declared.stereo.Stereo.TheVariants.{Unset, Is}
 use Rattle.media_rules.specs.declared.video.Video.{Video}
+use Rattle.std.proofs.Common.{Result, Option, Ok, Err, Some, None}
+use Rattle.refusals.specs.declared.refusal.Refusal.{Refusal}
+use Rattle.codes.specs.declared.stereo.StereoMode.{StereoMode}
+use Prim.Native.Nat.{ℕ}
 
 -- ---- the fields tell the record
 
-stereo_once : (x y : Stereo) → stereo_told x ≡ stereo_told y → x ≡ y
-stereo_once Unset Unset q = refl
-stereo_once Unset (Is m) q = cc
-stereo_once (Is m) Unset q = cc
-stereo_once (Is m) (Is n) q = cc (mode_once m n (cc))
+stereo_once : (x y : Option StereoMode) → stereo_told x ≡ stereo_told y → x ≡ y
+stereo_once None None q = refl
+stereo_once None (Some m) q = cc
+stereo_once (Some m) None q = cc
+stereo_once (Some m) (Some n) q = cc (mode_once m n (cc))
 
 pub audio_once : (a b : Audio) → audio_values a ≡ audio_values b → a ≡ b
 audio_once a b q i =
@@ -47,11 +47,11 @@ video_once a b q i =
 
 -- ---- document 01's values tell the reply
 
-audio_told_law : (r r' : AudioReply) → audio_told r ≡ audio_told r' → r ≡ r'
-audio_told_law (IsAudio a n) (IsAudio b m) q = cc (audio_once a b (cc))
-audio_told_law (IsAudio a n) (NoAudio e) q = cc
-audio_told_law (NoAudio e) (IsAudio b m) q = cc
-audio_told_law (NoAudio e) (NoAudio f) q = cc
+audio_told_law : (r r' : Result (Audio × ℕ) Refusal) → audio_told r ≡ audio_told r' → r ≡ r'
+audio_told_law (Ok (a, n)) (Ok (b, m)) q = cc (audio_once a b (cc))
+audio_told_law (Ok (a, n)) (Err e) q = cc
+audio_told_law (Err e) (Ok (b, m)) q = cc
+audio_told_law (Err e) (Err f) q = cc
 
 -- ---- the theorems
 
@@ -68,5 +68,5 @@ media_honest = record {
 
 pub media_live : MediaLive
 media_live = record {
-  audio = λ s start size k. record_modes audio_told NoAudio audio_told_law (λ e. refl) _ s start size _ _;
+  audio = λ s start size k. record_modes audio_told Err audio_told_law (λ e. refl) _ s start size _ _;
 }

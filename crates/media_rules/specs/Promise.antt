@@ -6,7 +6,9 @@ use Rattle.locate_rules.specs.Promise.{RecordPromise, of_below}
 use Rattle.locate_rules.specs.declared.steps.Step.TheVariants.{Here, Only}
 use Rattle.media_rules.specs.Records.{audio_of}
 use Rattle.media_rules.specs.Told.{audio_told}
-use Rattle.media_rules.specs.declared.audio.AudioReply.{AudioReply}
+use Rattle.std.specs.Prelude.{Result}
+use Rattle.media_rules.specs.declared.audio.Audio.{Audio}
+use Rattle.refusals.specs.declared.refusal.Refusal.{Refusal}
 
 -- ---- the questions, with a table of so many numbers
 
@@ -19,6 +21,6 @@ module _ (live : Bool) (s : List ℕ) (start size k : ℕ) where
 -- ---- the promises
 
 abbrev pub AudioPromise :
-    (live : Bool) (s : List ℕ) (start size k : ℕ) (t : List ℕ) (r : AudioReply) (t' : List ℕ) → Type 0
+    (live : Bool) (s : List ℕ) (start size k : ℕ) (t : List ℕ) (r : Result (Audio × ℕ) Refusal) (t' : List ℕ) → Type 0
 AudioPromise live s start size k t r t' =
     RecordPromise (of_below (audio_of s)) (audio_asked live s start size k (length t)) (length t) (audio_told r) t'

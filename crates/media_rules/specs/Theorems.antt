@@ -5,7 +5,7 @@ use Rattle.locate_rules.specs.Theorems.{OneReply, OnlyListed, OnlyHonest, Addres
 use Rattle.locate_rules.specs.Live.{BothModes}
 use Rattle.media_rules.specs.Records.{audio_of}
 use Rattle.media_rules.specs.Promise.{audio_asked, AudioPromise}
-use Rattle.media_rules.specs.declared.audio.AudioReply.TheVariants.{Refused as NoAudio}
+use Rattle.std.specs.Prelude.{Err}
 
 -- Any two replies and tables that a promise permits to one question are equal (document 01, Strength of the promises).
 -- The numbers that stood in the lent table do not matter, only how many there are.
@@ -14,13 +14,13 @@ OneAudio = (live : Bool) (s : List ℕ) (start size k : ℕ) → OneReply (Audio
 
 -- A refusal among the replies that the promise permits is one of the list (`Listed`).
 pub record MediaRefuseListed : Type 0 where
-  pub audio : (live : Bool) (s : List ℕ) (start size k : ℕ) → OnlyListed NoAudio (AudioPromise live s start size k)
+  pub audio : (live : Bool) (s : List ℕ) (start size k : ℕ) → OnlyListed Err (AudioPromise live s start size k)
 
 -- Where it broke: the payload's refusals are honest, and 14 and 15 have address 0.
 pub record MediaHonest : Type 0 where
   pub audio :
       (live : Bool) (s : List ℕ) (start size k : ℕ)
-      → OnlyHonest live s start size 0xE1 NoAudio (AudioPromise live s start size k)
+      → OnlyHonest live s start size 0xE1 Err (AudioPromise live s start size k)
 
 -- Every address in a record that is told is the payload's place of one of the rows that the table holds at exit.
 pub record MediaAddressed : Type 0 where
@@ -32,4 +32,4 @@ pub record MediaAddressed : Type 0 where
 pub record MediaLive : Type 0 where
   pub audio :
       (s : List ℕ) (start size k : ℕ)
-      → BothModes s start size 0xE1 NoAudio (λ (live : Bool). AudioPromise live s start size k)
+      → BothModes s start size 0xE1 Err (λ (live : Bool). AudioPromise live s start size k)

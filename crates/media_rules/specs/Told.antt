@@ -5,17 +5,17 @@ use Rattle.fields_rules.specs.Told.{number_told, flag_told, real_told}
 use Rattle.locate_rules.specs.Told.{Answer, fields, refusal}
 use Rattle.codes.specs.Stereo.{stereo_number}
 use Rattle.media_rules.specs.declared.audio.Audio.{Audio}
-use Rattle.media_rules.specs.declared.audio.AudioReply.{AudioReply}
-use Rattle.media_rules.specs.declared.audio.AudioReply.TheVariants.{Audio as IsAudio, Refused as NoAudio}
-use Rattle.media_rules.specs.declared.stereo.Stereo.{Stereo}
-use Rattle.media_rules.specs.declared.stereo.Stereo.TheVariants.{Unset, Is}
 use Rattle.media_rules.specs.declared.video.Video.{Video}
+use Rattle.std.specs.Prelude.{Result, Option, Ok, Err, Some, None}
+use Rattle.refusals.specs.declared.refusal.Refusal.{Refusal}
+use Rattle.codes.specs.declared.stereo.StereoMode.{StereoMode}
+use Rattle.std.specs.Prelude.{ℕ}
 
 -- ---- a stereo mode, by its number
 
-abbrev pub stereo_told : Stereo → FieldValue
-stereo_told Unset = unset
-stereo_told (Is mode) = number (stereo_number mode)
+abbrev pub stereo_told : Option StereoMode → FieldValue
+stereo_told None = unset
+stereo_told (Some mode) = number (stereo_number mode)
 
 -- ---- the fields of a record
 
@@ -35,6 +35,6 @@ video_values v =
 
 -- ---- the replies
 
-abbrev pub audio_told : AudioReply → Answer
-audio_told (IsAudio a rows) = fields (audio_values a) rows
-audio_told (NoAudio e) = refusal e
+abbrev pub audio_told : Result (Audio × ℕ) Refusal → Answer
+audio_told (Ok (a, rows)) = fields (audio_values a) rows
+audio_told (Err e) = refusal e

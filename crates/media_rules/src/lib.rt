@@ -5,6 +5,5 @@ mod audio;
 mod stereo;
 mod video;
 
-pub use audio::{Audio, AudioReply};
-pub use stereo::Stereo;
+pub use audio::Audio;
 pub use video::Video;

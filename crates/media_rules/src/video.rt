@@ -1,15 +1,14 @@
 // The settings of a video track.
-use crate::stereo::Stereo;
-use fields_rules::{Flag, Number, Real};
+use codes::StereoMode;
 
 // By value; the gamma is a 64-bit float.
 #[derive(Clone, Copy)]
 pub struct Video {
-    pub pixel_width: Number,
-    pub pixel_height: Number,
-    pub display_width: Number,
-    pub display_height: Number,
-    pub interlaced: Flag,
-    pub stereo: Stereo,
-    pub gamma: Real,
+    pub pixel_width: Option<u64>,
+    pub pixel_height: Option<u64>,
+    pub display_width: Option<u64>,
+    pub display_height: Option<u64>,
+    pub interlaced: Option<bool>,
+    pub stereo: Option<StereoMode>,
+    pub gamma: Option<f64>,
 }

@@ -4,8 +4,8 @@ ghost use Rattle.std.specs.Float.{binary32, binary64};
 ghost use Rattle.kinds.specs.declared.kind.Kind.TheVariants.{Float};
 ghost use Rattle.bodies_rules.specs.Reads.{body_read};
 
-use bodies_rules::{Body, BodyRead, Value};
-use header::{Cursor, NumberRead};
+use bodies_rules::{Body, Value};
+use header::Cursor;
 use refusals::Cause;
 
 // The float that a pattern of 32 bits is, widened exactly.
@@ -31,26 +31,20 @@ pub fn float_of_8(pattern: u64) -> f64
 }
 
 // A float of 4 or 8 bytes.
-pub fn read_float(place: Cursor, recording: &[u8], size: u64) -> BodyRead
+pub fn read_float(place: Cursor, recording: &[u8], size: u64) -> Result<(Body, Cursor), Cause>
     ensures { result ≡ body_read Float recording.now place.at size }
 {
     if size == 4 {
         return match place.number(recording, 4) {
-            NumberRead::Ends => BodyRead::Refused(Cause::PastEnd),
-            NumberRead::Number(pattern, next) => BodyRead::Read(
-                Body::Value(Value::Float(float_of_4(pattern))),
-                next,
-            ),
+            None => Err(Cause::PastEnd),
+            Some((pattern, next)) => Ok((Body::Value(Value::Float(float_of_4(pattern))), next)),
         };
     }
     if size != 8 {
-        return BodyRead::Refused(Cause::InvalidFloat);
+        return Err(Cause::InvalidFloat);
     }
     match place.number(recording, 8) {
-        NumberRead::Ends => BodyRead::Refused(Cause::PastEnd),
-        NumberRead::Number(pattern, next) => BodyRead::Read(
-            Body::Value(Value::Float(float_of_8(pattern))),
-            next,
-        ),
+        None => Err(Cause::PastEnd),
+        Some((pattern, next)) => Ok((Body::Value(Value::Float(float_of_8(pattern))), next)),
     }
 }

@@ -4,8 +4,8 @@ ghost use Rattle.kinds.specs.declared.kind.Kind.TheVariants.{Int, Uint, Date};
 ghost use Rattle.bodies_rules.specs.Numbers.{signed_of};
 ghost use Rattle.bodies_rules.specs.Reads.{body_read};
 
-use bodies_rules::{Body, BodyRead, Value};
-use header::{Cursor, NumberRead};
+use bodies_rules::{Body, Value};
+use header::Cursor;
 use refusals::Cause;
 
 // The number that v is as two's complement of n bytes.
@@ -26,49 +26,40 @@ pub fn signed(v: u64, n: u64) -> i64
 }
 
 // A signed integer of 0 to 8 bytes.
-pub fn read_int(place: Cursor, recording: &[u8], size: u64) -> BodyRead
+pub fn read_int(place: Cursor, recording: &[u8], size: u64) -> Result<(Body, Cursor), Cause>
     ensures { result ≡ body_read Int recording.now place.at size }
 {
     if 8 < size {
-        return BodyRead::Refused(Cause::InvalidUint);
+        return Err(Cause::InvalidUint);
     }
     match place.number(recording, size) {
-        NumberRead::Ends => BodyRead::Refused(Cause::PastEnd),
-        NumberRead::Number(value, next) => BodyRead::Read(
-            Body::Value(Value::Integer(signed(value, size))),
-            next,
-        ),
+        None => Err(Cause::PastEnd),
+        Some((value, next)) => Ok((Body::Value(Value::Integer(signed(value, size))), next)),
     }
 }
 
 // An unsigned integer of 0 to 8 bytes.
-pub fn read_uint(place: Cursor, recording: &[u8], size: u64) -> BodyRead
+pub fn read_uint(place: Cursor, recording: &[u8], size: u64) -> Result<(Body, Cursor), Cause>
     ensures { result ≡ body_read Uint recording.now place.at size }
 {
     if 8 < size {
-        return BodyRead::Refused(Cause::InvalidUint);
+        return Err(Cause::InvalidUint);
     }
     match place.number(recording, size) {
-        NumberRead::Ends => BodyRead::Refused(Cause::PastEnd),
-        NumberRead::Number(value, next) => BodyRead::Read(
-            Body::Value(Value::Unsigned(value)),
-            next,
-        ),
+        None => Err(Cause::PastEnd),
+        Some((value, next)) => Ok((Body::Value(Value::Unsigned(value)), next)),
     }
 }
 
 // A date of 8 bytes: a signed integer that counts nanoseconds.
-pub fn read_date(place: Cursor, recording: &[u8], size: u64) -> BodyRead
+pub fn read_date(place: Cursor, recording: &[u8], size: u64) -> Result<(Body, Cursor), Cause>
     ensures { result ≡ body_read Date recording.now place.at size }
 {
     if size != 8 {
-        return BodyRead::Refused(Cause::InvalidDate);
+        return Err(Cause::InvalidDate);
     }
     match place.number(recording, size) {
-        NumberRead::Ends => BodyRead::Refused(Cause::PastEnd),
-        NumberRead::Number(value, next) => BodyRead::Read(
-            Body::Value(Value::Date(signed(value, size))),
-            next,
-        ),
+        None => Err(Cause::PastEnd),
+        Some((value, next)) => Ok((Body::Value(Value::Date(signed(value, size))), next)),
     }
 }

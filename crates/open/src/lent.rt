@@ -5,10 +5,10 @@ ghost use Rattle.elements_rules.specs.Contract.{ClearFrom};
 ghost use Rattle.open_rules.specs.Contract.{ReadInto};
 
 use elements::read_again;
-use elements_rules::ReadReply;
 use header::Headed;
 use kinds::ids;
 use open_rules::Which;
+use refusals::Refusal;
 use rowstore::clear;
 
 // Fills all five with zeros.
@@ -43,7 +43,7 @@ pub fn read_part(
     attachments: &mut [u64],
     chapters: &mut [u64],
     tags: &mut [u64],
-) -> ReadReply
+) -> Result<u64, Refusal>
     requires { ClearFrom rows (of (five info.old tracks.old attachments.old chapters.old tags.old)
         which) }
     ensures { ReadInto live recording.now which part.payload.at part.header.size

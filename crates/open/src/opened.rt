@@ -5,8 +5,9 @@ ghost use Rattle.open_rules.specs.Promise.{OpenPromise};
 ghost use Rattle.open_rules.specs.Contract.{Begins, Ran};
 
 use crate::lent::{clear_all, read_part};
-use open_rules::{OpenReply, Part, Parts, Stage, Turn};
+use open_rules::{Part, Parts, Stage, Turn};
 use opening::{begin, known_after, rows_of, stage_after, turn};
+use refusals::Refusal;
 
 // The turns from the first stage on, with cleared tables.
 fn run(
@@ -18,7 +19,7 @@ fn run(
     attachments: &mut [u64],
     chapters: &mut [u64],
     tags: &mut [u64],
-) -> OpenReply
+) -> Result<(Parts, u64), Refusal>
     requires begins { Begins live recording.now (sizes_of (five info.old tracks.old attachments.old chapters.old
         tags.old)) first }
     requires tags_value { five info.old tracks.old attachments.old chapters.old tags.old ≡ zeroed (sizes_of
@@ -75,7 +76,7 @@ pub fn open(
     attachments: &mut [u64],
     chapters: &mut [u64],
     tags: &mut [u64],
-) -> OpenReply
+) -> Result<(Parts, u64), Refusal>
     ensures { OpenPromise live recording.now
         (five info.old tracks.old attachments.old chapters.old
         tags.old) result
@@ -94,10 +95,10 @@ pub fn open(
         chapters,
         tags,
     ) {
-        OpenReply::Refused(refusal) => {
+        Err(refusal) => {
             clear_all(info, tracks, attachments, chapters, tags);
-            OpenReply::Refused(refusal)
+            Err(refusal)
         }
-        OpenReply::Read { parts, heads } => OpenReply::Read { parts, heads },
+        Ok((parts, heads)) => Ok((parts, heads)),
     }
 }

@@ -10,21 +10,14 @@ use lib.ListN.{length}
 use lib.Dec.{eqb}
 use borrow.Author.Tests.{eqb-true}
 use Rattle.header.specs.declared.cursor.Headed.{Headed}
-use Rattle.header.specs.declared.cursor.HeaderRead.{HeaderRead}
-use Rattle.header.specs.declared.cursor.HeaderRead.TheVariants.{Read as HeaderIs}
 use Rattle.kinds.specs.Kinds.{member}
 use Rattle.elements_rules.specs.Forest.{count}
 use Rattle.elements_rules.specs.Reading.{Outcome, done}
 use Rattle.elements_rules.specs.Reading.{refused as unread}
 use Rattle.elements_rules.specs.Promise.{allowed, ReadPromise}
-use Rattle.elements_rules.specs.declared.reply.ReadReply.TheVariants.{Rows}
 use Rattle.walks_rules.specs.Step.{child_at, on_child}
 use Rattle.walks_rules.specs.Walk.{ends, over, on_passed}
 use Rattle.walks_rules.specs.Endings.{room_of}
-use Rattle.walks_rules.specs.declared.step.ChildRead.{ChildRead}
-use Rattle.walks_rules.specs.declared.step.ChildRead.TheVariants.{Child, End as Ended, Refused}
-use Rattle.walks_rules.specs.declared.pass.Passed.{Passed}
-use Rattle.walks_rules.specs.declared.pass.Passed.TheVariants.{At, Refused as Lost}
 use Rattle.seekhead_rules.specs.Seeks.{seek_head_id}
 use Rattle.seekhead_rules.specs.Table.{latest}
 use Rattle.seekchain_rules.specs.Answers.{on_outcome}
@@ -33,16 +26,14 @@ use Rattle.seekchain_rules.specs.Lookup.{Lookup, part_at}
 use Rattle.seekchain_rules.specs.Lookup.{found as found_at, absent as absent_at, stopped as stopped_at}
 use Rattle.seekchain_rules.specs.Contract.{place_told}
 use Rattle.seekchain_rules.specs.Theorems.{IsAt}
-use Rattle.seekchain_rules.specs.declared.lookup.PartPlace.TheVariants.{Found as PlaceFound, Absent as PlaceAbsent}
 use Rattle.segments_rules.specs.Segment.{stretch_of, part_ids, aims_at, meets, meeting, met_from}
 use Rattle.segments_rules.specs.Segment.{lookup_of}
 use Rattle.segments_rules.specs.declared.walk.Aim.{Aim}
 use Rattle.segments_rules.specs.declared.walk.Aim.TheVariants.{One}
-use Rattle.segments_rules.specs.declared.walk.Met.TheVariants.{Head, Part as PartIs, End, Refused as Unmet}
+use Rattle.segments_rules.specs.declared.walk.Met.TheVariants.{Head, Part as PartIs, End}
 use Rattle.segments_rules.proofs.Meetings.{Reached, passed, visited, along_unfolds, less, head_met, search_as}
 use Rattle.search_rules.specs.Part.{PartPromise}
 use Rattle.search_rules.specs.Part.{parent_of as searched_under}
-use Rattle.search_rules.specs.declared.part.Parent.TheVariants.{Id}
 use Rattle.search_rules.proofs.Finding.{find_absent, find_rows}
 use Rattle.open_rules.specs.Parts.{id_of, which_of, parent_of, order, no_parts, part_of, placed}
 use Rattle.open_rules.specs.Tables.{Tables, Sizes, sizes_of, of, part_read}
@@ -55,10 +46,11 @@ use Rattle.open_rules.specs.declared.parts.Which.TheVariants.{Info, Tracks, Atta
 use Rattle.open_rules.specs.declared.parts.Part.{Part}
 use Rattle.open_rules.specs.declared.parts.Part.TheVariants.{Absent, Found}
 use Rattle.open_rules.specs.declared.parts.Parts.{Parts}
-use Rattle.open_rules.specs.declared.reply.OpenReply.TheVariants.{Read}
 use Rattle.open_rules.proofs.Going.{never}
 use Rattle.open_rules.proofs.Unique.{reply_read, size_of, all_zeroed}
 use Rattle.open_rules.proofs.Found.{each_part, which_of_law, looked_up, led, same_heads, opened, open_is_read}
+use Rattle.std.proofs.Common.{Result, Option, Ok, Err, Some, None}
+use Rattle.refusals.specs.declared.refusal.Refusal.{Refusal}
 
 -- ---- the parts by their ids
 
@@ -67,15 +59,15 @@ other_placed : (ps : Parts) (w v : Which) (p : Part) → eqb (id_of w) (id_of v)
     → part_of (placed ps w p) v ≡ part_of ps v
 other_placed ps w v p q = at w v ∙ ap (λ (b : Bool). cond b p (part_of ps v)) q
   where
-    At : Which → Which → Type 0
-    At x y = part_of (placed ps x p) y ≡ cond (eqb (id_of x) (id_of y)) p (part_of ps y)
+    Ok : Which → Which → Type 0
+    Ok x y = part_of (placed ps x p) y ≡ cond (eqb (id_of x) (id_of y)) p (part_of ps y)
 
-    at : (x y : Which) → At x y
-    at Info = each_part (At Info) refl refl refl refl refl
-    at Tracks = each_part (At Tracks) refl refl refl refl refl
-    at Attachments = each_part (At Attachments) refl refl refl refl refl
-    at Chapters = each_part (At Chapters) refl refl refl refl refl
-    at Tags = each_part (At Tags) refl refl refl refl refl
+    at : (x y : Which) → Ok x y
+    at Info = each_part (Ok Info) refl refl refl refl refl
+    at Tracks = each_part (Ok Tracks) refl refl refl refl refl
+    at Attachments = each_part (Ok Attachments) refl refl refl refl refl
+    at Chapters = each_part (Ok Chapters) refl refl refl refl refl
+    at Tags = each_part (Ok Tags) refl refl refl refl refl
 
 own_placed : (ps : Parts) (which : Which) (p : Part) → part_of (placed ps which p) which ≡ p
 own_placed ps which p = each_part (λ v. part_of (placed ps v p) v ≡ p) refl refl refl refl refl which
@@ -108,12 +100,12 @@ module _ (live : Bool) (s : List ℕ) (n : Sizes) (segment : Headed) (which : Wh
 
   abbrev Leads : ℕ → Type 0
   Leads at =
-      (ps : Parts) → met_from live s aim segment at ≡ Head head → children_from live s n segment at ps ≡ read qs hs
+      (ps : Parts) → met_from live s aim segment at ≡ Ok (Head head) → children_from live s n segment at ps ≡ read qs hs
       → Comes ps
 
   by_turn : (at : ℕ)
-      → ((e : Headed) (next : ℕ) → child_at live s (stretch_of live s segment) at ≡ Child e
-      → passed live s segment e ≡ At next → Leads next)
+      → ((e : Headed) (next : ℕ) → child_at live s (stretch_of live s segment) at ≡ Ok (Some e)
+      → passed live s segment e ≡ Ok next → Leads next)
       → Leads at
   unfolding meets aims_at visit
   by_turn at more ps m k =
@@ -122,18 +114,18 @@ module _ (live : Bool) (s : List ℕ) (n : Sizes) (segment : Headed) (which : Wh
       (sym (along_unfolds live s segment (opening live s n segment) at ps) ∙ k)
     where
       -- Behind a child that both pass over.
-      by_pass : (e : Headed) → child_at live s (stretch_of live s segment) at ≡ Child e
-          → (rs : Parts) → part_of rs which ≡ part_of ps which → (y : Passed) → passed live s segment e ≡ y
-          → on_passed y Unmet (λ next. met_from live s aim segment next) ≡ Head head
+      by_pass : (e : Headed) → child_at live s (stretch_of live s segment) at ≡ Ok (Some e)
+          → (rs : Parts) → part_of rs which ≡ part_of ps which → (y : Result ℕ Refusal) → passed live s segment e ≡ y
+          → on_passed y Err (λ next. met_from live s aim segment next) ≡ Ok (Head head)
           → on_passed y refused (λ next. children_from live s n segment next rs) ≡ read qs hs → Comes ps
-      by_pass e q rs j (At next) p m k =
+      by_pass e q rs j (Ok next) p m k =
           let c = more e next q p rs m k in
           record { rest = c.rest; same = c.same ∙ j; leads = c.leads }
-      by_pass e q rs j (Lost r) p m k = never k
+      by_pass e q rs j (Err r) p m k = never k
 
-      by_read : (e : Headed) → child_at live s (stretch_of live s segment) at ≡ Child e
+      by_read : (e : Headed) → child_at live s (stretch_of live s segment) at ≡ Ok (Some e)
           → eqb e.header.id (id_of which) ≡ false → member e.header.id part_ids ≡ true
-          → on_passed (passed live s segment e) Unmet (λ next. met_from live s aim segment next) ≡ Head head
+          → on_passed (passed live s segment e) Err (λ next. met_from live s aim segment next) ≡ Ok (Head head)
           → (o : Outcome)
           → visited live s segment (opening live s n segment) e
           (on_outcome o (λ r. ends (refused r)) (λ f.
@@ -147,11 +139,11 @@ module _ (live : Bool) (s : List ℕ) (n : Sizes) (segment : Headed) (which : Wh
           (passed live s segment e) refl m k
       by_read e q c d m (unread r) k = never k
 
-      by_id : (e : Headed) → child_at live s (stretch_of live s segment) at ≡ Child e
+      by_id : (e : Headed) → child_at live s (stretch_of live s segment) at ≡ Ok (Some e)
           → (b : Bool) → eqb e.header.id seek_head_id ≡ b → (c : Bool) → eqb e.header.id (id_of which) ≡ c
           → (d : Bool) → member e.header.id part_ids ≡ d
-          → visited live s segment (meeting aim) e (cond b (ends (Head e)) (cond c (ends (PartIs e)) (over tt)))
-          ≡ Head head
+          → visited live s segment (meeting aim) e (cond b (ends (Ok (Head e))) (cond c (ends (Ok (PartIs e))) (over tt)))
+          ≡ Ok (Head head)
           → visited live s segment (opening live s n segment) e
           (cond b (ends (by_heads_all live s n start e ps))
           (cond d (taken live s n (which_of e.header.id) e ps (λ r. ends (refused r)) over) (over ps)))
@@ -169,17 +161,17 @@ module _ (live : Bool) (s : List ℕ) (n : Sizes) (segment : Headed) (which : Wh
           by_read e q i j m (part_read live s n (which_of e.header.id) e.payload.at e.header.size) k
       by_id e q false h false i false j m k = by_pass e q ps refl (passed live s segment e) refl m k
 
-      by : (x : ChildRead) → child_at live s (stretch_of live s segment) at ≡ x
-          → on_child x End Unmet (λ e. visited live s segment (meeting aim) e (meets aim e)) ≡ Head head
+      by : (x : Result (Option Headed) Refusal) → child_at live s (stretch_of live s segment) at ≡ x
+          → on_child x (Ok End) Err (λ e. visited live s segment (meeting aim) e (meets aim e)) ≡ Ok (Head head)
           → on_child x (read ps []) refused (λ e.
           visited live s segment (opening live s n segment) e (visit live s n segment ps e))
           ≡ read qs hs
           → Comes ps
-      by (Child e) q m k =
+      by (Ok (Some e)) q m k =
           by_id e q (eqb e.header.id seek_head_id) refl (eqb e.header.id (id_of which)) refl
           (member e.header.id part_ids) refl m k
-      by Ended q m k = let z : ◌≡◌ {A = ℕ} 0 1 = cc in absurd (omega arith)
-      by (Refused r) q m k = never k
+      by (Ok None) q m k = let z : ◌≡◌ {A = ℕ} 0 1 = cc in absurd (omega arith)
+      by (Err r) q m k = never k
 
   within_room : (m at : ℕ) → room_of s (stretch_of live s segment) at ≤ m → Leads at
   within_room zero at k =
@@ -317,7 +309,7 @@ chain_read live s n start head ps qs hs q = by (linked_heads live s start head) 
 -- ---- the search
 
 -- It reads a part under the same parent.
-same_parent : (which : Which) (parent : ℕ) → searched_under (id_of which) ≡ Id parent → parent_of which ≡ parent
+same_parent : (which : Which) (parent : ℕ) → searched_under (id_of which) ≡ Some parent → parent_of which ≡ parent
 unfolding searched_under
 same_parent Info parent q = let z : ◌≡◌ {A = ℕ} 0 1 = cc in absurd (omega arith)
 same_parent Tracks parent q = cc
@@ -338,13 +330,13 @@ table_allowed s n q =
     let (d, e) = both (allowed s 0 n.chapters) _ q₃ in
     each_part (λ v. allowed s 0 (of n v) ≡ true) a b c d e
 
-one_segment : {x : HeaderRead} {e d : Headed} → x ≡ HeaderIs e → x ≡ HeaderIs d → e ≡ d
+one_segment : {x : (Result Headed Refusal)} {e d : Headed} → x ≡ Ok e → x ≡ Ok d → e ≡ d
 one_segment p q = cc
 
 -- What the search tells where the chain of the head is as it is for `open`.
 module _ (live : Bool) (s : List ℕ) (t : Tables) (ps : Parts) (k : ℕ) (t' : Tables)
-    (p : OpenPromise live s t (Read ps k) t') (a : are_allowed s (sizes_of t) ≡ true) (which : Which) (parent : ℕ)
-    (u : searched_under (id_of which) ≡ Id parent) (h : HeadFirst live s (id_of which)) (heads : Heads)
+    (p : OpenPromise live s t (Ok (ps, k)) t') (a : are_allowed s (sizes_of t) ≡ true) (which : Which) (parent : ℕ)
+    (u : searched_under (id_of which) ≡ Some parent) (h : HeadFirst live s (id_of which)) (heads : Heads)
     (c : linked_heads live s h.segment.payload.at h.head ≡ chained heads) (l : k ≡ length heads.addresses)
   where
     abbrev id : ℕ
@@ -366,7 +358,7 @@ module _ (live : Bool) (s : List ℕ) (t : Tables) (ps : Parts) (k : ℕ) (t' : 
     looks : lookup_of live s id ≡ is
     unfolding lookup_of
     looks =
-        rw h.is_segment (search_as live s id h.segment (Head h.head) h.is_first
+        rw h.is_segment (search_as live s id h.segment (Ok (Head h.head)) h.is_first
         ∙ looked_up live s (sizes_of t) h.segment h.head is_head reached.0.child heads c which)
 
     -- The place has the heads of the chain.
@@ -392,15 +384,15 @@ module _ (live : Bool) (s : List ℕ) (t : Tables) (ps : Parts) (k : ℕ) (t' : 
     agrees (found_at e hs) q (rows, w) =
         subst (λ (y : Part). PartPromise live s id (of t which) (as_searched y k) (of t' which)) (sym w)
         (find_rows live s id (of t which) fits parent u e k
-        (ap (PlaceFound e) (found_heads e hs q) ∙ sym (ap place_told (looks ∙ q))) rows (of t' which)
+        (ap (λ (k : ℕ). Ok (Some e, k)) (found_heads e hs q) ∙ sym (ap place_told (looks ∙ q))) rows (of t' which)
         (subst (λ (y : ℕ).
-        ReadPromise live s e.payload.at e.header.size y (of t which) (Rows rows) (of t' which))
+        ReadPromise live s e.payload.at e.header.size y (of t which) (Ok rows) (of t' which))
         (same_parent which parent u)
         (open_is_read live s t ps k t' p which e.payload.at e.header.size rows w)))
     agrees (absent_at hs) q w =
         subst (λ (y : Part). PartPromise live s id (of t which) (as_searched y k) (of t' which)) (sym w)
         (find_absent live s id (of t which) fits parent u k (of t' which)
-        (ap PlaceAbsent (absent_heads hs q) ∙ sym (ap place_told (looks ∙ q)))
+        (ap Ok (None, absent_heads hs q) ∙ sym (ap place_told (looks ∙ q)))
         (all_zeroed.absent live s t ps k t' p which w))
     agrees (stopped_at r) q w = absurd w
 

@@ -8,7 +8,6 @@ use Rattle.refusals.specs.Refusals.{bad_argument}
 use Rattle.refusals.specs.declared.refusal.Refusal.{Refusal}
 use Rattle.header.specs.Promise.{most_bytes}
 use Rattle.header.specs.declared.cursor.Headed.{Headed}
-use Rattle.header.specs.declared.cursor.HeaderRead.TheVariants.{Read as HeaderIs, Refused as HeaderRefused}
 use Rattle.elements_rules.specs.Promise.{allowed}
 use Rattle.elements_rules.proofs.Limits.{within}
 use Rattle.segments_rules.specs.Segment.{segment_of}
@@ -18,6 +17,7 @@ use Rattle.open_rules.specs.Opening.{whole_of}
 use Rattle.open_rules.specs.Promise.{are_allowed, open_of}
 use Rattle.open_rules.specs.Contract.{Begins}
 use Rattle.open_rules.specs.declared.turns.Stage.TheVariants.{From, Refused}
+use Rattle.std.proofs.Common.{Ok, Err}
 
 both : (a b : Bool) → (a && b) ≡ true → a ≡ true
 both true b q = refl
@@ -34,11 +34,11 @@ module _ (live : Bool) (s : List ℕ) (n : Sizes) where
   begin_bad e a q = record { ready = tt; stands = rw (a, q) refl }
 
   module _ (a : are_allowed s n ≡ true) where
-    pub begin_stopped : (r : Refusal) → segment_of live s ≡ HeaderRefused r → Begins live s n (Refused r)
+    pub begin_stopped : (r : Refusal) → segment_of live s ≡ Err r → Begins live s n (Refused r)
     unfolding open_of whole_of
     begin_stopped r q = record { ready = tt; stands = rw (a, q) refl }
 
-    pub begin_at : (segment : Headed) → segment_of live s ≡ HeaderIs segment
+    pub begin_at : (segment : Headed) → segment_of live s ≡ Ok segment
         → Begins live s n (From segment segment.payload.at)
     unfolding open_of whole_of
     begin_at segment q = record {

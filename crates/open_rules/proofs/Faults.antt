@@ -14,8 +14,6 @@ use Rattle.refusals.specs.declared.refusal.Cause.TheVariants as C
 use Rattle.refusals.specs.declared.refusal.Refusal.{Refusal}
 use Rattle.header.specs.Reads.{behind}
 use Rattle.header.specs.declared.cursor.Headed.{Headed}
-use Rattle.header.specs.declared.cursor.HeaderRead.{HeaderRead}
-use Rattle.header.specs.declared.cursor.HeaderRead.TheVariants.{Read, Refused as HeaderRefused}
 use Rattle.header.proofs.Inside.{header_there}
 use Rattle.sizes.specs.Unknown.{unknown}
 use Rattle.kinds.specs.Kinds.{member}
@@ -29,7 +27,6 @@ use Rattle.walks_rules.specs.Step.{is_past, barred_step, child_at}
 use Rattle.walks_rules.specs.Walk.{Visit, ends, over, on_visit}
 use Rattle.walks_rules.specs.Endings.{end_of}
 use Rattle.walks_rules.specs.declared.step.Stretch.{Stretch}
-use Rattle.walks_rules.specs.declared.step.ChildRead.TheVariants.{Child, End, Refused as ChildRefused}
 use Rattle.walks_rules.proofs.Steps.{Stepped, stepped_on}
 use Rattle.seekhead_rules.specs.Seeks.{seek_head_id}
 use Rattle.seekhead_rules.specs.Table.{latest}
@@ -62,7 +59,7 @@ use Rattle.open_rules.specs.declared.parts.Which.{Which}
 use Rattle.open_rules.specs.declared.parts.Which.TheVariants.{Info, Tracks, Attachments, Chapters, Tags}
 use Rattle.open_rules.specs.declared.parts.Part.TheVariants.{Found}
 use Rattle.open_rules.specs.declared.parts.Parts.{Parts}
-use Rattle.open_rules.specs.declared.reply.OpenReply.TheVariants.{Refused as NotTold}
+use Rattle.std.proofs.Common.{Result, Ok, Err, Some}
 
 -- Two answers that are not of one kind.
 pub clash : {A : Type 0} → ◌≡◌ {A = ℕ} 0 1 → A
@@ -135,7 +132,7 @@ module _ (live : Bool) (s : List ℕ) (n : Sizes) where
   -- ---- before the segment
 
   -- The way to the segment is that of the search.
-  as_file : (part numbers : ℕ) (e : Refusal) → segment_of live s ≡ HeaderRefused e → (a : ℕ) (x : Errand)
+  as_file : (part numbers : ℕ) (e : Refusal) → segment_of live s ≡ Err e → (a : ℕ) (x : Errand)
       → SearchComes live s part numbers a x → Comes a x
   unfolding lookup_of
   as_file part numbers e q a x (file_searched _ g) = in_file a g
@@ -149,7 +146,7 @@ module _ (live : Bool) (s : List ℕ) (n : Sizes) where
       lost : lookup_of live s part ≡ found_at d heads → ◌≡◌ {A = ℕ} 0 1
       lost w = let z : stopped e ≡ found_at d heads = sym (rw q refl) ∙ w in cc
 
-  file_fault : (e : Refusal) → segment_of live s ≡ HeaderRefused e → Here e
+  file_fault : (e : Refusal) → segment_of live s ≡ Err e → Here e
   unfolding lookup_of
   file_fault e q =
       let f = place_fault live s 0 0 e (rw q refl) in
@@ -165,7 +162,7 @@ module _ (live : Bool) (s : List ℕ) (n : Sizes) where
   OfOpening (read ps heads) = Unit
   OfOpening (refused e) = Here e
 
-  module _ (segment : Headed) (is : segment_of live s ≡ Read segment) where
+  module _ (segment : Headed) (is : segment_of live s ≡ Ok segment) where
     abbrev stretch : Stretch
     stretch = stretch_of live s segment
 
@@ -175,7 +172,7 @@ module _ (live : Bool) (s : List ℕ) (n : Sizes) where
     -- ---- from the first head on
 
     module _ (first : Headed) (g : InOpen live s n segment first.place.at)
-        (k : child_at live s stretch first.place.at ≡ Child first) (h : IsAt s seek_head_id first.place.at first)
+        (k : child_at live s stretch first.place.at ≡ Ok (Some first)) (h : IsAt s seek_head_id first.place.at first)
       where
         -- Where a part is, or why it was not found.
         looked : (which : Which) → Before live s n start first which → (r : Refusal)
@@ -258,7 +255,7 @@ module _ (live : Bool) (s : List ℕ) (n : Sizes) where
         leb_less l = leb-false (behind segment) at l
 
     -- A child that is refused is so on its own errand, by whether the segment's size is known.
-    child_fault : (at : ℕ) (e : Refusal) → InOpen live s n segment at → child_at live s stretch at ≡ ChildRefused e
+    child_fault : (at : ℕ) (e : Refusal) → InOpen live s n segment at → child_at live s stretch at ≡ Err e
         → Here e
     child_fault at e g k = by (live && unknown segment.header) refl
       where
@@ -272,7 +269,7 @@ module _ (live : Bool) (s : List ℕ) (n : Sizes) where
             let (l, f, i) = step_fault live s stretch at x refl (λ h. refl) e k in
             subst Here i (at_fault at x e.cause (in_segment segment at is u g (before_end u at l)) f)
 
-    visited : (ps : Parts) (at : ℕ) (e : Headed) → InOpen live s n segment at → child_at live s stretch at ≡ Child e
+    visited : (ps : Parts) (at : ℕ) (e : Headed) → InOpen live s n segment at → child_at live s stretch at ≡ Ok (Some e)
         → Went {A = Parts} OfOpening (OpenedOver live s n segment e)
         ((within_segment live segment (opening live s n segment)).visit ps e)
     unfolding visit member barred_step
@@ -288,7 +285,7 @@ module _ (live : Bool) (s : List ℕ) (n : Sizes) where
         here : InOpen live s n segment e.place.at
         here = subst (InOpen live s n segment) (sym begins) g
 
-        child_here : child_at live s stretch e.place.at ≡ Child e
+        child_here : child_at live s stretch e.place.at ≡ Ok (Some e)
         child_here = ap (child_at live s stretch) begins ∙ k
 
         -- An overrun: both sizes are known, and the child is larger than what was left.
@@ -360,17 +357,17 @@ module _ (live : Bool) (s : List ℕ) (n : Sizes) where
   unfolding open_of whole_of
   open_fault = by (not (are_allowed s n)) (segment_of live s) refl
     where
-      by : (b : Bool) (x : HeaderRead) → segment_of live s ≡ x
+      by : (b : Bool) (x : Result Headed Refusal) → segment_of live s ≡ x
           → OfOpening (cond b (refused bad_argument) (on_header x refused (λ segment.
           children_from live s n segment segment.payload.at no_parts)))
       by true x q = callers (inl refl) refl
-      by false (Read segment) q = children_fault segment q
-      by false (HeaderRefused e) q = file_fault e q
+      by false (Ok segment) q = children_fault segment q
+      by false (Err e) q = file_fault e q
 
 pub open_honest : OpenHonest
 open_honest live s t e t' p = by (open_of live s (sizes_of t)) p.reply (open_fault live s (sizes_of t))
   where
-    by : (o : Opening) → NotTold e ≡ reply_of o → OfOpening live s (sizes_of t) o
+    by : (o : Opening) → Err e ≡ reply_of o → OfOpening live s (sizes_of t) o
         → Honest s (OpenComes live s (sizes_of t)) e
     by (read ps heads) q f = clash cc
     by (refused r) q f = let i : r ≡ e = cc in subst (Honest s (OpenComes live s (sizes_of t))) i f

@@ -12,8 +12,6 @@ use Rattle.refusals.specs.Refusals.{bad_argument, overrun}
 use Rattle.refusals.specs.Reply.{accepted}
 use Rattle.refusals.specs.declared.refusal.Refusal.{Refusal}
 use Rattle.header.specs.declared.cursor.Headed.{Headed}
-use Rattle.header.specs.declared.cursor.HeaderRead.{HeaderRead}
-use Rattle.header.specs.declared.cursor.HeaderRead.TheVariants.{Read as HeaderIs, Refused as HeaderRefused}
 use Rattle.kinds.specs.Kinds.{member}
 use Rattle.elements_rules.specs.Forest.{Forest, count}
 use Rattle.elements_rules.specs.Reading.{Outcome, done}
@@ -24,10 +22,6 @@ use Rattle.walks_rules.specs.Answers.{on_header}
 use Rattle.walks_rules.specs.Step.{child_at}
 use Rattle.walks_rules.specs.Walk.{Visit, ends, over, on_visit, on_passed, Walk, walk}
 use Rattle.walks_rules.specs.Endings.{pass_over, end_of, room_of}
-use Rattle.walks_rules.specs.declared.step.ChildRead.{ChildRead}
-use Rattle.walks_rules.specs.declared.step.ChildRead.TheVariants.{Child, End, Refused as ChildRefused}
-use Rattle.walks_rules.specs.declared.pass.Passed.{Passed}
-use Rattle.walks_rules.specs.declared.pass.Passed.TheVariants.{At, Refused as Lost}
 use Rattle.walks_rules.proofs.Bounds.{turn}
 use Rattle.walks_rules.proofs.Steps.{stepped_on}
 use Rattle.seekhead_rules.specs.Seeks.{seek_head_id}
@@ -53,8 +47,8 @@ use Rattle.open_rules.specs.declared.parts.Which.TheVariants.{Info, Tracks, Atta
 use Rattle.open_rules.specs.declared.parts.Part.{Part}
 use Rattle.open_rules.specs.declared.parts.Part.TheVariants.{Absent, Found}
 use Rattle.open_rules.specs.declared.parts.Parts.{Parts}
-use Rattle.open_rules.specs.declared.reply.OpenReply.TheVariants.{Read}
 use Rattle.open_rules.proofs.Unique.{reply_read, size_of, table_shown}
+use Rattle.std.proofs.Common.{Result, Option, Ok, Err, Some, None}
 
 -- ---- a walk that keeps what is known
 
@@ -63,9 +57,9 @@ abbrev Keeps : {A B : Type 0} → (A → Type 0) → (B → Type 0) → Visit A 
 Keeps Q P (ends b) = P b
 Keeps Q P (over a) = Q a
 
-module _ {A B : Type 0} (step : ℕ → ChildRead) (pass : Headed → Passed) (w : Walk A B) (Q : A → Type 0)
+module _ {A B : Type 0} (step : ℕ → Result (Option Headed) Refusal) (pass : Headed → Result ℕ Refusal) (w : Walk A B) (Q : A → Type 0)
     (P : B → Type 0) (stops : (e : Refusal) → P (w.stop e)) (at_the_end : (at : ℕ) (a : A) → Q a → P (w.ended at a))
-    (each : (a : A) (at : ℕ) (e : Headed) → Q a → step at ≡ Child e → Keeps Q P (w.visit a e)) where
+    (each : (a : A) (at : ℕ) (e : Headed) → Q a → step at ≡ Ok (Some e) → Keeps Q P (w.visit a e)) where
   -- It holds of the whole walk if each visit keeps it.
   keeps : (n at : ℕ) (a : A) → Q a → P (walk step pass w n at a)
   unfolding walk
@@ -75,20 +69,20 @@ module _ {A B : Type 0} (step : ℕ → ChildRead) (pass : Headed → Passed) (w
       Onward : Type 0
       Onward = (next : ℕ) (c : A) → Q c → P (walk step pass w n next c)
 
-      by_pass : (b : A) → Q b → (p : Passed) → Onward
+      by_pass : (b : A) → Q b → (p : Result ℕ Refusal) → Onward
           → P (on_passed p w.stop (λ next. walk step pass w n next b))
-      by_pass b i (At next) more = more next b i
-      by_pass b i (Lost r) more = stops r
+      by_pass b i (Ok next) more = more next b i
+      by_pass b i (Err r) more = stops r
 
       by_visit : (e : Headed) (v : Visit A B) → Keeps Q P v → Onward
           → P (on_visit v (λ b. b) (λ more. on_passed (pass e) w.stop (λ next. walk step pass w n next more)))
       by_visit e (ends b) i more = i
       by_visit e (over b) i more = by_pass b i (pass e) more
 
-      by : (x : ChildRead) → step at ≡ x → Onward → P (turn step pass w at a x (walk step pass w n))
-      by (Child e) q more = by_visit e (w.visit a e) (each a at e k q) more
-      by End q more = at_the_end at a k
-      by (ChildRefused r) q more = stops r
+      by : (x : Result (Option Headed) Refusal) → step at ≡ x → Onward → P (turn step pass w at a x (walk step pass w n))
+      by (Ok (Some e)) q more = by_visit e (w.visit a e) (each a at e k q) more
+      by (Ok None) q more = at_the_end at a k
+      by (Err r) q more = stops r
 
 -- ---- the five parts
 
@@ -165,7 +159,7 @@ module _ (live : Bool) (s : List ℕ) (n : Sizes) (segment : Headed) where
   -- ---- after a seek head
 
   module _ (first : Headed) (i : IsAt s seek_head_id first.place.at first)
-      (child : child_at live s (stretch_of live s segment) first.place.at ≡ Child first)
+      (child : child_at live s (stretch_of live s segment) first.place.at ≡ Ok (Some first))
       (heads : Heads) (c : linked_heads live s start first ≡ chained heads) where
     abbrev place : Which → Lookup
     place which = part_at live s (id_of which) start heads.addresses (latest (id_of which) heads.entries)
@@ -244,7 +238,7 @@ module _ (live : Bool) (s : List ℕ) (n : Sizes) (segment : Headed) where
   Met ps = (heads : List ℕ) → Known heads ps
 
   heads_sound : (first : Headed) → IsAt s seek_head_id first.place.at first
-      → child_at live s (stretch_of live s segment) first.place.at ≡ Child first → (ps : Parts) → Met ps
+      → child_at live s (stretch_of live s segment) first.place.at ≡ Ok (Some first) → (ps : Parts) → Met ps
       → Sound (by_heads_all live s n start first ps)
   unfolding by_heads_all
   heads_sound first i child ps k = by (linked_heads live s start first) refl
@@ -257,7 +251,7 @@ module _ (live : Bool) (s : List ℕ) (n : Sizes) (segment : Headed) where
   -- ---- before it
 
   visit_sound : (e : Headed) → IsAt s e.header.id e.place.at e
-      → child_at live s (stretch_of live s segment) e.place.at ≡ Child e → (ps : Parts) → Met ps
+      → child_at live s (stretch_of live s segment) e.place.at ≡ Ok (Some e) → (ps : Parts) → Met ps
       → Keeps Met Sound (visit live s n segment ps e)
   unfolding visit
   visit_sound e i child ps k = by (eqb e.header.id seek_head_id) refl (member e.header.id part_ids) refl
@@ -316,7 +310,7 @@ module _ (live : Bool) (s : List ℕ) (n : Sizes) (segment : Headed) where
 pub record Opened (live : Bool) (s : List ℕ) (n : Sizes) (ps : Parts) (heads : List ℕ) : Type 0 where
   pub within : are_allowed s n ≡ true
   pub segment : Headed
-  pub is_segment : segment_of live s ≡ HeaderIs segment
+  pub is_segment : segment_of live s ≡ Ok segment
   pub children : children_from live s n segment segment.payload.at no_parts ≡ read ps heads
   pub known : Known live s n segment heads ps
   pub good : GoodHeads live s heads
@@ -326,20 +320,20 @@ pub opened : (live : Bool) (s : List ℕ) (n : Sizes) (ps : Parts) (heads : List
 unfolding open_of whole_of
 opened live s n ps heads = by (are_allowed s n) refl (segment_of live s) refl
   where
-    by : (b : Bool) → are_allowed s n ≡ b → (x : HeaderRead) → segment_of live s ≡ x
+    by : (b : Bool) → are_allowed s n ≡ b → (x : Result Headed Refusal) → segment_of live s ≡ x
         → cond (not b) (refused bad_argument) (on_header x refused (λ segment.
         children_from live s n segment segment.payload.at no_parts))
         ≡ read ps heads
         → Opened live s n ps heads
-    by true a (HeaderIs segment) i q =
+    by true a (Ok segment) i q =
         let (k, g) = subst (Sound live s n segment) q (children_sound live s n segment) in
         record { within = a; segment = segment; is_segment = i; children = q; known = k; good = g }
-    by true a (HeaderRefused r) i q = let z : ◌≡◌ {A = ℕ} 0 1 = cc in absurd (omega arith)
+    by true a (Err r) i q = let z : ◌≡◌ {A = ℕ} 0 1 = cc in absurd (omega arith)
     by false a x i q = let z : ◌≡◌ {A = ℕ} 0 1 = cc in absurd (omega arith)
 
 -- A part that an accepted call tells.
 module _ (live : Bool) (s : List ℕ) (t : Tables) (ps : Parts) (k : ℕ) (t' : Tables)
-    (p : OpenPromise live s t (Read ps k) t') (which : Which) (at size rows : ℕ)
+    (p : OpenPromise live s t (Ok (ps, k)) t') (which : Which) (at size rows : ℕ)
     (x : part_of ps which ≡ Found at size rows) where
   abbrev n : Sizes
   n = sizes_of t

@@ -10,7 +10,6 @@ use Rattle.refusals.specs.declared.refusal.Refusal.{Refusal}
 use Rattle.header.specs.Promise.{most_bytes}
 use Rattle.header.specs.Reads.{header_at}
 use Rattle.header.specs.declared.cursor.Headed.{Headed}
-use Rattle.header.specs.declared.cursor.HeaderRead.TheVariants.{Read as HeaderIs}
 use Rattle.elements_rules.specs.Forest.{Forest, count}
 use Rattle.elements_rules.specs.Reading.{Outcome, done}
 use Rattle.elements_rules.specs.Reading.{refused as unread}
@@ -18,12 +17,9 @@ use Rattle.walks_rules.specs.Contract.{Readable}
 use Rattle.walks_rules.specs.Walk.{Visit, ends, over, on_visit, on_passed, Walk}
 use Rattle.walks_rules.specs.Endings.{room_of}
 use Rattle.walks_rules.specs.declared.step.Stretch.{Stretch}
-use Rattle.walks_rules.specs.declared.pass.Passed.{Passed}
-use Rattle.walks_rules.specs.declared.pass.Passed.TheVariants.{At, Refused as Lost}
 use Rattle.seekhead_rules.specs.Seeks.{seek_head_id}
 use Rattle.seekhead_rules.specs.Table.{positions, latest, positions_from}
 use Rattle.seekhead_rules.specs.declared.seek.Seek.{Seek}
-use Rattle.seekhead_rules.specs.declared.head.Latest.{Latest}
 use Rattle.seekhead_rules.specs.declared.head.Positions.{Positions}
 use Rattle.seekchain_rules.specs.Answers.{on_outcome}
 use Rattle.seekchain_rules.specs.Heads.{Heads, Chain, chained, broken, last_head, linked_heads}
@@ -31,14 +27,10 @@ use Rattle.seekchain_rules.specs.Lookup.{Lookup, part_at}
 use Rattle.seekchain_rules.specs.Lookup.{found as found_at, absent as absent_at, stopped as stopped_at}
 use Rattle.seekchain_rules.specs.Contract.{heads_told, place_told, PartMet}
 use Rattle.seekchain_rules.specs.declared.heads.HeadsRead.TheVariants.{Read as HeadsAre, Refused as HeadsRefused}
-use Rattle.seekchain_rules.specs.declared.lookup.PartPlace.{PartPlace}
-use Rattle.seekchain_rules.specs.declared.lookup.PartPlace.TheVariants.{Found as PlaceFound}
-use Rattle.seekchain_rules.specs.declared.lookup.PartPlace.TheVariants.{Absent as PlaceAbsent, Refused as PlaceRefused}
 use Rattle.segments_rules.specs.Segment.{stretch_of, past_child, aims_at, met_from}
 use Rattle.segments_rules.specs.Contract.{PastIn}
 use Rattle.segments_rules.specs.declared.walk.Aim.TheVariants.{Every}
-use Rattle.segments_rules.specs.declared.walk.Met.{Met}
-use Rattle.segments_rules.specs.declared.walk.Met.TheVariants.{Head, Part as PartIs, End, Refused as Unmet}
+use Rattle.segments_rules.specs.declared.walk.Met.TheVariants.{Head, Part as PartIs, End}
 use Rattle.segments_rules.proofs.Meetings.{visited, first_met, after, Reached, head_met, part_met, less, passed}
 use Rattle.open_rules.specs.Parts.{id_of, which_of, order, placed}
 use Rattle.open_rules.specs.Tables.{Sizes, part_read}
@@ -51,13 +43,13 @@ use Rattle.open_rules.specs.declared.parts.Which.{Which}
 use Rattle.open_rules.specs.declared.parts.Which.TheVariants.{Info, Tracks, Attachments, Chapters, Tags}
 use Rattle.open_rules.specs.declared.parts.Part.TheVariants.{Found}
 use Rattle.open_rules.specs.declared.parts.Parts.{Parts}
-use Rattle.open_rules.specs.declared.reply.OpenReply.{OpenReply}
-use Rattle.open_rules.specs.declared.reply.OpenReply.TheVariants.{Read as Told, Refused as NotTold}
 use Rattle.open_rules.specs.declared.turns.Seeking.{Seeking}
 use Rattle.open_rules.specs.declared.turns.Stage.{Stage}
 use Rattle.open_rules.specs.declared.turns.Stage.TheVariants.{From, Behind, Sought, Refused}
 use Rattle.open_rules.specs.declared.turns.Turn.{Turn}
 use Rattle.open_rules.specs.declared.turns.Turn.TheVariants.{Read, Over}
+use Rattle.std.proofs.Common.{Result, Option, Ok, Err, Some, None}
+use Rattle.segments_rules.specs.declared.walk.Met.{Met}
 
 -- ---- the end of the call
 
@@ -66,12 +58,12 @@ pub never : {A : Type 0} {e : Refusal} {ps : Parts} {heads : List ℕ} → refus
 never q = let z : ◌≡◌ {A = ℕ} 0 1 = cc in let z' : ⊥ = omega arith in absurd z'
 
 module _ (live : Bool) (s : List ℕ) (n : Sizes) (ps : Parts) (o : Opening) where
-  pub ends_refused : (r : Refusal) → o ≡ refused r → Ends live s n ps o (NotTold r)
+  pub ends_refused : (r : Refusal) → o ≡ refused r → Ends live s n ps o (Err r)
   ends_refused r q = record { reply_is = sym (ap reply_of q); known = λ qs heads w. never (sym q ∙ w) }
 
-  pub ends_read : (heads : List ℕ) (k : ℕ) → o ≡ read ps heads → length heads ≡ k → Ends live s n ps o (Told ps k)
+  pub ends_read : (heads : List ℕ) (k : ℕ) → o ≡ read ps heads → length heads ≡ k → Ends live s n ps o (Ok (ps, k))
   ends_read heads k q l = record {
-    reply_is = sym (ap reply_of q ∙ ap (Told ps) l);
+    reply_is = sym (ap reply_of q ∙ ap (λ (k : ℕ). Ok (ps, k)) l);
     known = λ qs hs w. same (sym q ∙ w);
   }
     where
@@ -127,7 +119,7 @@ module _ (live : Bool) (s : List ℕ) (n : Sizes) (seeking : Seeking) (ps : Part
 
   -- All parts were sought.
   pub sought_over : (i : ℕ) → 5 ≤ i → Stands live s n (Sought seeking i) ps o
-      → Ends live s n ps o (Told ps seeking.heads)
+      → Ends live s n ps o (Ok (ps, seeking.heads))
   unfolding sought_from
   sought_over i l (heads, t, q) =
       ends_read live s n ps o heads.addresses seeking.heads (q ∙ rw (none_left i l) refl) t.counted
@@ -144,7 +136,7 @@ module _ (live : Bool) (s : List ℕ) (n : Sizes) (seeking : Seeking) (ps : Part
     rest qs = sought_from live s n start heads (drop (i + 1) order) qs
 
     -- Where the next part is.
-    sought_place : (w : Which) (id : ℕ) (link : Latest) (r : PartPlace) → w ≡ which → id ≡ id_of w
+    sought_place : (w : Which) (id : ℕ) (link : Option ℕ) (r : Result (Option Headed × ℕ) Refusal) → w ≡ which → id ≡ id_of w
         → link ≡ link_of seeking.links w → PartMet live s id start seeking.heads seeking.last link r
         → r ≡ place_told place
     sought_place w id link r x y z m =
@@ -160,28 +152,28 @@ module _ (live : Bool) (s : List ℕ) (n : Sizes) (seeking : Seeking) (ps : Part
     unfolding sought_from
     as_sought = q ∙ rw (next_which i l) refl
 
-    module _ (w : Which) (id : ℕ) (link : Latest) (r : PartPlace) (x : w ≡ which) (y : id ≡ id_of w)
+    module _ (w : Which) (id : ℕ) (link : Option ℕ) (r : Result (Option Headed × ℕ) Refusal) (x : w ≡ which) (y : id ≡ id_of w)
         (z : link ≡ link_of seeking.links w)
         (m : PartMet live s id start seeking.heads seeking.last link r) where
-      pub sought_stopped : (e : Refusal) → r ≡ PlaceRefused e → o ≡ refused e
+      pub sought_stopped : (e : Refusal) → r ≡ Err e → o ≡ refused e
       sought_stopped e k = as_sought ∙ by place (sym k ∙ sought_place w id link r x y z m)
         where
-          by : (p : Lookup) → PlaceRefused e ≡ place_told p
+          by : (p : Lookup) → Err e ≡ place_told p
               → on_lookup live s n p (λ e. taken live s n which e ps refused rest) (rest ps) ≡ refused e
           by (found_at a b) h = let z : ◌≡◌ {A = ℕ} 0 1 = cc in absurd (omega arith)
           by (absent_at b) h = let z : ◌≡◌ {A = ℕ} 0 1 = cc in absurd (omega arith)
           by (stopped_at e') h = cc
 
-      pub sought_absent : (k : ℕ) → r ≡ PlaceAbsent k → o ≡ rest ps
+      pub sought_absent : (k : ℕ) → r ≡ Ok (None, k) → o ≡ rest ps
       sought_absent k h = as_sought ∙ by place (sym h ∙ sought_place w id link r x y z m)
         where
-          by : (p : Lookup) → PlaceAbsent k ≡ place_told p
+          by : (p : Lookup) → Ok (None, k) ≡ place_told p
               → on_lookup live s n p (λ e. taken live s n which e ps refused rest) (rest ps) ≡ rest ps
           by (found_at a b) h = let z : ◌≡◌ {A = ℕ} 0 1 = cc in absurd (omega arith)
           by (absent_at b) h = refl
           by (stopped_at e') h = let z : ◌≡◌ {A = ℕ} 0 1 = cc in absurd (omega arith)
 
-      pub sought_found : (e : Headed) (k : ℕ) → r ≡ PlaceFound e k → (most : ℕ) → 5 - (i + 1) < most
+      pub sought_found : (e : Headed) (k : ℕ) → r ≡ Ok (Some e, k) → (most : ℕ) → 5 - (i + 1) < most
           → ReadsNext live s n ps o most w e (Sought seeking (i + 1))
       sought_found e k h most fewer = record {
         fails = λ r p. found ∙ rw (x' p) refl;
@@ -195,7 +187,7 @@ module _ (live : Bool) (s : List ℕ) (n : Sizes) (seeking : Seeking) (ps : Part
         ready = tt;
       }
         where
-          by : (p : Lookup) → PlaceFound e k ≡ place_told p
+          by : (p : Lookup) → Ok (Some e, k) ≡ place_told p
               → on_lookup live s n p (λ e. taken live s n which e ps refused rest) (rest ps)
               ≡ taken live s n which e ps refused rest
           by (found_at a b) h = cc
@@ -246,24 +238,24 @@ module _ (live : Bool) (s : List ℕ) (n : Sizes) (segment : Headed) (at : ℕ) 
   unfolding visit aims_at
   skips e h a = rw (h, a) refl
 
-  by_met : (m : Met) → met_from live s Every segment at ≡ m
+  by_met : (m : Result Met Refusal) → met_from live s Every segment at ≡ m
       → o ≡ after live s segment Every w ps (read ps []) (λ place. refl) skips m
   by_met m k =
       q ∙ first_met live s segment Every w ps (read ps []) (λ place. refl) skips at
       ∙ ap (after live s segment Every w ps (read ps []) (λ place. refl) skips) k
 
-  pub met_refused : (r : Refusal) → met_from live s Every segment at ≡ Unmet r → o ≡ refused r
-  met_refused r k = by_met (Unmet r) k
+  pub met_refused : (r : Refusal) → met_from live s Every segment at ≡ Err r → o ≡ refused r
+  met_refused r k = by_met (Err r) k
 
-  pub met_end : met_from live s Every segment at ≡ End → o ≡ read ps []
-  met_end k = by_met End k
+  pub met_end : met_from live s Every segment at ≡ (Ok End) → o ≡ read ps []
+  met_end k = by_met (Ok End) k
 
-  pub met_head : (e : Headed) → met_from live s Every segment at ≡ Head e
+  pub met_head : (e : Headed) → met_from live s Every segment at ≡ Ok (Head e)
       → o ≡ by_heads_all live s n segment.payload.at e ps
   unfolding visit
-  met_head e k = by_met (Head e) k ∙ rw (head_met live s segment Every at e k).1 refl
+  met_head e k = by_met (Ok (Head e)) k ∙ rw (head_met live s segment Every at e k).1 refl
 
-  module _ (e : Headed) (k : met_from live s Every segment at ≡ PartIs e) where
+  module _ (e : Headed) (k : met_from live s Every segment at ≡ Ok (PartIs e)) where
     -- A part is read, and what stands behind it.
     abbrev passing : Parts → Opening
     passing qs =
@@ -274,7 +266,7 @@ module _ (live : Bool) (s : List ℕ) (n : Sizes) (segment : Headed) (at : ℕ) 
     unfolding visit aims_at
     met_taken =
         let m = part_met live s segment Every at e k in
-        by_met (PartIs e) k ∙ rw (m.1, m.2)
+        by_met (Ok (PartIs e)) k ∙ rw (m.1, m.2)
         (by (part_read live s n (which_of e.header.id) e.payload.at e.header.size))
       where
         by : (x : Outcome)
@@ -309,22 +301,22 @@ module _ (live : Bool) (s : List ℕ) (n : Sizes) (segment : Headed) (at : ℕ) 
 
 module _ (live : Bool) (s : List ℕ) (n : Sizes) (segment child : Headed) (ps : Parts) (o : Opening)
     (q : Stands live s n (Behind segment child) ps o) (stretch : Stretch) (j : stretch ≡ stretch_of live s segment)
-    (y : Passed) (m : PastIn live s stretch child y) where
-  passes : (x : Passed) → y ≡ x → passed live s segment child ≡ x
+    (y : Result ℕ Refusal) (m : PastIn live s stretch child y) where
+  passes : (x : Result ℕ Refusal) → y ≡ x → passed live s segment child ≡ x
   passes x k = sym (m segment j) ∙ k
 
-  pub behind_lost : (r : Refusal) → y ≡ Lost r → o ≡ refused r
-  behind_lost r k = q.1 ∙ rw (passes (Lost r) k) refl
+  pub behind_lost : (r : Refusal) → y ≡ Err r → o ≡ refused r
+  behind_lost r k = q.1 ∙ rw (passes (Err r) k) refl
 
-  pub behind_on : (next : ℕ) → y ≡ At next → o ≡ children_from live s n segment next ps
-  behind_on next k = q.1 ∙ rw (passes (At next) k) refl
+  pub behind_on : (next : ℕ) → y ≡ Ok next → o ≡ children_from live s n segment next ps
+  behind_on next k = q.1 ∙ rw (passes (Ok next) k) refl
 
   -- What follows has less left.
-  pub behind_turns : (next : ℕ) → y ≡ At next → (t : Turn)
+  pub behind_turns : (next : ℕ) → y ≡ Ok next → (t : Turn)
       → Turns live s n ps o (left_of live s (From segment next)) t
       → Turns live s n ps o (left_of live s (Behind segment child)) t
   behind_turns next k t u =
-      let l = less live s segment child.place.at child next q.0 (passes (At next) k) in
+      let l = less live s segment child.place.at child next q.0 (passes (Ok next) k) in
       turns_more live s n ps o (left_of live s (From segment next)) (left_of live s (Behind segment child)) (omega arith)
       t u
 
@@ -342,19 +334,19 @@ module _ (live : Bool) (s : List ℕ) (seeking : Seeking) (ps : Parts) (sought :
   seeks_none = record { least = omega arith; stands = λ n o q. q }
 
   module _ (i : ℕ) (k : Seeks i) where
-    pub seek_over : 5 ≤ i → TurnsSought live s seeking sought ps (Over (Told ps seeking.heads))
+    pub seek_over : 5 ≤ i → TurnsSought live s seeking sought ps (Over (Ok (ps, seeking.heads)))
     seek_over l n o q = sought_over live s n seeking ps o i l (k.stands n o q)
 
-    module _ (l : i < 5) (w : Which) (id : ℕ) (link : Latest) (r : PartPlace) (x : w ≡ which_at i) (y : id ≡ id_of w)
+    module _ (l : i < 5) (w : Which) (id : ℕ) (link : Option ℕ) (r : Result (Option Headed × ℕ) Refusal) (x : w ≡ which_at i) (y : id ≡ id_of w)
         (z : link ≡ link_of seeking.links w)
         (m : PartMet live s id seeking.start seeking.heads seeking.last link r) where
-      pub seek_stopped : (e : Refusal) → r ≡ PlaceRefused e
-          → TurnsSought live s seeking sought ps (Over (NotTold e))
+      pub seek_stopped : (e : Refusal) → r ≡ Err e
+          → TurnsSought live s seeking sought ps (Over (Err e))
       seek_stopped e h n o q =
           let (heads, t, g) = k.stands n o q in
           ends_refused live s n ps o e (sought_stopped live s n seeking ps o i l heads t g w id link r x y z m e h)
 
-      pub seek_on : (j : ℕ) → r ≡ PlaceAbsent j → Seeks (i + 1)
+      pub seek_on : (j : ℕ) → r ≡ Ok (None, j) → Seeks (i + 1)
       seek_on j h = record {
         least = let a = k.least in omega arith;
         stands = λ n o q.
@@ -362,7 +354,7 @@ module _ (live : Bool) (s : List ℕ) (seeking : Seeking) (ps : Parts) (sought :
             (heads, t, sought_absent live s n seeking ps o i l heads t g w id link r x y z m j h);
       }
 
-      pub seek_found : (e : Headed) (j : ℕ) → r ≡ PlaceFound e j
+      pub seek_found : (e : Headed) (j : ℕ) → r ≡ Ok (Some e, j)
           → TurnsSought live s seeking sought ps (Read w e (Sought seeking (i + 1)))
       seek_found e j h n o q =
           let (heads, t, g) = k.stands n o q in
@@ -371,7 +363,7 @@ module _ (live : Bool) (s : List ℕ) (seeking : Seeking) (ps : Parts) (sought :
 
 module _ (live : Bool) (s : List ℕ) (start : ℕ) (first : Headed) (ps : Parts) where
   pub head_broken : (r : Refusal) → HeadsRefused r ≡ heads_told every (linked_heads live s start first)
-      → TurnsHead live s start first ps (Over (NotTold r))
+      → TurnsHead live s start first ps (Over (Err r))
   head_broken r h n o q = ends_refused live s n ps o r (heads_broken live s n start first ps o q r h)
 
   pub head_read : (links : Positions) (k last : ℕ)
@@ -381,26 +373,26 @@ module _ (live : Bool) (s : List ℕ) (start : ℕ) (first : Headed) (ps : Parts
   head_read links k last h t u n o q = u n o (heads_read live s n start first ps o q links k last h)
 
 module _ (live : Bool) (s : List ℕ) (segment : Headed) (at : ℕ) (ps : Parts) where
-  pub meet_refused : (r : Refusal) → met_from live s Every segment at ≡ Unmet r
-      → TurnsMet live s segment at ps (Over (NotTold r))
+  pub meet_refused : (r : Refusal) → met_from live s Every segment at ≡ Err r
+      → TurnsMet live s segment at ps (Over (Err r))
   meet_refused r k n o q = ends_refused live s n ps o r (met_refused live s n segment at ps o q r k)
 
-  pub meet_end : met_from live s Every segment at ≡ End → TurnsMet live s segment at ps (Over (Told ps 0))
+  pub meet_end : met_from live s Every segment at ≡ (Ok End) → TurnsMet live s segment at ps (Over (Ok (ps, 0)))
   meet_end k n o q = ends_read live s n ps o [] 0 (met_end live s n segment at ps o q k) refl
 
-  pub meet_head : (e : Headed) → met_from live s Every segment at ≡ Head e → (t : Turn)
+  pub meet_head : (e : Headed) → met_from live s Every segment at ≡ Ok (Head e) → (t : Turn)
       → TurnsHead live s segment.payload.at e ps t → TurnsMet live s segment at ps t
   meet_head e k t u n o q =
       turns_more live s n ps o 5 (left_of live s (From segment at)) (omega arith) t
       (u n o (met_head live s n segment at ps o q e k))
 
-  pub meet_part : (e : Headed) → met_from live s Every segment at ≡ PartIs e → (which : Which)
+  pub meet_part : (e : Headed) → met_from live s Every segment at ≡ Ok (PartIs e) → (which : Which)
       → which ≡ which_of e.header.id → Readable s segment
       → TurnsMet live s segment at ps (Read which e (Behind segment e))
   meet_part e k which x r n o q = met_part live s n segment at ps o q e k which x r
 
 module _ (live : Bool) (s : List ℕ) (stage : Stage) (ps : Parts) where
-  pub turn_refused : (r : Refusal) → stage ≡ Refused r → TurnsFrom live s stage ps (Over (NotTold r))
+  pub turn_refused : (r : Refusal) → stage ≡ Refused r → TurnsFrom live s stage ps (Over (Err r))
   turn_refused r x = rw x (λ n o q. ends_refused live s n ps o r q)
 
   pub turn_from : (segment : Headed) (at : ℕ) → stage ≡ From segment at → (t : Turn) → TurnsMet live s segment at ps t
@@ -412,12 +404,12 @@ module _ (live : Bool) (s : List ℕ) (stage : Stage) (ps : Parts) where
   turn_sought seeking i x t u = rw x u
 
   module _ (segment child : Headed) (x : stage ≡ Behind segment child) (stretch : Stretch)
-      (j : stretch ≡ stretch_of live s segment) (y : Passed) (m : PastIn live s stretch child y) where
-    pub turn_lost : (r : Refusal) → y ≡ Lost r → TurnsFrom live s stage ps (Over (NotTold r))
+      (j : stretch ≡ stretch_of live s segment) (y : Result ℕ Refusal) (m : PastIn live s stretch child y) where
+    pub turn_lost : (r : Refusal) → y ≡ Err r → TurnsFrom live s stage ps (Over (Err r))
     turn_lost r k =
         rw x (λ n o q. ends_refused live s n ps o r (behind_lost live s n segment child ps o q stretch j y m r k))
 
-    pub turn_on : (next : ℕ) → y ≡ At next → (t : Turn) → TurnsMet live s segment next ps t
+    pub turn_on : (next : ℕ) → y ≡ Ok next → (t : Turn) → TurnsMet live s segment next ps t
         → TurnsFrom live s stage ps t
     turn_on next k t u =
         rw x (λ n o q.

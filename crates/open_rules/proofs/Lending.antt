@@ -15,8 +15,6 @@ use Rattle.elements_rules.specs.Promise.{reply_of as read_reply}
 use Rattle.elements_rules.specs.Contract.{ClearFrom}
 use Rattle.elements_rules.proofs.Forests.{length_rows}
 use Rattle.elements_rules.proofs.Tables.{zeros_clear, rows_clear}
-use Rattle.elements_rules.specs.declared.reply.ReadReply.{ReadReply}
-use Rattle.elements_rules.specs.declared.reply.ReadReply.TheVariants.{Rows, Refused as Unread}
 use Rattle.open_rules.specs.Parts.{parent_of, no_parts, part_of, placed}
 use Rattle.open_rules.specs.Tables.{Five, Tables, Sizes, five, sizes_of, of, put, zeroed, part_read, shown}
 use Rattle.open_rules.specs.Opening.{Opening, read, refused}
@@ -27,13 +25,12 @@ use Rattle.open_rules.specs.declared.parts.Which.{Which}
 use Rattle.open_rules.specs.declared.parts.Which.TheVariants.{Info, Tracks, Attachments, Chapters, Tags}
 use Rattle.open_rules.specs.declared.parts.Part.TheVariants.{Found}
 use Rattle.open_rules.specs.declared.parts.Parts.{Parts}
-use Rattle.open_rules.specs.declared.reply.OpenReply.{OpenReply}
-use Rattle.open_rules.specs.declared.reply.OpenReply.TheVariants.{Read as Told, Refused as NotTold}
 use Rattle.open_rules.specs.declared.turns.Stage.{Stage}
 use Rattle.open_rules.specs.declared.turns.Stage.TheVariants.{From, Behind, Sought, Refused}
 use Rattle.open_rules.specs.declared.turns.Turn.{Turn}
 use Rattle.open_rules.specs.declared.turns.Turn.TheVariants.{Read, Over}
 use Rattle.open_rules.proofs.Going.{never}
+use Rattle.std.proofs.Common.{Result, Ok, Err}
 
 -- ---- five at a time
 
@@ -44,7 +41,7 @@ each_same p q r s t = rw (p, q, r, s, t) refl
 
 -- ---- one of them is read into
 
-module _ (live : Bool) (s : List ℕ) (which : Which) (at size : ℕ) (a b c d e : List ℕ) (r : ReadReply) (t : List ℕ)
+module _ (live : Bool) (s : List ℕ) (which : Which) (at size : ℕ) (a b c d e : List ℕ) (r : Result ℕ Refusal) (t : List ℕ)
   where
     abbrev Into : Tables → Type 0
     Into t' = ReadInto live s which at size (five a b c d e) r t'
@@ -82,11 +79,11 @@ put_shown live s n ps Attachments at size rows = refl
 put_shown live s n ps Chapters at size rows = refl
 put_shown live s n ps Tags at size rows = refl
 
-told_rows : (n : ℕ) (o : Outcome) → read_told (Rows n) ≡ read_reply o → (f : Forest) × (o ≡ done f) × (n ≡ count f)
+told_rows : (n : ℕ) (o : Outcome) → read_told (Ok n) ≡ read_reply o → (f : Forest) × (o ≡ done f) × (n ≡ count f)
 told_rows n (done f) q = (f, refl, cc)
 told_rows n (unread e) q = let z : ◌≡◌ {A = ℕ} 0 1 = cc in absurd (omega arith)
 
-told_refused : (e : Refusal) (o : Outcome) → read_told (Unread e) ≡ read_reply o → o ≡ unread e
+told_refused : (e : Refusal) (o : Outcome) → read_told (Err e) ≡ read_reply o → o ≡ unread e
 told_refused e (done f) q = let z : ◌≡◌ {A = ℕ} 0 1 = cc in absurd (omega arith)
 told_refused e (unread e') q = cc
 
@@ -194,7 +191,7 @@ module _ (live : Bool) (s : List ℕ) (t₀ : Tables) where
         subst (λ (y : Turn). Turns live s n ps (open_of live s n) (left_of live s stage) y) q
         (u n (open_of live s n) g.stands)
 
-    pub run_over : (r : OpenReply) → turn ≡ Over r → Ran live s t₀ r t
+    pub run_over : (r : Result (Parts × ℕ) Refusal) → turn ≡ Over r → Ran live s t₀ r t
     run_over r x =
         let e = turned (Over r) x in
         record {
@@ -217,7 +214,7 @@ module _ (live : Bool) (s : List ℕ) (t₀ : Tables) where
         → used ≡ rows_known (part_of ps which) → ClearFrom used (of t which)
     run_clear which e next x used k = rw k (clear_of which ps t (g.clear (going which e next x)))
 
-    module _ (which : Which) (e : Headed) (next : Stage) (x : turn ≡ Read which e next) (r : ReadReply) (t' : Tables)
+    module _ (which : Which) (e : Headed) (next : Stage) (x : turn ≡ Read which e next) (r : Result ℕ Refusal) (t' : Tables)
         (i : ReadInto live s which e.payload.at e.header.size t r t') (ps' : Parts)
         (k : ps' ≡ known_after ps which e r) (stage' : Stage) (j : stage' ≡ stage_after next r) where
       abbrev at : ℕ
@@ -232,9 +229,9 @@ module _ (live : Bool) (s : List ℕ) (t₀ : Tables) where
       pub run_less : left_of live s stage' < left_of live s stage
       run_less = rw j (by r)
         where
-          by : (y : ReadReply) → left_of live s (stage_after next y) < left_of live s stage
-          by (Rows rows) = reads.fewer
-          by (Unread a) = let l = reads.fewer in omega arith
+          by : (y : Result ℕ Refusal) → left_of live s (stage_after next y) < left_of live s stage
+          by (Ok rows) = reads.fewer
+          by (Err a) = let l = reads.fewer in omega arith
 
       -- The reading is that of a table of the lent size.
       as_lent : read_told r ≡ read_reply (part_read live s n which at size)
@@ -243,9 +240,9 @@ module _ (live : Bool) (s : List ℕ) (t₀ : Tables) where
       pub run_again : sizes_of t' ≡ sizes_of t → Running t' stage' ps'
       run_again l = rw (j, k) (by r as_lent)
         where
-          by : (y : ReadReply) → read_told y ≡ read_reply (part_read live s n which at size)
+          by : (y : Result ℕ Refusal) → read_told y ≡ read_reply (part_read live s n which at size)
               → Running t' (stage_after next y) (known_after ps which e y)
-          by (Unread a) q =
+          by (Err a) q =
               let w = reads.fails a (told_refused a (part_read live s n which at size) q) in
               record {
                 same = l ∙ g.same;
@@ -254,7 +251,7 @@ module _ (live : Bool) (s : List ℕ) (t₀ : Tables) where
                 shows = λ qs heads v. never (sym w ∙ v);
                 clear = λ z. absurd z;
               }
-          by (Rows rows) q =
+          by (Ok rows) q =
               let (f, o, c) = told_rows rows (part_read live s n which at size) q in
               record {
                 same = l ∙ g.same;
@@ -281,30 +278,30 @@ module _ (live : Bool) (s : List ℕ) (t₀ : Tables) where
 
 -- The tables t were lent, t₁ are they when they are cleared, and t₂ when all turns were taken.
 module _ (live : Bool) (s : List ℕ) (t t₁ t₂ : Tables) (k : t₁ ≡ zeroed (sizes_of t)) (same : sizes_of t₁ ≡ sizes_of t)
-    (r : OpenReply) (g : Ran live s t₁ r t₂) where
+    (r : Result (Parts × ℕ) Refusal) (g : Ran live s t₁ r t₂) where
   reply : r ≡ reply_of (open_of live s (sizes_of t))
   reply = g.reply ∙ ap (λ (m : Sizes). reply_of (open_of live s m)) same
 
-  pub open_refused : (e : Refusal) (t₃ : Tables) → r ≡ NotTold e → sizes_of t₂ ≡ sizes_of t₁ → t₃ ≡ zeroed (sizes_of t₂)
-      → OpenPromise live s t (NotTold e) t₃
+  pub open_refused : (e : Refusal) (t₃ : Tables) → r ≡ Err e → sizes_of t₂ ≡ sizes_of t₁ → t₃ ≡ zeroed (sizes_of t₂)
+      → OpenPromise live s t (Err e) t₃
   unfolding tables_of
   open_refused e t₃ q l z = record {
     reply = sym q ∙ reply;
     tables = z ∙ ap (λ (m : Sizes). zeroed m) (l ∙ same) ∙ by (open_of live s (sizes_of t)) (sym q ∙ reply);
   }
     where
-      by : (o : Opening) → NotTold e ≡ reply_of o → zeroed (sizes_of t) ≡ tables_of live s (sizes_of t) o
+      by : (o : Opening) → Err e ≡ reply_of o → zeroed (sizes_of t) ≡ tables_of live s (sizes_of t) o
       by (read ps heads) w = let z : ◌≡◌ {A = ℕ} 0 1 = cc in absurd (omega arith)
       by (refused e') w = refl
 
-  pub open_read : (ps : Parts) (heads : ℕ) → r ≡ Told ps heads → OpenPromise live s t (Told ps heads) t₂
+  pub open_read : (ps : Parts) (heads : ℕ) → r ≡ Ok (ps, heads) → OpenPromise live s t (Ok (ps, heads)) t₂
   unfolding tables_of
   open_read ps heads q = record {
     reply = sym q ∙ reply;
     tables = by (open_of live s (sizes_of t)) refl (sym q ∙ reply);
   }
     where
-      by : (o : Opening) → open_of live s (sizes_of t) ≡ o → Told ps heads ≡ reply_of o
+      by : (o : Opening) → open_of live s (sizes_of t) ≡ o → Ok (ps, heads) ≡ reply_of o
           → t₂ ≡ tables_of live s (sizes_of t) (open_of live s (sizes_of t))
       by (read qs hs) v w =
           g.tables qs hs (ap (open_of live s) same ∙ v) ∙ ap (λ (m : Sizes). shown live s m qs) same

@@ -11,16 +11,12 @@ use borrow.Author.Tests.{eqb-true, eqb-false, leb-false}
 use Rattle.refusals.specs.Refusals.{overrun, bad_argument, unknown_size}
 use Rattle.header.specs.Reads.{behind}
 use Rattle.header.specs.declared.cursor.Headed.{Headed}
-use Rattle.header.specs.declared.cursor.HeaderRead.{HeaderRead}
-use Rattle.header.specs.declared.cursor.HeaderRead.TheVariants.{Read, Refused as HeaderRefused}
 use Rattle.sizes.specs.Unknown.{unknown}
 use Rattle.kinds.specs.Kinds.{member}
 use Rattle.elements_rules.specs.Forest.{count}
 use Rattle.elements_rules.specs.Reading.{Outcome, done, refuse_if}
 use Rattle.elements_rules.specs.Reading.{refused as unread}
 use Rattle.elements_rules.specs.Promise.{allowed, filled, read_of, ReadPromise}
-use Rattle.elements_rules.specs.declared.reply.ReadReply.{ReadReply}
-use Rattle.elements_rules.specs.declared.reply.ReadReply.TheVariants.{Rows, Refused as ReadRefused}
 use Rattle.elements_rules.specs.Faults.{Errand, to_step, to_pass}
 use Rattle.elements_rules.specs.Live.{AllKnown}
 use Rattle.elements_rules.proofs.Live.{none_is_all, body_known, live_reads}
@@ -30,7 +26,6 @@ use Rattle.walks_rules.specs.Walk.{Visit, ends, over, on_visit}
 use Rattle.walks_rules.specs.Endings.{pass_over, room_of, walk_from}
 use Rattle.walks_rules.specs.declared.step.Stretch.{Stretch}
 use Rattle.walks_rules.specs.declared.step.Stretch.TheVariants.{Sized}
-use Rattle.walks_rules.specs.declared.step.ChildRead.TheVariants.{Child}
 use Rattle.walks_rules.proofs.Steps.{stepped_on}
 use Rattle.walks_rules.proofs.Known.{KnownAt, child_known, pass_known}
 use Rattle.seekhead_rules.specs.Seeks.{seek_head_id}
@@ -61,12 +56,12 @@ use Rattle.open_rules.specs.declared.parts.Which.TheVariants.{Info, Tracks, Atta
 use Rattle.open_rules.specs.declared.parts.Part.{Part}
 use Rattle.open_rules.specs.declared.parts.Part.TheVariants.{Absent, Found}
 use Rattle.open_rules.specs.declared.parts.Parts.{Parts}
-use Rattle.open_rules.specs.declared.reply.OpenReply.{OpenReply}
-use Rattle.open_rules.specs.declared.reply.OpenReply.TheVariants.{Read as Told, Refused as NotTold}
 use Rattle.open_rules.proofs.Lending.{each_same}
 use Rattle.open_rules.proofs.Faults.{clash, joins, past_snoc, in_turn, first_turn}
 use Rattle.open_rules.proofs.Unique.{all_zeroed}
 use Rattle.open_rules.proofs.Found.{open_is_read}
+use Rattle.std.proofs.Common.{Result, Ok, Err, Some}
+use Rattle.refusals.specs.declared.refusal.Refusal.{Refusal}
 
 module _ (s : List ℕ) (n : Sizes) (k : AllKnown s (OpenComes false s n)) where
   -- A part that is come to is read alike.
@@ -85,7 +80,7 @@ module _ (s : List ℕ) (n : Sizes) (k : AllKnown s (OpenComes false s n)) where
 
   -- ---- in the segment
 
-  module _ (segment : Headed) (is : segment_of false s ≡ Read segment) (u : unknown segment.header ≡ false) where
+  module _ (segment : Headed) (is : segment_of false s ≡ Ok segment) (u : unknown segment.header ≡ false) where
     abbrev stretch : Stretch
     stretch = Sized (behind segment)
 
@@ -105,12 +100,12 @@ module _ (s : List ℕ) (n : Sizes) (k : AllKnown s (OpenComes false s n)) where
         k at (to_pass false (seek_head_id ∷ []) _) h
         (in_segment segment at is refl g (leb-false (behind segment) at p)) refl q
 
-    child_sized : (at : ℕ) (e : Headed) → On at → child_at false s stretch at ≡ Child e → unknown e.header ≡ false
+    child_sized : (at : ℕ) (e : Headed) → On at → child_at false s stretch at ≡ Ok (Some e) → unknown e.header ≡ false
     child_sized at e g q = of_known s stretch at e (in_segment_law at g (child_before false s stretch at e q)) q
 
     -- ---- from the first head on
 
-    module _ (first : Headed) (g : On first.place.at) (c : child_at false s stretch first.place.at ≡ Child first)
+    module _ (first : Headed) (g : On first.place.at) (c : child_at false s stretch first.place.at ≡ Ok (Some first))
         (h : IsAt s seek_head_id first.place.at first) where
       -- What the heads lead to for a part whose turn it is.
       heads_known : (which : Which) → Before false s n start first which
@@ -204,14 +199,14 @@ module _ (s : List ℕ) (n : Sizes) (k : AllKnown s (OpenComes false s n)) where
 
     -- ---- the children
 
-    module _ (at : ℕ) (e : Headed) (g : On at) (q : child_at false s stretch at ≡ Child e) where
+    module _ (at : ℕ) (e : Headed) (g : On at) (q : child_at false s stretch at ≡ Ok (Some e)) where
       begins : e.place.at ≡ at
       begins = (stepped_on false s stretch at e q).begins
 
       here : On e.place.at
       here = subst On (sym begins) g
 
-      child_here : child_at false s stretch e.place.at ≡ Child e
+      child_here : child_at false s stretch e.place.at ≡ Ok (Some e)
       child_here = ap (child_at false s stretch) begins ∙ q
 
       met_same : member e.header.id part_ids ≡ true
@@ -311,15 +306,15 @@ module _ (s : List ℕ) (n : Sizes) (k : AllKnown s (OpenComes false s n)) where
   whole_same : whole_of true s n ≡ whole_of false s n
   unfolding whole_of
   whole_same =
-      ap (λ (x : HeaderRead). on_header x refused (λ segment.
+      ap (λ (x : Result Headed Refusal). on_header x refused (λ segment.
       children_from true s n segment segment.payload.at no_parts)) (segment_known s in_file_law)
       ∙ by (segment_of false s) refl (segment_sized s in_file_law)
     where
-      by : (x : HeaderRead) → segment_of false s ≡ x → SegmentSized s in_file_law x
+      by : (x : Result Headed Refusal) → segment_of false s ≡ x → SegmentSized s in_file_law x
           → on_header x refused (λ segment. children_from true s n segment segment.payload.at no_parts)
           ≡ on_header x refused (λ segment. children_from false s n segment segment.payload.at no_parts)
-      by (Read segment) is u = children_same segment is u no_parts
-      by (HeaderRefused r) is u = refl
+      by (Ok segment) is u = children_same segment is u no_parts
+      by (Err r) is u = refl
 
 open_same : (s : List ℕ) (n : Sizes) → (are_allowed s n ≡ true → AllKnown s (OpenComes false s n))
     → open_of true s n ≡ open_of false s n
@@ -333,13 +328,13 @@ open_same s n k = by (are_allowed s n) refl
     by false a = refl
 
 -- The table of a part is the same in both modes, where it was read in both.
-table_same : (s : List ℕ) (t : Tables) (ps : Parts) (k : ℕ) (t' u' : Tables) → OpenPromise false s t (Told ps k) t'
-    → OpenPromise true s t (Told ps k) u' → (which : Which) → of u' which ≡ of t' which
+table_same : (s : List ℕ) (t : Tables) (ps : Parts) (k : ℕ) (t' u' : Tables) → OpenPromise false s t (Ok (ps, k)) t'
+    → OpenPromise true s t (Ok (ps, k)) u' → (which : Which) → of u' which ≡ of t' which
 table_same s t ps k t' u' p q which = by (part_of ps which) refl
   where
     read_same : (rows : ℕ)
-        → ((a : ℕ) × (◌≡◌ {A = ReadReply} (Rows rows) (ReadRefused (unknown_size a))))
-        ⊎ ((◌≡◌ {A = ReadReply} (Rows rows) (Rows rows)) × (of u' which ≡ of t' which))
+        → ((a : ℕ) × (◌≡◌ {A = (Result ℕ Refusal)} (Ok rows) (Err (unknown_size a))))
+        ⊎ ((◌≡◌ {A = (Result ℕ Refusal)} (Ok rows) (Ok rows)) × (of u' which ≡ of t' which))
         → of u' which ≡ of t' which
     read_same rows (inl (a, e)) = clash cc
     read_same rows (inr (e, w)) = w
@@ -348,20 +343,20 @@ table_same s t ps k t' u' p q which = by (part_of ps which) refl
     by Absent e = all_zeroed.absent true s t ps k u' q which e ∙ sym (all_zeroed.absent false s t ps k t' p which e)
     by (Found at size rows) e =
         read_same rows
-        (live_reads s at size (parent_of which) (of t which) (Rows rows) (Rows rows) (of t' which) (of u' which)
+        (live_reads s at size (parent_of which) (of t which) (Ok rows) (Ok rows) (of t' which) (of u' which)
         (open_is_read false s t ps k t' p which at size rows e) (open_is_read true s t ps k u' q which at size rows e))
 
 pub equal_opens : EqualOpens
 equal_opens s t r r' t' u' k p q =
     let e = open_same s (sizes_of t) k in
     let w : r' ≡ r = q.reply ∙ ap reply_of e ∙ sym p.reply in
-    (w, by r p (subst (λ (x : OpenReply). OpenPromise true s t x u') w q))
+    (w, by r p (subst (λ (x : Result (Parts × ℕ) Refusal). OpenPromise true s t x u') w q))
   where
-    by : (x : OpenReply) → OpenPromise false s t x t' → OpenPromise true s t x u' → u' ≡ t'
-    by (Told ps n) p q =
+    by : (x : Result (Parts × ℕ) Refusal) → OpenPromise false s t x t' → OpenPromise true s t x u' → u' ≡ t'
+    by (Ok (ps, n)) p q =
         let same = table_same s t ps n t' u' p q in
         each_same (same Info) (same Tracks) (same Attachments) (same Chapters) (same Tags)
-    by (NotTold e) p q = all_zeroed.refused true s t e u' q ∙ sym (all_zeroed.refused false s t e t' p)
+    by (Err e) p q = all_zeroed.refused true s t e u' q ∙ sym (all_zeroed.refused false s t e t' p)
 
 pub equal_opens_without : EqualOpensWithout
 equal_opens_without s t r r' t' u' n p q = equal_opens s t r r' t' u' (λ a. none_is_all s _ n) p q

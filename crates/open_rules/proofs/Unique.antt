@@ -17,7 +17,7 @@ use Rattle.open_rules.specs.Theorems.{OneOpen, OpenRefusesListed, AllZeroed}
 use Rattle.open_rules.specs.declared.parts.Which.{Which}
 use Rattle.open_rules.specs.declared.parts.Which.TheVariants.{Info, Tracks, Attachments, Chapters, Tags}
 use Rattle.open_rules.specs.declared.parts.Parts.{Parts}
-use Rattle.open_rules.specs.declared.reply.OpenReply.TheVariants.{Read, Refused}
+use Rattle.std.proofs.Common.{Ok, Err}
 
 pub open_unique : OneOpen
 open_unique live s t u r r' t' u' l p q = (
@@ -30,12 +30,12 @@ open_refuses_listed live s t e t' p = listed e
 
 -- ---- what a reply tells of the call
 
-pub reply_read : (ps : Parts) (k : ℕ) (o : Opening) → Read ps k ≡ reply_of o
+pub reply_read : (ps : Parts) (k : ℕ) (o : Opening) → Ok (ps, k) ≡ reply_of o
     → (heads : List ℕ) × (o ≡ read ps heads) × (k ≡ length heads)
 reply_read ps k (read qs heads) q = (heads, ap (λ (x : Parts). read x heads) cc, cc)
 reply_read ps k (refused e) q = let z : ◌≡◌ {A = ℕ} 0 1 = cc in absurd (omega arith)
 
-pub reply_refused : (e : Refusal) (o : Opening) → Refused e ≡ reply_of o → o ≡ refused e
+pub reply_refused : (e : Refusal) (o : Opening) → Err e ≡ reply_of o → o ≡ refused e
 reply_refused e (read qs heads) q = let z : ◌≡◌ {A = ℕ} 0 1 = cc in absurd (omega arith)
 reply_refused e (refused e') q = cc
 
@@ -59,7 +59,7 @@ shown_at live s n ps Tags = refl
 
 -- What the table of a part shows after an accepted call.
 pub table_shown : (live : Bool) (s : List ℕ) (t : Tables) (ps : Parts) (k : ℕ) (t' : Tables)
-    → OpenPromise live s t (Read ps k) t' → (which : Which)
+    → OpenPromise live s t (Ok (ps, k)) t' → (which : Which)
     → of t' which ≡ shown_of live s (sizes_of t) which (part_of ps which)
 unfolding tables_of
 table_shown live s t ps k t' p which =

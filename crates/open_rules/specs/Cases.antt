@@ -12,8 +12,8 @@ use Rattle.open_rules.specs.declared.parts.Which.TheVariants.{Info, Tracks, Atta
 use Rattle.open_rules.specs.declared.parts.Part.{Part}
 use Rattle.open_rules.specs.declared.parts.Part.TheVariants.{Found}
 use Rattle.open_rules.specs.declared.parts.Parts.{Parts}
-use Rattle.open_rules.specs.declared.reply.OpenReply.{OpenReply}
-use Rattle.open_rules.specs.declared.reply.OpenReply.TheVariants.{Read, Refused}
+use Rattle.std.specs.Prelude.{Result, Ok, Err}
+use Rattle.refusals.specs.declared.refusal.Refusal.{Refusal}
 
 -- ---- replies
 
@@ -22,9 +22,9 @@ use Rattle.open_rules.specs.declared.reply.OpenReply.TheVariants.{Read, Refused}
 pub data OpenTold : Type 0 where
   open_told : Parts → (heads : ℕ) → OpenTold
 
-abbrev pub by_number : OpenReply → ByNumber OpenTold
-by_number (Read ps heads) = given (open_told ps heads)
-by_number (Refused e) = refused (cause_number e.cause) (cause_id e.cause) e.address
+abbrev pub by_number : Result (Parts × ℕ) Refusal → ByNumber OpenTold
+by_number (Ok (ps, heads)) = given (open_told ps heads)
+by_number (Err e) = refused (cause_number e.cause) (cause_id e.cause) e.address
 
 -- All parts are absent but one, or all are, or none is.
 abbrev only : Which → Part → (heads : ℕ) → ByNumber OpenTold

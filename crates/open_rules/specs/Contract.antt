@@ -8,16 +8,12 @@ use Rattle.elements_rules.specs.Reading.{refused as unread}
 use Rattle.elements_rules.specs.Promise.{table_of, read_told}
 use Rattle.elements_rules.specs.Contract.{ClearFrom}
 use Rattle.elements_rules.specs.Promise.{reply_of as read_reply}
-use Rattle.elements_rules.specs.declared.reply.ReadReply.{ReadReply}
-use Rattle.elements_rules.specs.declared.reply.ReadReply.TheVariants.{Rows, Refused as Unread}
 use Rattle.walks_rules.specs.Contract.{Readable}
 use Rattle.walks_rules.specs.Step.{child_at}
 use Rattle.walks_rules.specs.Walk.{on_passed}
 use Rattle.walks_rules.specs.Endings.{room_of}
-use Rattle.walks_rules.specs.declared.step.ChildRead.TheVariants.{Child}
 use Rattle.seekhead_rules.specs.Table.{positions}
 use Rattle.seekhead_rules.specs.declared.head.Wanted.{Wanted}
-use Rattle.seekhead_rules.specs.declared.head.Latest.{Latest}
 use Rattle.seekhead_rules.specs.declared.head.Positions.{Positions}
 use Rattle.seekchain_rules.specs.Heads.{Heads, last_head}
 use Rattle.segments_rules.specs.Segment.{stretch_of, past_child}
@@ -30,12 +26,12 @@ use Rattle.open_rules.specs.declared.parts.Which.TheVariants.{Info, Tracks, Atta
 use Rattle.open_rules.specs.declared.parts.Part.{Part}
 use Rattle.open_rules.specs.declared.parts.Part.TheVariants.{Found}
 use Rattle.open_rules.specs.declared.parts.Parts.{Parts}
-use Rattle.open_rules.specs.declared.reply.OpenReply.{OpenReply}
 use Rattle.open_rules.specs.declared.turns.Seeking.{Seeking}
 use Rattle.open_rules.specs.declared.turns.Stage.{Stage}
 use Rattle.open_rules.specs.declared.turns.Stage.TheVariants.{From, Behind, Sought, Refused}
 use Rattle.open_rules.specs.declared.turns.Turn.{Turn}
 use Rattle.open_rules.specs.declared.turns.Turn.TheVariants.{Read, Over}
+use Rattle.std.specs.Prelude.{Result, Option, Ok, Err, Some}
 
 -- ---- the seek heads
 
@@ -49,7 +45,7 @@ every = record {
   fifth = id_of Tags;
 }
 
-abbrev pub link_of : Positions → Which → Latest
+abbrev pub link_of : Positions → Which → Option ℕ
 link_of links Info = links.first
 link_of links Tracks = links.second
 link_of links Attachments = links.third
@@ -87,7 +83,7 @@ module _ (live : Bool) (s : List ℕ) (n : Sizes) where
   abbrev pub Stands : Stage → Parts → Opening → Type 0
   Stands (From segment at) ps o = o ≡ children_from live s n segment at ps
   Stands (Behind segment child) ps o =
-      (child_at live s (stretch_of live s segment) child.place.at ≡ Child child)
+      (child_at live s (stretch_of live s segment) child.place.at ≡ Ok (Some child))
       × (o ≡ on_passed (past_child live s segment child) refused (λ next.
       children_from live s n segment next ps))
   Stands (Sought seeking sought) ps o =
@@ -108,7 +104,7 @@ module _ (live : Bool) (s : List ℕ) (n : Sizes) where
     pub ready : Ready s next
 
   -- The call is over: with what is known of the parts, or a refusal.
-  pub record Ends (ps : Parts) (o : Opening) (reply : OpenReply) : Type 0 where
+  pub record Ends (ps : Parts) (o : Opening) (reply : Result (Parts × ℕ) Refusal) : Type 0 where
     pub reply_is : reply ≡ reply_of o
     pub known : (qs : Parts) (heads : List ℕ) → o ≡ read qs heads → qs ≡ ps
 
@@ -151,19 +147,19 @@ pub record ClearBehind (ps : Parts) (t : Tables) : Type 0 where
 
 -- One of the five tables was read into.
 pub record ReadInto
-    (live : Bool) (s : List ℕ) (which : Which) (at size : ℕ) (t : Tables) (r : ReadReply) (t' : Tables) : Type 0 where
+    (live : Bool) (s : List ℕ) (which : Which) (at size : ℕ) (t : Tables) (r : Result ℕ Refusal) (t' : Tables) : Type 0 where
   pub reply : read_told r ≡ read_reply (part_read live s (sizes_of t) which at size)
   pub tables : t' ≡ put t which (table_of at (of (sizes_of t) which) (part_read live s (sizes_of t) which at size))
 
 -- What is known with a part that was read.
-abbrev pub known_after : Parts → Which → Headed → ReadReply → Parts
-known_after ps which e (Rows rows) = placed ps which (Found e.payload.at e.header.size rows)
-known_after ps which e (Unread r) = ps
+abbrev pub known_after : Parts → Which → Headed → Result ℕ Refusal → Parts
+known_after ps which e (Ok rows) = placed ps which (Found e.payload.at e.header.size rows)
+known_after ps which e (Err r) = ps
 
 -- Where the call stands then.
-abbrev pub stage_after : Stage → ReadReply → Stage
-stage_after next (Rows rows) = next
-stage_after next (Unread r) = Refused r
+abbrev pub stage_after : Stage → Result ℕ Refusal → Stage
+stage_after next (Ok rows) = next
+stage_after next (Err r) = Refused r
 
 -- ---- the whole call
 
@@ -173,7 +169,7 @@ pub record Begins (live : Bool) (s : List ℕ) (n : Sizes) (stage : Stage) : Typ
   pub stands : Stands live s n stage no_parts (open_of live s n)
 
 -- What the turns from the first stage on come to, with cleared tables: the reply, and tables that show its parts.
-pub record Ran (live : Bool) (s : List ℕ) (t : Tables) (r : OpenReply) (t' : Tables) : Type 0 where
+pub record Ran (live : Bool) (s : List ℕ) (t : Tables) (r : Result (Parts × ℕ) Refusal) (t' : Tables) : Type 0 where
   pub reply : r ≡ reply_of (open_of live s (sizes_of t))
   pub tables :
       (ps : Parts) (heads : List ℕ) → open_of live s (sizes_of t) ≡ read ps heads → t' ≡ shown live s (sizes_of t) ps

@@ -3,7 +3,6 @@ use Rattle.std.specs.Prelude.{ℕ, ◌-◌, ◌/◌, ◌<◌, ◌≡◌, List, [
 use Rattle.refusals.specs.declared.refusal.Refusal.{Refusal}
 use Rattle.header.specs.Reads.{behind}
 use Rattle.header.specs.declared.cursor.Headed.{Headed}
-use Rattle.header.specs.declared.cursor.HeaderRead.TheVariants.{Read}
 use Rattle.sizes.specs.Unknown.{unknown}
 use Rattle.kinds.specs.Kinds.{member}
 use Rattle.elements_rules.specs.Forest.{Forest}
@@ -14,7 +13,6 @@ use Rattle.elements_rules.specs.Faults.{Errand, to_step, to_pass, Honest, Comes}
 use Rattle.walks_rules.specs.Step.{child_at}
 use Rattle.walks_rules.specs.Endings.{end_of}
 use Rattle.walks_rules.specs.declared.step.Stretch.TheVariants.{Sized, Endless}
-use Rattle.walks_rules.specs.declared.step.ChildRead.TheVariants.{Child, End}
 use Rattle.seekhead_rules.specs.Seeks.{segment_id, seek_head_id}
 use Rattle.seekhead_rules.specs.Table.{latest}
 use Rattle.seekchain_rules.specs.Heads.{Heads, chained, linked_heads}
@@ -27,7 +25,7 @@ use Rattle.open_rules.specs.Parts.{id_of, which_of, parent_of, order}
 use Rattle.open_rules.specs.Tables.{Tables, Sizes, sizes_of, of, part_read}
 use Rattle.open_rules.specs.Promise.{OpenPromise}
 use Rattle.open_rules.specs.declared.parts.Which.{Which}
-use Rattle.open_rules.specs.declared.reply.OpenReply.TheVariants.{Refused}
+use Rattle.std.specs.Prelude.{Ok, Err, Some, None}
 
 module _ (live : Bool) (s : List ℕ) (n : Sizes) where
   -- How the reader of a part's elements comes to one of them.
@@ -80,41 +78,41 @@ module _ (live : Bool) (s : List ℕ) (n : Sizes) where
   pub data OpenComes : ℕ → Errand → Type 0 where
     in_file : (a : ℕ) → ToSegment live s a → OpenComes a (to_step live)
     in_file_unknown :
-        (at : ℕ) (e : Headed) (a : ℕ) → ToSegment live s at → child_at live s (Sized (length s)) at ≡ Child e
+        (at : ℕ) (e : Headed) (a : ℕ) → ToSegment live s at → child_at live s (Sized (length s)) at ≡ Ok (Some e)
         → (e.header.id ≡ segment_id → ⊥) → (live && unknown e.header) ≡ true → InUnknown s (length s) e a
-        → (child_at true s (Endless e.header.id (length s)) a ≡ End → ⊥)
+        → (child_at true s (Endless e.header.id (length s)) a ≡ (Ok None) → ⊥)
         → OpenComes a (to_step true)
     in_segment :
-        (segment : Headed) (a : ℕ) → segment_of live s ≡ Read segment → (live && unknown segment.header) ≡ false
+        (segment : Headed) (a : ℕ) → segment_of live s ≡ Ok segment → (live && unknown segment.header) ≡ false
         → InOpen segment a → a < behind segment
         → OpenComes a (to_pass live (seek_head_id ∷ []) (behind segment - a))
     in_endless :
-        (segment : Headed) (a : ℕ) → segment_of live s ≡ Read segment → (live && unknown segment.header) ≡ true
-        → InOpen segment a → (child_at live s (stretch_of live s segment) a ≡ End → ⊥)
+        (segment : Headed) (a : ℕ) → segment_of live s ≡ Ok segment → (live && unknown segment.header) ≡ true
+        → InOpen segment a → (child_at live s (stretch_of live s segment) a ≡ (Ok None) → ⊥)
         → OpenComes a (to_step live)
     in_segment_unknown :
-        (segment : Headed) (at : ℕ) (e : Headed) (a : ℕ) → segment_of live s ≡ Read segment
-        → InOpen segment at → child_at live s (stretch_of live s segment) at ≡ Child e
+        (segment : Headed) (at : ℕ) (e : Headed) (a : ℕ) → segment_of live s ≡ Ok segment
+        → InOpen segment at → child_at live s (stretch_of live s segment) at ≡ Ok (Some e)
         → OpenedOver segment e → (live && unknown e.header) ≡ true
         → InUnknown s (end_of (stretch_of live s segment)) e a
-        → (child_at true s (Endless e.header.id (end_of (stretch_of live s segment))) a ≡ End → ⊥)
+        → (child_at true s (Endless e.header.id (end_of (stretch_of live s segment))) a ≡ (Ok None) → ⊥)
         → OpenComes a (to_step true)
     in_met :
-        (segment e : Headed) (a : ℕ) (x : Errand) → segment_of live s ≡ Read segment
-        → InOpen segment e.place.at → child_at live s (stretch_of live s segment) e.place.at ≡ Child e
+        (segment e : Headed) (a : ℕ) (x : Errand) → segment_of live s ≡ Ok segment
+        → InOpen segment e.place.at → child_at live s (stretch_of live s segment) e.place.at ≡ Ok (Some e)
         → member e.header.id part_ids ≡ true
         → PartComes (which_of e.header.id) e a x → OpenComes a x
     from_heads :
-        (segment first : Headed) (which : Which) (a : ℕ) (x : Errand) → segment_of live s ≡ Read segment
+        (segment first : Headed) (which : Which) (a : ℕ) (x : Errand) → segment_of live s ≡ Ok segment
         → InOpen segment first.place.at
-        → child_at live s (stretch_of live s segment) first.place.at ≡ Child first
+        → child_at live s (stretch_of live s segment) first.place.at ≡ Ok (Some first)
         → IsAt s seek_head_id first.place.at first → Before segment.payload.at first which
         → HeadsCome live s (id_of which) segment.payload.at first a x
         → OpenComes a x
     in_sought :
         (segment first : Headed) (which : Which) (heads : Heads) (e : Headed) (hs : List ℕ) (a : ℕ) (x : Errand)
-        → segment_of live s ≡ Read segment → InOpen segment first.place.at
-        → child_at live s (stretch_of live s segment) first.place.at ≡ Child first
+        → segment_of live s ≡ Ok segment → InOpen segment first.place.at
+        → child_at live s (stretch_of live s segment) first.place.at ≡ Ok (Some first)
         → IsAt s seek_head_id first.place.at first → Before segment.payload.at first which
         → linked_heads live s segment.payload.at first ≡ chained heads
         → place_of segment.payload.at heads which ≡ found e hs
@@ -125,4 +123,4 @@ module _ (live : Bool) (s : List ℕ) (n : Sizes) where
 abbrev pub OpenHonest : Type 0
 OpenHonest =
     (live : Bool) (s : List ℕ) (t : Tables) (e : Refusal) (t' : Tables)
-    → OpenPromise live s t (Refused e) t' → Honest s (OpenComes live s (sizes_of t)) e
+    → OpenPromise live s t (Err e) t' → Honest s (OpenComes live s (sizes_of t)) e

@@ -7,5 +7,4 @@ mod reply;
 mod turns;
 
 pub use parts::{Part, Parts, Which};
-pub use reply::OpenReply;
 pub use turns::{Seeking, Stage, Turn};

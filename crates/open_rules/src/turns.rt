@@ -1,6 +1,5 @@
 // Where `open` stands between two parts that it reads, and what it does next.
-use crate::parts::Which;
-use crate::reply::OpenReply;
+use crate::parts::{Parts, Which};
 use header::Headed;
 use refusals::Refusal;
 use seekhead_rules::Positions;
@@ -33,5 +32,5 @@ pub enum Turn {
         part: Headed,
         next: Stage,
     },
-    Over(OpenReply),
+    Over(Result<(Parts, u64), Refusal>),
 }

@@ -5,7 +5,7 @@ ghost use Rattle.open_rules.specs.Contract.{which_at, link_of, rows_known};
 
 use kinds::ids;
 use open_rules::{Part, Parts, Which};
-use seekhead_rules::{Latest, Positions};
+use seekhead_rules::Positions;
 
 // Which part an id names, of those that name one.
 pub fn which_of(id: u32) -> Which
@@ -46,7 +46,7 @@ pub fn which_at(sought: u64) -> Which
 }
 
 // The latest position of a part.
-pub fn link_of(links: Positions, which: Which) -> Latest
+pub fn link_of(links: Positions, which: Which) -> Option<u64>
     ensures { result ≡ link_of links which }
 {
     match which {

@@ -4,7 +4,6 @@ ghost use Rattle.open_rules.specs.Tables.{five};
 ghost use Rattle.open_rules.specs.Promise.{are_allowed};
 ghost use Rattle.open_rules.specs.Contract.{Begins};
 
-use header::HeaderRead;
 use open_rules::Stage;
 use refusals::{Cause, Refusal};
 use rowstore::is_allowed;
@@ -59,8 +58,8 @@ pub fn begin(
         });
     }
     match segment_of(recording, live) {
-        HeaderRead::Refused(refusal) => Stage::Refused(refusal),
-        HeaderRead::Read(segment) => Stage::From {
+        Err(refusal) => Stage::Refused(refusal),
+        Ok(segment) => Stage::From {
             segment,
             at: segment.payload.at,
         },

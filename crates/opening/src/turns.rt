@@ -5,16 +5,15 @@ ghost use Rattle.open_rules.specs.Contract.{Ready, TurnsFrom, TurnsSought, Turns
 ghost use Rattle.open_rules.specs.Contract.{known_after, stage_after};
 
 use crate::parts::{id_of, link_of, placed, which_at, which_of};
-use elements_rules::ReadReply;
 use header::Headed;
 use kinds::ids;
-use open_rules::{OpenReply, Part, Parts, Seeking, Stage, Turn, Which};
+use open_rules::{Part, Parts, Seeking, Stage, Turn, Which};
+use refusals::Refusal;
 use seekchain::{linked_heads, part_at};
-use seekchain_rules::{HeadsRead, PartPlace};
+use seekchain_rules::HeadsRead;
 use seekhead_rules::Wanted;
 use segments::{meet, past_child, stretch_of};
 use segments_rules::{Aim, Met};
-use walks_rules::Passed;
 
 // After the heads, when so many of the parts were sought: the next one that an entry names.
 fn next_sought(recording: &[u8], live: bool, seeking: Seeking, count: u64, known: Parts) -> Turn
@@ -35,11 +34,11 @@ fn next_sought(recording: &[u8], live: bool, seeking: Seeking, count: u64, known
             seeking.last,
             link,
         ) {
-            PartPlace::Refused(refusal) => {
-                return Turn::Over(OpenReply::Refused(refusal));
+            Err(refusal) => {
+                return Turn::Over(Err(refusal));
             }
-            PartPlace::Absent { heads: _ } => {}
-            PartPlace::Found { part, heads: _ } => {
+            Ok((None, _)) => {}
+            Ok((Some(part), _)) => {
                 return Turn::Read {
                     which,
                     part,
@@ -51,10 +50,7 @@ fn next_sought(recording: &[u8], live: bool, seeking: Seeking, count: u64, known
             }
         }
     }
-    Turn::Over(OpenReply::Read {
-        parts: known,
-        heads: seeking.heads,
-    })
+    Turn::Over(Ok((known, seeking.heads)))
 }
 
 // From the first seek head on: all linked heads are read, then the parts are sought.
@@ -70,7 +66,7 @@ fn from_head(recording: &[u8], live: bool, start: u64, first: Headed, known: Par
         fifth: ids::TAGS,
     };
     match linked_heads(recording, live, wanted, start, first) {
-        HeadsRead::Refused(refusal) => Turn::Over(OpenReply::Refused(refusal)),
+        HeadsRead::Refused(refusal) => Turn::Over(Err(refusal)),
         HeadsRead::Read { parts, heads, last } => {
             let seeking = Seeking {
                 start,
@@ -89,13 +85,10 @@ fn next_met(recording: &[u8], live: bool, segment: Headed, at: u64, known: Parts
     ensures { TurnsMet live recording.now segment at known result }
 {
     match meet(recording, live, Aim::Every, segment, at) {
-        Met::Refused(refusal) => Turn::Over(OpenReply::Refused(refusal)),
-        Met::End => Turn::Over(OpenReply::Read {
-            parts: known,
-            heads: 0,
-        }),
-        Met::Head(first) => from_head(recording, live, segment.payload.at, first, known),
-        Met::Part(part) => Turn::Read {
+        Err(refusal) => Turn::Over(Err(refusal)),
+        Ok(Met::End) => Turn::Over(Ok((known, 0))),
+        Ok(Met::Head(first)) => from_head(recording, live, segment.payload.at, first, known),
+        Ok(Met::Part(part)) => Turn::Read {
             which: which_of(part.header.id),
             part,
             next: Stage::Behind {
@@ -116,22 +109,22 @@ pub fn turn(recording: &[u8], live: bool, stage: Stage, known: Parts) -> Turn
         Stage::Behind { segment, child } => {
             let stretch = stretch_of(recording, live, segment);
             match past_child(recording, live, stretch, child) {
-                Passed::Refused(refusal) => Turn::Over(OpenReply::Refused(refusal)),
-                Passed::At(next) => next_met(recording, live, segment, next, known),
+                Err(refusal) => Turn::Over(Err(refusal)),
+                Ok(next) => next_met(recording, live, segment, next, known),
             }
         }
         Stage::Sought { seeking, count } => next_sought(recording, live, seeking, count, known),
-        Stage::Refused(refusal) => Turn::Over(OpenReply::Refused(refusal)),
+        Stage::Refused(refusal) => Turn::Over(Err(refusal)),
     }
 }
 
 // What is known with a part that was read: the last one of each stands.
-pub fn known_after(known: Parts, which: Which, part: Headed, reply: ReadReply) -> Parts
+pub fn known_after(known: Parts, which: Which, part: Headed, reply: Result<u64, Refusal>) -> Parts
     ensures { result ≡ known_after known which part reply }
 {
     match reply {
-        ReadReply::Refused(_) => known,
-        ReadReply::Rows(rows) => {
+        Err(_) => known,
+        Ok(rows) => {
             let found = Part::Found {
                 at: part.payload.at,
                 size: part.header.size,
@@ -143,11 +136,11 @@ pub fn known_after(known: Parts, which: Which, part: Headed, reply: ReadReply) -
 }
 
 // Where `open` stands when a part was read: a refusal ends it.
-pub fn stage_after(next: Stage, reply: ReadReply) -> Stage
+pub fn stage_after(next: Stage, reply: Result<u64, Refusal>) -> Stage
     ensures { result ≡ stage_after next reply }
 {
     match reply {
-        ReadReply::Refused(refusal) => Stage::Refused(refusal),
-        ReadReply::Rows(_) => next,
+        Err(refusal) => Stage::Refused(refusal),
+        Ok(_) => next,
     }
 }

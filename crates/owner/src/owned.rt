@@ -10,10 +10,10 @@ ghost use Rattle.owner_rules.specs.Contract.{WalkMet};
 
 use crate::chain::keep_link;
 use elements::element_header;
-use header::{Cursor, HeaderRead, MOST_BYTES};
+use header::{Cursor, MOST_BYTES};
 use kind_decision::kind_of;
 use kinds::MASTER;
-use owner_rules::OwnerReply;
+use owner_rules::Owner;
 use places::is_within;
 use refusals::{Cause, Refusal};
 use rowstore::clear;
@@ -45,7 +45,7 @@ fn walk(
     parent: u32,
     address: u64,
     chain: &mut [u64],
-) -> OwnerReply
+) -> Result<Owner, Refusal>
     requires recording_len_bound { length recording.now ≤ most_bytes }
     requires address_value { within start size address ≡ true }
     requires chain_value { chain.old ≡ zeros (length chain.old) }
@@ -59,19 +59,19 @@ fn walk(
     while left > 0 {
         let here = place.at;
         match element_header(recording, live, place) {
-            HeaderRead::Refused(refusal) => {
-                return OwnerReply::Refused(refusal);
+            Err(refusal) => {
+                return Err(refusal);
             }
-            HeaderRead::Read(headed) => {
+            Ok(headed) => {
                 if depth >= DEPTHS {
-                    return OwnerReply::Refused(Refusal {
+                    return Err(Refusal {
                         address: here,
                         cause: Cause::TooDeep,
                     });
                 }
                 let whole = headed.header.length + headed.header.size;
                 if whole > left {
-                    return OwnerReply::Refused(Refusal {
+                    return Err(Refusal {
                         address: here,
                         cause: Cause::Overrun,
                     });
@@ -80,17 +80,17 @@ fn walk(
                 if past < whole {
                     keep_link(chain, depth, here);
                     if past < headed.header.length {
-                        return OwnerReply::Header {
+                        return Ok(Owner::Header {
                             address: here,
                             depth,
-                        };
+                        });
                     }
                     let id = headed.header.id;
                     if kind_of(id, above).number() != MASTER {
-                        return OwnerReply::Payload {
+                        return Ok(Owner::Payload {
                             address: here,
                             depth,
-                        };
+                        });
                     }
                     place = headed.payload;
                     left = headed.header.size;
@@ -104,7 +104,7 @@ fn walk(
         }
     }
     // Not reached: something is left while the address is ahead.
-    OwnerReply::Refused(Refusal {
+    Err(Refusal {
         address: 0,
         cause: Cause::Outside,
     })
@@ -123,25 +123,25 @@ pub fn owner_chain(
     parent: u32,
     address: u64,
     chain: &mut [u64],
-) -> OwnerReply
+) -> Result<Owner, Refusal>
     ensures { ChainPromise live recording.now start size parent address
         chain.old result chain.new }
 {
     clear(chain);
     if !is_asked(recording, start, chain.len()) {
-        return OwnerReply::Refused(Refusal {
+        return Err(Refusal {
             address: 0,
             cause: Cause::BadArgument,
         });
     }
     if !is_within(start, size, address) {
-        return OwnerReply::Refused(Refusal {
+        return Err(Refusal {
             address: 0,
             cause: Cause::Outside,
         });
     }
     let reply = walk(recording, live, start, size, parent, address, chain);
-    if let OwnerReply::Refused(_) = reply {
+    if let Err(_) = reply {
         clear(chain);
     }
     reply
@@ -155,7 +155,7 @@ pub fn owner(
     size: u64,
     parent: u32,
     address: u64,
-) -> OwnerReply
+) -> Result<Owner, Refusal>
     ensures { OwnerPromise live recording.now start size parent address result }
 {
     let mut chain = [0u64; 16];

@@ -18,8 +18,8 @@ use Rattle.elements_rules.proofs.Limits as limits
 use Rattle.owner_rules.specs.Owner.{Side, header, payload, Owned, most_links, owner_at, owner_of, chain_of}
 use Rattle.owner_rules.specs.Promise.{owner_is, owner_reply, links_of, OwnerPromise, ChainPromise}
 use Rattle.owner_rules.specs.Contract.{WalkMet}
-use Rattle.owner_rules.specs.declared.owner.OwnerReply.{OwnerReply}
-use Rattle.owner_rules.specs.declared.owner.OwnerReply.TheVariants.{Refused}
+use Rattle.std.proofs.Common.{Result, Err}
+use Rattle.owner_rules.specs.declared.owner.Owner.{Owner}
 
 -- ---- the limits of the arguments
 
@@ -102,31 +102,31 @@ bytes_allowed s start a = (limits.within s start 0 a).bytes
 -- ---- what the code promises of the chain
 
 -- What is told as a refusal is one.
-pub told_refused : (o : Reply Owned) (e : Refusal) → Refused e ≡ owner_reply o → o ≡ refusal e
+pub told_refused : (o : Reply Owned) (e : Refusal) → Err e ≡ owner_reply o → o ≡ refusal e
 told_refused (refusal e') e q = let i : e' ≡ e = cc in ap refusal i
 told_refused (accepted o) e q = by o.side q
   where
-    by : (p : Side) → Refused e ≡ owner_is p o.address (length o.masters) → accepted o ≡ refusal e
+    by : (p : Side) → Err e ≡ owner_is p o.address (length o.masters) → accepted o ≡ refusal e
     by header w = let z : ◌≡◌ {A = ℕ} 0 1 = cc in absurd (let y : ⊥ = omega arith in y)
     by payload w = let z : ◌≡◌ {A = ℕ} 0 1 = cc in absurd (let y : ⊥ = omega arith in y)
 
 module _ (live : Bool) (s : List ℕ) (start size parent x : ℕ) (t t' : List ℕ) where
-  asked_is : (r : OwnerReply) (o : Reply Owned) → chain_of live s start size parent x (length t) ≡ o → r ≡ owner_reply o
+  asked_is : (r : Result Owner Refusal) (o : Reply Owned) → chain_of live s start size parent x (length t) ≡ o → r ≡ owner_reply o
       → t' ≡ links_of (length t) o → ChainPromise live s start size parent x t r t'
   asked_is r o e q z = record { reply = rw e q; links = rw e z }
 
   refusal_is : (e : Refusal) → chain_of live s start size parent x (length t) ≡ refusal e → t' ≡ zeros (length t)
-      → ChainPromise live s start size parent x t (Refused e) t'
+      → ChainPromise live s start size parent x t (Err e) t'
   unfolding links_of
-  refusal_is e q z = asked_is (Refused e) (refusal e) q refl z
+  refusal_is e q z = asked_is (Err e) (refusal e) q refl z
 
   pub asked_broken : (allowed s start 0 && leb (length t) most_links) ≡ false → t' ≡ zeros (length t)
-      → ChainPromise live s start size parent x t (Refused bad_argument) t'
+      → ChainPromise live s start size parent x t (Err bad_argument) t'
   asked_broken q z = refusal_is bad_argument (chain_broken live s start size parent x (length t) q) z
 
   module _ (q : (allowed s start 0 && leb (length t) most_links) ≡ true) where
     pub asked_outside : within start size x ≡ false → t' ≡ zeros (length t)
-        → ChainPromise live s start size parent x t (Refused outside) t'
+        → ChainPromise live s start size parent x t (Err outside) t'
     asked_outside w z =
         let (a, l) = both_allowed live s start size parent x (length t) q in
         refusal_is outside
@@ -139,17 +139,17 @@ module _ (live : Bool) (s : List ℕ) (start size parent x : ℕ) (t t' : List �
           chain_owner live s start size parent x (length t) l ∙ owner_walks live s start size parent x a w
 
       -- The walk is refused, and the slice cleared again.
-      pub asked_refused : (u u' : List ℕ) (r : OwnerReply) (e : Refusal) → WalkMet live s start size parent x u r u'
-          → r ≡ Refused e → t' ≡ zeros (length t) → ChainPromise live s start size parent x t r t'
+      pub asked_refused : (u u' : List ℕ) (r : Result Owner Refusal) (e : Refusal) → WalkMet live s start size parent x u r u'
+          → r ≡ Err e → t' ≡ zeros (length t) → ChainPromise live s start size parent x t r t'
       asked_refused u u' r e m i z =
           let o = owner_at live s x size 0 parent start size in
           let f = told_refused o e (sym i ∙ m.reply) in
-          subst (λ (y : OwnerReply). ChainPromise live s start size parent x t y t') (sym i)
+          subst (λ (y : Result Owner Refusal). ChainPromise live s start size parent x t y t') (sym i)
           (refusal_is e (asked_walk ∙ f) z)
 
       -- The walk ends at an owner, with the chain in a slice as long as the one that was lent.
-      pub asked_owned : (u : List ℕ) (r : OwnerReply) → length u ≡ length t → WalkMet live s start size parent x u r t'
-          → ((e : Refusal) → r ≡ Refused e → ⊥) → ChainPromise live s start size parent x t r t'
+      pub asked_owned : (u : List ℕ) (r : Result Owner Refusal) → length u ≡ length t → WalkMet live s start size parent x u r t'
+          → ((e : Refusal) → r ≡ Err e → ⊥) → ChainPromise live s start size parent x t r t'
       asked_owned u r l m n = by (owner_at live s x size 0 parent start size) refl
         where
           by : (o : Reply Owned) → owner_at live s x size 0 parent start size ≡ o
@@ -160,7 +160,7 @@ module _ (live : Bool) (s : List ℕ) (start size parent x : ℕ) (t t' : List �
           by (refusal f) e = absurd (n f (m.reply ∙ ap owner_reply e))
 
 -- The same without a chain.
-pub owner_of_chain : (live : Bool) (s : List ℕ) (start size parent x : ℕ) (t : List ℕ) (r : OwnerReply) (t' : List ℕ)
+pub owner_of_chain : (live : Bool) (s : List ℕ) (start size parent x : ℕ) (t : List ℕ) (r : Result Owner Refusal) (t' : List ℕ)
     → length t ≤ most_links → ChainPromise live s start size parent x t r t' → OwnerPromise live s start size parent x r
 owner_of_chain live s start size parent x t r t' l p =
     record { reply = p.reply ∙ ap owner_reply (chain_owner live s start size parent x (length t) l) }

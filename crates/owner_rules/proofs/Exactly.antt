@@ -21,13 +21,15 @@ use Rattle.owner_rules.specs.Owner.{in_master, whole_of, owner_at}
 use Rattle.owner_rules.specs.Promise.{owner_reply, OwnerPromise}
 use Rattle.owner_rules.specs.Way.{OwnerWay, here, past, into}
 use Rattle.owner_rules.specs.Theorems.{OwnerAnswer, broken, away, owned, faulty, OwnerExactly}
-use Rattle.owner_rules.specs.declared.owner.OwnerReply.{OwnerReply}
 use Rattle.owner_rules.proofs.Steps.{no_header_law, too_deep_law, too_large, in_master_law, behind}
 use Rattle.owner_rules.proofs.Walking.{inside}
 use Rattle.owner_rules.proofs.Asked.{owner_broken, owner_outside, owner_walks}
 use Rattle.owner_rules.proofs.Sound.{owner_answers}
 use Rattle.owner_rules.proofs.Found.{owned_found}
 use Rattle.owner_rules.proofs.Refusals.{finds, no_body, not_full, not_other, not_far, not_again, not_many, never}
+use Rattle.std.proofs.Common.{Result}
+use Rattle.owner_rules.specs.declared.owner.Owner.{Owner}
+use Rattle.refusals.specs.declared.refusal.Refusal.{Refusal}
 
 -- ---- a fault, and the refusal of it
 
@@ -103,7 +105,7 @@ way_refused live s x c (suc most) depth parent at left _ a e (into _ _ _ _ ms _ 
     (omega arith))
 
 -- What is one of the four is the reply.
-answer_told : (live : Bool) (s : List ℕ) (start size parent x : ℕ) (r : OwnerReply)
+answer_told : (live : Bool) (s : List ℕ) (start size parent x : ℕ) (r : Result Owner Refusal)
     → OwnerAnswer live s start size parent x r → OwnerPromise live s start size parent x r
 answer_told live s start size parent x r (broken a i) =
     record { reply = i ∙ ap owner_reply (sym (owner_broken live s start size parent x a)) }

@@ -27,13 +27,13 @@ use Rattle.owner_rules.specs.Promise.{owner_is, owner_reply, links_of, OwnerProm
 use Rattle.owner_rules.specs.Way.{OwnerWay, here, past, into, OwnerComes}
 use Rattle.owner_rules.specs.Theorems.{OwnerAnswer, broken, away, owned, faulty}
 use Rattle.owner_rules.specs.Live.{LiveOwner, LiveChain, EqualOwner, EqualChain, KnownAt, ChainKnown}
-use Rattle.owner_rules.specs.declared.owner.OwnerReply.TheVariants.{Refused}
 use Rattle.owner_rules.proofs.Asked.{owner_broken, chain_long, chain_owner, owner_of_chain}
 use Rattle.owner_rules.proofs.Headers.{either}
 use Rattle.owner_rules.proofs.Sound.{owner_answers}
 use Rattle.owner_rules.proofs.Chains.{chains_lead}
 use Rattle.owner_rules.proofs.Alone.{same_answer}
 use Rattle.owner_rules.proofs.Refusals.{way_errand}
+use Rattle.std.proofs.Common.{Err}
 
 -- In live mode an answer is 17, or what it is in old mode.
 data AnswerOr (old live : Reply Owned) : Type 0 where
@@ -131,7 +131,7 @@ pub live_owner : LiveOwner
 live_owner s start size parent x r r' p q = by (owner_or s start size parent x)
   where
     by : AnswerOr (owner_of false s start size parent x) (owner_of true s start size parent x)
-        → ((a : ℕ) × (r' ≡ Refused (unknown_size a))) ⊎ (r' ≡ r)
+        → ((a : ℕ) × (r' ≡ Err (unknown_size a))) ⊎ (r' ≡ r)
     by (seventeen a e) = inl (a, q.reply ∙ ap owner_reply e)
     by (equal e) = inr (q.reply ∙ ap owner_reply e ∙ sym p.reply)
 
@@ -139,7 +139,7 @@ pub live_chain : LiveChain
 live_chain s start size parent x t r r' t' u' p q = by (chain_or s start size parent x (length t))
   where
     by : AnswerOr (chain_of false s start size parent x (length t)) (chain_of true s start size parent x (length t))
-        → ((a : ℕ) × (r' ≡ Refused (unknown_size a))) ⊎ ((r' ≡ r) × (u' ≡ t'))
+        → ((a : ℕ) × (r' ≡ Err (unknown_size a))) ⊎ ((r' ≡ r) × (u' ≡ t'))
     by (seventeen a e) = inl (a, q.reply ∙ ap owner_reply e)
     by (equal e) =
         inr (
@@ -184,7 +184,7 @@ slice_known s (b ∷ ms) a more zero k = tt
 slice_known s (b ∷ ms) a more (suc links) k = (k.0, slice_known s ms a more links k.1)
 
 -- An owner is no refusal, and tells its address and its depth.
-no_refusal : {A : Type 0} (side : Side) (a depth : ℕ) (e : Refusal) → owner_is side a depth ≡ Refused e → A
+no_refusal : {A : Type 0} (side : Side) (a depth : ℕ) (e : Refusal) → owner_is side a depth ≡ Err e → A
 no_refusal header a depth e i = let z : ◌≡◌ {A = ℕ} 0 1 = cc in absurd (let y : ⊥ = omega arith in y)
 no_refusal payload a depth e i = let z : ◌≡◌ {A = ℕ} 0 1 = cc in absurd (let y : ⊥ = omega arith in y)
 

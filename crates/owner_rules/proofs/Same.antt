@@ -29,19 +29,20 @@ use Rattle.places_rules.specs.Promise.{whose_told, WhosePromise}
 use Rattle.places_rules.specs.Theorems.{Owner as RowOwner}
 use Rattle.places_rules.specs.declared.whose.Holder.TheVariants.{Header as HeaderHolds, Payload as PayloadHolds}
 use Rattle.places_rules.specs.declared.whose.Holder.TheVariants.{Neither}
-use Rattle.places_rules.specs.declared.whose.WhoseReply.{WhoseReply}
-use Rattle.places_rules.specs.declared.whose.WhoseReply.TheVariants.{Header as RowHeader, Payload as RowPayload}
-use Rattle.places_rules.specs.declared.whose.WhoseReply.TheVariants.{Refused as NoRow}
+use Rattle.places_rules.specs.declared.whose.WhoseRow.TheVariants.{Header as RowHeader, Payload as RowPayload}
 use Rattle.places_rules.proofs.Unique.{replied, replied_back}
 use Rattle.places_rules.proofs.Owners.{asked_done, table_rows, row_owns}
 use Rattle.owner_rules.specs.Owner.{Side, header, payload, Owned, most_links, owner_at, owner_of}
 use Rattle.owner_rules.specs.Promise.{owner_is, owner_reply, links_of, ChainPromise}
 use Rattle.owner_rules.specs.Theorems.{by_address, SameOwner, ParentsOf, outermost, ChainOfRow, ChainOfParents}
-use Rattle.owner_rules.specs.declared.owner.OwnerReply.{OwnerReply}
 use Rattle.owner_rules.proofs.Links.{links_owned}
 use Rattle.owner_rules.proofs.Walking.{inside}
 use Rattle.owner_rules.proofs.Asked.{owner_outside, owner_walks, chain_owner}
 use Rattle.owner_rules.proofs.Forest.{holder_of, OwnerIn, forest_owner}
+use Rattle.std.proofs.Common.{Result, Ok, Err}
+use Rattle.owner_rules.specs.declared.owner.Owner.{Owner}
+use Rattle.refusals.specs.declared.refusal.Refusal.{Refusal}
+use Rattle.places_rules.specs.declared.whose.WhoseRow.{WhoseRow}
 
 -- ---- the limits, and one row
 
@@ -92,14 +93,14 @@ module _ (r : Row) (x : ℕ) where
       by false e w = let z : ◌≡◌ {A = ℕ} 0 1 = cc in absurd (let y : ⊥ = omega arith in y)
 
 -- The full question's reply by a side and a row.
-abbrev row_is : Side → (row total : ℕ) → WhoseReply
-row_is header row total = RowHeader row total
-row_is payload row total = RowPayload row total
+abbrev row_is : Side → (row total : ℕ) → Result WhoseRow Refusal
+row_is header row total = Ok (RowHeader row total)
+row_is payload row total = Ok (RowPayload row total)
 
 -- ---- a payload that was read
 
 module _
-    (live : Bool) (s : List ℕ) (start size parent x : ℕ) (t : List ℕ) (w : WhoseReply) (t' : List ℕ) (f : Forest)
+    (live : Bool) (s : List ℕ) (start size parent x : ℕ) (t : List ℕ) (w : Result WhoseRow Refusal) (t' : List ℕ) (f : Forest)
     (p : WhosePromise live s start size parent x t w t') (q : asked_of live s start size parent x (length t) ≡ done f)
   where
     abbrev rs : List Row
@@ -152,10 +153,10 @@ module _
           parents = k.parents;
           named =
               ⊎_elim
-              (λ e. e.0 ∙ ap (λ (n : ℕ). RowHeader n (length rs)) (sym same)
+              (λ e. e.0 ∙ ap (λ (n : ℕ). Ok (RowHeader n (length rs))) (sym same)
               ∙ sym (ap (λ (y : Side). row_is y k.row (length rs))
               (side_header (nth rs g.row) x o.side holds e.1)))
-              (λ e. e.0 ∙ ap (λ (n : ℕ). RowPayload n (length rs)) (sym same)
+              (λ e. e.0 ∙ ap (λ (n : ℕ). Ok (RowPayload n (length rs))) (sym same)
               ∙ sym (ap (λ (y : Side). row_is y k.row (length rs))
               (side_payload (nth rs g.row) x o.side holds e.1)))
               g.which;
@@ -197,8 +198,8 @@ module _
         told payload = refl
 
     -- The chain into so many numbers, by the row that the full question names.
-    same_chain : (row total : ℕ) → (w ≡ RowHeader row total) ⊎ (w ≡ RowPayload row total)
-        → (c : List ℕ) (r : OwnerReply) (c' : List ℕ)
+    same_chain : (row total : ℕ) → (w ≡ Ok (RowHeader row total)) ⊎ (w ≡ Ok (RowPayload row total))
+        → (c : List ℕ) (r : Result Owner Refusal) (c' : List ℕ)
         → ChainPromise live s start size parent x c r c' → length c ≤ most_links
         → ChainOfRow t' total row (length c) c'
     same_chain row total e c r c' g l =
@@ -221,7 +222,7 @@ module _
               (sym (ap (λ (y : Row). y.address) row_is_law ∙ a.address));
         }
       where
-        which : {k m : ℕ} (y : Side) → w ≡ row_is y k m → (w ≡ RowHeader row total) ⊎ (w ≡ RowPayload row total)
+        which : {k m : ℕ} (y : Side) → w ≡ row_is y k m → (w ≡ Ok (RowHeader row total)) ⊎ (w ≡ Ok (RowPayload row total))
             → (row ≡ k) × (total ≡ m)
         which header i (inl j) = (cc, cc)
         which payload i (inr j) = (cc, cc)
@@ -264,7 +265,7 @@ same_owner live s start size parent x t n u w t' r d p g =
     by f o false i =
         let a = start_allowed live s start size parent x (length t) f o in
         let e = asked_outside live s start size parent x (length t) f o i in
-        let none : w ≡ NoRow outside
+        let none : w ≡ Err outside
         = sym (replied_back w) ∙ ap replied (p.reply ∙ ap (whose_of start x) e) in
         g.reply ∙ ap owner_reply (owner_outside live s start size parent x a i) ∙ ap (by_address t') (sym none)
 
@@ -273,7 +274,7 @@ chain_of_parents live s start size parent x t row total w t' c r c' p e g l =
     by (asked_of live s start size parent x (length t)) refl e
   where
     by : (o : Outcome) → asked_of live s start size parent x (length t) ≡ o
-        → (w ≡ RowHeader row total) ⊎ (w ≡ RowPayload row total)
+        → (w ≡ Ok (RowHeader row total)) ⊎ (w ≡ Ok (RowPayload row total))
         → ChainOfRow t' total row (length c) c'
     by (done f) q i = same_chain live s start size parent x t w t' f p q row total i c r c' g l
     by (refused d) q (inl i) =

@@ -28,13 +28,13 @@ use Rattle.owner_rules.specs.Owner.{most_links, chain_of}
 use Rattle.owner_rules.specs.Promise.{owner_reply, OwnerPromise}
 use Rattle.owner_rules.specs.Way.{IsMaster, OwnerWay, here, past, into, HoldsBy, HonestOwner}
 use Rattle.owner_rules.specs.Theorems.{OwnerAnswer, broken, away, owned, faulty}
-use Rattle.owner_rules.specs.declared.owner.OwnerReply.{OwnerReply}
-use Rattle.owner_rules.specs.declared.owner.OwnerReply.TheVariants.{Refused}
 use Rattle.owner_rules.proofs.Steps.{no_header_law, too_deep_law, too_large, in_header, in_payload, in_master_law, behind}
 use Rattle.owner_rules.proofs.Walking.{inside}
 use Rattle.owner_rules.proofs.Asked.{owner_broken, owner_outside, owner_walks, chain_long, chain_owner}
 use Rattle.owner_rules.proofs.Asked.{told_refused}
 use Rattle.owner_rules.proofs.Headers.{either, at_header}
+use Rattle.std.proofs.Common.{Result, Err}
+use Rattle.owner_rules.specs.declared.owner.Owner.{Owner}
 
 module _ (live : Bool) (s : List ℕ) (x : ℕ) where
   -- An element that holds the address, and the way to it from a place.
@@ -185,7 +185,7 @@ module _ (live : Bool) (s : List ℕ) (x : ℕ) where
 
 -- ---- the theorem
 
-module _ (live : Bool) (s : List ℕ) (start size parent x : ℕ) (r : OwnerReply) where
+module _ (live : Bool) (s : List ℕ) (start size parent x : ℕ) (r : Result Owner Refusal) where
   abbrev Answered : Type 0
   Answered = OwnerAnswer live s start size parent x r
 
@@ -226,7 +226,7 @@ module _ (live : Bool) (s : List ℕ) (start size parent x : ℕ) (r : OwnerRepl
       (shows live s x size 0 parent start size (omega arith) low high (omega arith))
       (p ∙ ap owner_reply (owner_walks live s start size parent x i j))
 
-pub owner_answers : (live : Bool) (s : List ℕ) (start size parent x : ℕ) (r : OwnerReply)
+pub owner_answers : (live : Bool) (s : List ℕ) (start size parent x : ℕ) (r : Result Owner Refusal)
     → OwnerPromise live s start size parent x r → OwnerAnswer live s start size parent x r
 owner_answers live s start size parent x r p =
     by_tests live s start size parent x r p.reply (allowed s start 0) refl (within start size x) refl
@@ -244,9 +244,9 @@ module _ (live : Bool) (s : List ℕ) (start size parent x : ℕ) where
   pub owner_honest : (e : Refusal) → owner_of live s start size parent x ≡ refusal e
       → HonestOwner live s start size parent x e
   owner_honest e q =
-      by (owner_answers live s start size parent x (Refused e) (record { reply = sym (ap owner_reply q) }))
+      by (owner_answers live s start size parent x (Err e) (record { reply = sym (ap owner_reply q) }))
     where
-      by : OwnerAnswer live s start size parent x (Refused e) → HonestOwner live s start size parent x e
+      by : OwnerAnswer live s start size parent x (Err e) → HonestOwner live s start size parent x e
       by (owned o k i) =
           let w = told_refused (accepted o) e i in
           let z : ◌≡◌ {A = ℕ} 0 1 = cc in absurd (let y : ⊥ = omega arith in y)

@@ -20,9 +20,9 @@ use Rattle.owner_rules.specs.Owner.{Side, Owned, in_master, whole_of, own, owner
 use Rattle.owner_rules.specs.Promise.{owner_is, owner_reply, links_of}
 use Rattle.owner_rules.specs.Way.{IsMaster}
 use Rattle.owner_rules.specs.Contract.{linked, WalkMet}
-use Rattle.owner_rules.specs.declared.owner.OwnerReply.TheVariants.{Refused}
 use Rattle.owner_rules.proofs.Steps.{in_master_law, behind}
 use Rattle.owner_rules.proofs.Links.{take_zeros, length_linked, link_more}
+use Rattle.std.proofs.Common.{Err}
 
 -- What was found in masters, the outermost first.
 abbrev pub around : List ℕ → Reply Owned → Reply Owned
@@ -120,7 +120,7 @@ module _ (live : Bool) (s : List ℕ) (start size parent x : ℕ) (t : List ℕ)
     kept_link p c' q = kept_chain c' q
 
     pub walk_refused : (e : Refusal) (c' : List ℕ) → Finds (refusal e)
-        → WalkMet live s start size parent x t (Refused e) c'
+        → WalkMet live s start size parent x t (Err e) c'
     walk_refused e c' f =
         let g = finds (refusal e) f in
         record {

@@ -10,8 +10,9 @@ use Rattle.elements_rules.specs.Live.{AllKnown}
 use Rattle.owner_rules.specs.Owner.{Side, most_links}
 use Rattle.owner_rules.specs.Promise.{owner_is, OwnerPromise, ChainPromise}
 use Rattle.owner_rules.specs.Way.{OwnerComes}
-use Rattle.owner_rules.specs.declared.owner.OwnerReply.{OwnerReply}
-use Rattle.owner_rules.specs.declared.owner.OwnerReply.TheVariants.{Refused}
+use Rattle.std.specs.Prelude.{Result, Err}
+use Rattle.owner_rules.specs.declared.owner.Owner.{Owner}
+use Rattle.refusals.specs.declared.refusal.Refusal.{Refusal}
 
 -- ---- 17, or what old mode says
 
@@ -19,16 +20,16 @@ use Rattle.owner_rules.specs.declared.owner.OwnerReply.TheVariants.{Refused}
 -- to its master's end, and names its children.
 abbrev pub LiveOwner : Type 0
 LiveOwner =
-    (s : List ℕ) (start size parent x : ℕ) (r r' : OwnerReply)
+    (s : List ℕ) (start size parent x : ℕ) (r r' : Result Owner Refusal)
     → OwnerPromise false s start size parent x r → OwnerPromise true s start size parent x r'
-    → ((a : ℕ) × (r' ≡ Refused (unknown_size a))) ⊎ (r' ≡ r)
+    → ((a : ℕ) × (r' ≡ Err (unknown_size a))) ⊎ (r' ≡ r)
 
 -- And so is the chain. It shuts out a live mode that leaves such a Cluster out of the chain.
 abbrev pub LiveChain : Type 0
 LiveChain =
-    (s : List ℕ) (start size parent x : ℕ) (t : List ℕ) (r r' : OwnerReply) (t' u' : List ℕ)
+    (s : List ℕ) (start size parent x : ℕ) (t : List ℕ) (r r' : Result Owner Refusal) (t' u' : List ℕ)
     → ChainPromise false s start size parent x t r t' → ChainPromise true s start size parent x t r' u'
-    → ((a : ℕ) × (r' ≡ Refused (unknown_size a))) ⊎ ((r' ≡ r) × (u' ≡ t'))
+    → ((a : ℕ) × (r' ≡ Err (unknown_size a))) ⊎ ((r' ≡ r) × (u' ≡ t'))
 
 -- ---- equal replies
 
@@ -37,7 +38,7 @@ LiveChain =
 -- sibling that it skips.
 abbrev pub EqualOwner : Type 0
 EqualOwner =
-    (s : List ℕ) (start size parent x : ℕ) (r r' : OwnerReply)
+    (s : List ℕ) (start size parent x : ℕ) (r r' : Result Owner Refusal)
     → (allowed s start 0 ≡ true → AllKnown s (OwnerComes false s start size parent x))
     → OwnerPromise false s start size parent x r → OwnerPromise true s start size parent x r' → r' ≡ r
 
@@ -45,7 +46,7 @@ EqualOwner =
 -- its masters out.
 abbrev pub EqualChain : Type 0
 EqualChain =
-    (s : List ℕ) (start size parent x : ℕ) (t : List ℕ) (r r' : OwnerReply) (t' u' : List ℕ)
+    (s : List ℕ) (start size parent x : ℕ) (t : List ℕ) (r r' : Result Owner Refusal) (t' u' : List ℕ)
     → (allowed s start 0 ≡ true → length t ≤ most_links → AllKnown s (OwnerComes false s start size parent x))
     → ChainPromise false s start size parent x t r t' → ChainPromise true s start size parent x t r' u'
     → (r' ≡ r) × (u' ≡ t')

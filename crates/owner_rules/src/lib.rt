@@ -4,4 +4,4 @@
 
 mod owner;
 
-pub use owner::OwnerReply;
+pub use owner::Owner;

@@ -2,24 +2,23 @@
 ghost use Rattle.places_rules.specs.Promise.{RangePromise, PayloadPromise};
 
 use bodies_rules::Range;
-use places_rules::RangeReply;
 use refusals::{Cause, Refusal};
 use rowstore::{WIDTH, is_allowed, row_at};
 
 // The range of a row's payload. 14: a length is broken, the row is not in the table, or its range is not in the
 // recording.
-pub fn payload_range(recording: &[u8], table: &[u64], row: u64) -> RangeReply
+pub fn payload_range(recording: &[u8], table: &[u64], row: u64) -> Result<Range, Refusal>
     ensures { RangePromise recording.now table.now row result }
 {
     if !is_allowed(recording, 0, table) {
-        return RangeReply::Refused(Refusal {
+        return Err(Refusal {
             address: 0,
             cause: Cause::BadArgument,
         });
     }
     let rows = table.len() / WIDTH;
     if rows as u64 <= row {
-        return RangeReply::Refused(Refusal {
+        return Err(Refusal {
             address: 0,
             cause: Cause::BadArgument,
         });
@@ -31,27 +30,27 @@ pub fn payload_range(recording: &[u8], table: &[u64], row: u64) -> RangeReply
     // What is left is told by differences, so that no sum can pass 2^64.
     let end = recording.len() as u64;
     if end < address {
-        return RangeReply::Refused(Refusal {
+        return Err(Refusal {
             address: 0,
             cause: Cause::BadArgument,
         });
     }
     let behind_address = end - address;
     if behind_address < header {
-        return RangeReply::Refused(Refusal {
+        return Err(Refusal {
             address: 0,
             cause: Cause::BadArgument,
         });
     }
     let behind_header = behind_address - header;
     if behind_header < length {
-        return RangeReply::Refused(Refusal {
+        return Err(Refusal {
             address: 0,
             cause: Cause::BadArgument,
         });
     }
     let at = address + header;
-    RangeReply::Range(Range { at, length })
+    Ok(Range { at, length })
 }
 
 // The payload of a row as the very part of the recording; empty where `payload_range` refuses.
@@ -59,8 +58,8 @@ pub fn row_payload<'a>(recording: &'a [u8], table: &[u64], row: u64) -> &'a [u8]
     ensures { PayloadPromise recording.now table.now row result.now }
 {
     match payload_range(recording, table, row) {
-        RangeReply::Refused(_) => &recording[..0],
-        RangeReply::Range(range) => {
+        Err(_) => &recording[..0],
+        Ok(range) => {
             let at = range.at;
             let end = at + range.length;
             let first = at as usize;

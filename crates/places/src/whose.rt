@@ -6,9 +6,9 @@ ghost use Rattle.places_rules.specs.Whose.{holder_in, whose_in};
 ghost use Rattle.places_rules.specs.Promise.{whose_told, WhosePromise};
 
 use elements::fill;
-use elements_rules::{ReadReply, Row};
+use elements_rules::Row;
 use kinds::MASTER;
-use places_rules::{Holder, WhoseReply};
+use places_rules::{Holder, WhoseRow};
 use refusals::{Cause, Refusal};
 use rowstore::{clear, is_allowed, row_at};
 
@@ -44,7 +44,7 @@ fn held_by(row: Row, address: u64) -> Holder
 }
 
 // The first of the table's rows that holds the address.
-fn find(table: &[u64], rows: usize, address: u64) -> WhoseReply
+fn find(table: &[u64], rows: usize, address: u64) -> Result<WhoseRow, Refusal>
     requires { rows ≤ length table.now / width }
     ensures { whose_told result ≡ whose_in (rows_of table.now rows) 0 rows address }
 {
@@ -52,23 +52,23 @@ fn find(table: &[u64], rows: usize, address: u64) -> WhoseReply
     while n < rows {
         match held_by(row_at(table, n), address) {
             Holder::Header => {
-                return WhoseReply::Header {
+                return Ok(WhoseRow::Header {
                     row: n as u64,
                     rows: rows as u64,
-                };
+                });
             }
             Holder::Payload => {
-                return WhoseReply::Payload {
+                return Ok(WhoseRow::Payload {
                     row: n as u64,
                     rows: rows as u64,
-                };
+                });
             }
             Holder::Neither => {
                 n += 1;
             }
         }
     }
-    WhoseReply::Refused(Refusal {
+    Err(Refusal {
         address: 0,
         cause: Cause::Outside,
     })
@@ -85,25 +85,25 @@ pub fn whose_byte(
     parent: u32,
     address: u64,
     table: &mut [u64],
-) -> WhoseReply
+) -> Result<WhoseRow, Refusal>
     ensures { WhosePromise live recording.now start size parent address
         table.old result table.new }
 {
     clear(table);
     if !is_allowed(recording, start, table) {
-        return WhoseReply::Refused(Refusal {
+        return Err(Refusal {
             address: 0,
             cause: Cause::BadArgument,
         });
     }
     if !is_within(start, size, address) {
-        return WhoseReply::Refused(Refusal {
+        return Err(Refusal {
             address: 0,
             cause: Cause::Outside,
         });
     }
     match fill(recording, live, start, size, parent, table) {
-        ReadReply::Refused(refusal) => WhoseReply::Refused(refusal),
-        ReadReply::Rows(rows) => find(table, rows as usize, address),
+        Err(refusal) => Err(refusal),
+        Ok(rows) => find(table, rows as usize, address),
     }
 }

@@ -13,13 +13,12 @@ use Rattle.elements_rules.specs.Rows.{rows, width, rows_of}
 use Rattle.elements_rules.specs.Holds.{within}
 use Rattle.elements_rules.specs.Promise.{allowed, read_of, reply_of, zeros, table_of, ReadPromise}
 use Rattle.elements_rules.specs.declared.row.Row.{Row}
-use Rattle.elements_rules.specs.declared.reply.ReadReply.TheVariants.{Rows, Refused as ReadRefused}
 use Rattle.elements_rules.proofs.Outcomes.{refuses, passes}
 use Rattle.elements_rules.proofs.Readback.{accepted_read}
 use Rattle.places_rules.specs.Whose.{whose_in, asked_of, whose_of}
 use Rattle.places_rules.specs.Promise.{whose_told, WhosePromise}
-use Rattle.places_rules.specs.declared.whose.WhoseReply.{WhoseReply}
-use Rattle.places_rules.specs.declared.whose.WhoseReply.TheVariants.{Refused}
+use Rattle.std.proofs.Common.{Result, Ok, Err}
+use Rattle.places_rules.specs.declared.whose.WhoseRow.{WhoseRow}
 
 -- A refusal that the reading tells is told of the question.
 refusal_told : (start x : ℕ) (o : Outcome) (e : Refusal) → refusal e ≡ reply_of o → refusal e ≡ whose_of start x o
@@ -29,7 +28,7 @@ refusal_told start x (refused e') e q = let w : e ≡ e' = cc in ap refusal w
 -- The rows that were read are rows of the table.
 pub asked_rows :
     (live : Bool) (s : List ℕ) (start size parent : ℕ) (t t' : List ℕ) (n : ℕ)
-    → ReadPromise live s start size parent t (Rows n) t'
+    → ReadPromise live s start size parent t (Ok n) t'
     → n ≤ length t' / width
 asked_rows live s start size parent t t' n p =
     let i = accepted_read live s start size parent t n t' p in
@@ -38,27 +37,27 @@ asked_rows live s start size parent t t' n p =
 module _ (live : Bool) (s : List ℕ) (start size parent x : ℕ) (t t' : List ℕ) where
   -- The reply and the table that tell the question's outcome.
   outcome_told :
-      (r : WhoseReply) (o : Outcome) → asked_of live s start size parent x (length t) ≡ o
+      (r : Result WhoseRow Refusal) (o : Outcome) → asked_of live s start size parent x (length t) ≡ o
       → whose_told r ≡ whose_of start x o
       → t' ≡ table_of start (length t) o → WhosePromise live s start size parent x t r t'
   outcome_told r o e q z = record { reply = rw e q; table = rw e z }
 
   refusal_is :
       (e : Refusal) → asked_of live s start size parent x (length t) ≡ refused e → t' ≡ zeros (length t)
-      → WhosePromise live s start size parent x t (Refused e) t'
+      → WhosePromise live s start size parent x t (Err e) t'
   unfolding table_of
-  refusal_is e q z = outcome_told (Refused e) (refused e) q refl z
+  refusal_is e q z = outcome_told (Err e) (refused e) q refl z
 
   pub asked_broken :
       allowed s start (length t) ≡ false → t' ≡ zeros (length t)
-      → WhosePromise live s start size parent x t (Refused bad_argument) t'
+      → WhosePromise live s start size parent x t (Err bad_argument) t'
   unfolding asked_of
   asked_broken a z = refusal_is bad_argument (refuses _ _ _ (ap not a)) z
 
   module _ (a : allowed s start (length t) ≡ true) where
     pub asked_outside :
         within start size x ≡ false → t' ≡ zeros (length t)
-        → WhosePromise live s start size parent x t (Refused outside) t'
+        → WhosePromise live s start size parent x t (Err outside) t'
     unfolding asked_of
     asked_outside w z = refusal_is outside (passes _ _ _ (ap not a) ∙ refuses _ _ _ (ap not w)) z
 
@@ -69,14 +68,14 @@ module _ (live : Bool) (s : List ℕ) (start size parent x : ℕ) (t t' : List �
       asked_read = passes _ _ _ (ap not a) ∙ passes _ _ _ (ap not w) ∙ sym (passes _ _ _ (ap not a))
 
       pub asked_refused :
-          (e : Refusal) → ReadPromise live s start size parent t (ReadRefused e) t'
-          → WhosePromise live s start size parent x t (Refused e) t'
+          (e : Refusal) → ReadPromise live s start size parent t (Err e) t'
+          → WhosePromise live s start size parent x t (Err e) t'
       asked_refused e p =
           let o = read_of live s start size parent (length t) in
-          outcome_told (Refused e) o asked_read (refusal_told start x o e p.reply) p.table
+          outcome_told (Err e) o asked_read (refusal_told start x o e p.reply) p.table
 
       pub asked_found :
-          (n : ℕ) (r : WhoseReply) → ReadPromise live s start size parent t (Rows n) t'
+          (n : ℕ) (r : Result WhoseRow Refusal) → ReadPromise live s start size parent t (Ok n) t'
           → whose_told r ≡ whose_in (rows_of t' n) 0 n x → WhosePromise live s start size parent x t r t'
       asked_found n r p q =
           let i = accepted_read live s start size parent t n t' p in

@@ -26,10 +26,11 @@ use Rattle.elements_rules.proofs.Live.{test_or, filled_or, known_reading, rows_k
 use Rattle.places_rules.specs.Whose.{by_header, by_payload, asked_of, whose_of}
 use Rattle.places_rules.specs.Promise.{whose_told}
 use Rattle.places_rules.specs.Live.{LiveWhose, EqualWhose, WhoseRowsKnown}
-use Rattle.places_rules.specs.declared.whose.WhoseReply.TheVariants.{Header, Payload, Refused}
+use Rattle.places_rules.specs.declared.whose.WhoseRow.TheVariants.{Header, Payload}
 use Rattle.places_rules.proofs.Unique.{replied, replied_back}
 use Rattle.places_rules.proofs.Owners.{asked_done, row_owns}
 use Rattle.places_rules.proofs.Honest.{none_holds}
+use Rattle.std.proofs.Common.{Ok, Err}
 
 module _ (s : List ℕ) (start size parent x numbers : ℕ) where
   asked_or : LiveOr (asked_of false s start size parent x numbers) (asked_of true s start size parent x numbers)
@@ -73,7 +74,7 @@ pub live_whose : LiveWhose
 live_whose s start size parent x t r r' t' u' p q = by (asked_or s start size parent x (length t))
   where
     by : LiveOr (asked_of false s start size parent x (length t)) (asked_of true s start size parent x (length t))
-        → ((a : ℕ) × (r' ≡ Refused (unknown_size a))) ⊎ ((r' ≡ r) × (u' ≡ t'))
+        → ((a : ℕ) × (r' ≡ Err (unknown_size a))) ⊎ ((r' ≡ r) × (u' ≡ t'))
     by (seventeen a e) = inl (a, sym (replied_back r') ∙ ap replied (q.reply ∙ ap (whose_of start x) e))
     by (equal e) =
         inr (
@@ -84,7 +85,7 @@ live_whose s start size parent x t r r' t' u' p q = by (asked_or s start size pa
 pub equal_whose : EqualWhose
 equal_whose s start size parent x t r r' t' u' k p q = by (live_whose s start size parent x t r r' t' u' p q)
   where
-    by : ((a : ℕ) × (r' ≡ Refused (unknown_size a))) ⊎ ((r' ≡ r) × (u' ≡ t')) → (r' ≡ r) × (u' ≡ t')
+    by : ((a : ℕ) × (r' ≡ Err (unknown_size a))) ⊎ ((r' ≡ r) × (u' ≡ t')) → (r' ≡ r) × (u' ≡ t')
     by (inl (a, e)) =
         absurd (not_unknown s start size parent x (length t) a k (asked_of true s start size parent x (length t)) refl
         (ap whose_told (sym e) ∙ q.reply))
@@ -95,15 +96,15 @@ whose_rows_known s start size parent x t r t' row rows p e =
     by (asked_of true s start size parent x (length t)) refl e
   where
     -- The reply tells how many rows there are.
-    told : {k m : ℕ} {A B : Type 0} → (r ≡ Header row rows) ⊎ (r ≡ Payload row rows)
-        → ((r ≡ Header k m) × A) ⊎ ((r ≡ Payload k m) × B) → m ≡ rows
+    told : {k m : ℕ} {A B : Type 0} → (r ≡ Ok (Header row rows)) ⊎ (r ≡ Ok (Payload row rows))
+        → ((r ≡ Ok (Header k m)) × A) ⊎ ((r ≡ Ok (Payload k m)) × B) → m ≡ rows
     told (inl i) (inl (j, a)) = cc
     told (inr i) (inr (j, a)) = cc
     told (inl i) (inr (j, a)) = let z : ◌≡◌ {A = ℕ} 0 1 = cc in absurd (let y : ⊥ = omega arith in y)
     told (inr i) (inl (j, a)) = let z : ◌≡◌ {A = ℕ} 0 1 = cc in absurd (let y : ⊥ = omega arith in y)
 
     by : (o : Outcome) → asked_of true s start size parent x (length t) ≡ o
-        → (r ≡ Header row rows) ⊎ (r ≡ Payload row rows)
+        → (r ≡ Ok (Header row rows)) ⊎ (r ≡ Ok (Payload row rows))
         → Each (λ r. unknown (header_of_row r) ≡ false) (rows_of t' rows)
     by (done f) q i =
         let o = (asked_done true s start size parent x (length t) f q).1 in

@@ -22,9 +22,11 @@ use Rattle.elements_rules.proofs.Readback.{rows_back}
 use Rattle.places_rules.specs.Whose.{Whose, by_header, by_payload, holder_in, whose_in, asked_of, whose_of}
 use Rattle.places_rules.specs.Promise.{whose_told, WhosePromise}
 use Rattle.places_rules.specs.Theorems.{Owner, OneRowOwns}
-use Rattle.places_rules.specs.declared.whose.WhoseReply.{WhoseReply}
-use Rattle.places_rules.specs.declared.whose.WhoseReply.TheVariants.{Header, Payload}
+use Rattle.places_rules.specs.declared.whose.WhoseRow.TheVariants.{Header, Payload}
 use Rattle.places_rules.proofs.Unique.{replied, replied_back}
+use Rattle.std.proofs.Common.{Result, Ok}
+use Rattle.refusals.specs.declared.refusal.Refusal.{Refusal}
+use Rattle.places_rules.specs.declared.whose.WhoseRow.{WhoseRow}
 
 -- ---- rows
 
@@ -138,7 +140,7 @@ asked_done live s start size parent x numbers f q =
 
 -- The table holds the rows that were read.
 pub table_rows :
-    (live : Bool) (s : List ℕ) (start size parent x : ℕ) (t : List ℕ) (r : WhoseReply) (t' : List ℕ) (f : Forest)
+    (live : Bool) (s : List ℕ) (start size parent x : ℕ) (t : List ℕ) (r : Result WhoseRow Refusal) (t' : List ℕ) (f : Forest)
     → WhosePromise live s start size parent x t r t' → asked_of live s start size parent x (length t) ≡ done f
     → rows_of t' (count f) ≡ rows 0 0 start 0 f
 unfolding table_of
@@ -166,13 +168,13 @@ row_owns live s start size parent x t r t' f p q =
       which =
           ⊎_elim
           (λ d. inl (
-            sym (replied_back r) ∙ ap replied (y ∙ d.0) ∙ ap (λ (m : ℕ). Header m (count f)) k
-                ∙ ap (λ (m : ℕ). Header g.n m) c,
+            sym (replied_back r) ∙ ap replied (y ∙ d.0) ∙ ap (λ (m : ℕ). Ok (Header m (count f))) k
+                ∙ ap (λ (m : ℕ). Ok (Header g.n m)) c,
             d.1,
           ))
           (λ d. inr (
-            sym (replied_back r) ∙ ap replied (y ∙ d.0) ∙ ap (λ (m : ℕ). Payload m (count f)) k
-                ∙ ap (λ (m : ℕ). Payload g.n m) c,
+            sym (replied_back r) ∙ ap replied (y ∙ d.0) ∙ ap (λ (m : ℕ). Ok (Payload m (count f))) k
+                ∙ ap (λ (m : ℕ). Ok (Payload g.n m)) c,
             d.1,
           ))
           g.which;

@@ -17,22 +17,22 @@ use Rattle.elements_rules.specs.declared.row.Row.{Row}
 use Rattle.elements_rules.proofs.Limits.{within}
 use Rattle.places_rules.specs.Payload.{PayloadRange, range, refused, payload_range, bytes_of}
 use Rattle.places_rules.specs.Promise.{values_of, range_told, RangePromise, PayloadPromise}
-use Rattle.places_rules.specs.declared.payload.RangeReply.TheVariants.{Range as RangeIs, Refused}
+use Rattle.std.proofs.Common.{Ok, Err}
 
 -- ---- the limits, one after another
 
 module _ (s t : List ℕ) (k : ℕ) where
-  pub not_allowed : allowed s 0 (length t) ≡ false → RangePromise s t k (Refused bad_argument)
+  pub not_allowed : allowed s 0 (length t) ≡ false → RangePromise s t k (Err bad_argument)
   unfolding payload_range
   not_allowed a = record { reply = rw a }
 
   module _ (a : allowed s 0 (length t) ≡ true) where
-    pub no_row : length t / width ≤ k → RangePromise s t k (Refused bad_argument)
+    pub no_row : length t / width ≤ k → RangePromise s t k (Err bad_argument)
     unfolding payload_range
     no_row l = record { reply = rw (a, le-ltb k (length t / width) l) }
 
     module _ (l : k < length t / width) (r : Row) (q : r ≡ row_at t k) where
-      pub past_end : length s < r.address + r.header + r.payload → RangePromise s t k (Refused bad_argument)
+      pub past_end : length s < r.address + r.header + r.payload → RangePromise s t k (Err bad_argument)
       unfolding payload_range
       past_end h =
           let z = lt-leb (r.address + r.header + r.payload) (length s) h in
@@ -40,7 +40,7 @@ module _ (s t : List ℕ) (k : ℕ) where
 
       pub range_is :
           r.address + r.header + r.payload ≤ length s
-          → RangePromise s t k (RangeIs (record { at = r.address + r.header; length = r.payload }))
+          → RangePromise s t k (Ok (record { at = r.address + r.header; length = r.payload }))
       unfolding payload_range
       range_is h =
           let z = le-leb (r.address + r.header + r.payload) (length s) h in
@@ -48,11 +48,11 @@ module _ (s t : List ℕ) (k : ℕ) where
 
 -- ---- what a reply tells
 
-pub told_range : (p : PayloadRange) (r : Range) → range_told (RangeIs r) ≡ values_of p → p ≡ range r.at r.length
+pub told_range : (p : PayloadRange) (r : Range) → range_told (Ok r) ≡ values_of p → p ≡ range r.at r.length
 told_range (range at n) r q = cc
 told_range (refused e) r q = let z : ◌≡◌ {A = ℕ} 0 1 = cc in absurd (omega arith)
 
-pub told_none : (s : List ℕ) (p : PayloadRange) (e : Refusal) → range_told (Refused e) ≡ values_of p → [] ≡ bytes_of s p
+pub told_none : (s : List ℕ) (p : PayloadRange) (e : Refusal) → range_told (Err e) ≡ values_of p → [] ≡ bytes_of s p
 told_none s (range at n) e q = let z : ◌≡◌ {A = ℕ} 0 1 = cc in absurd (omega arith)
 told_none s (refused e') e q = refl
 
@@ -114,16 +114,16 @@ place_row s t k at n q =
     go false b e c w = let z : ◌≡◌ {A = ℕ} 0 1 = cc in absurd (omega arith)
 
 module _ (s t : List ℕ) (k : ℕ) where
-  pub range_inside : (r : Range) → RangePromise s t k (RangeIs r) → Inside s r.at r.length
+  pub range_inside : (r : Range) → RangePromise s t k (Ok r) → Inside s r.at r.length
   range_inside r p = place_inside s t k r.at r.length (told_range (payload_range s t k) r p.reply)
 
   -- The part from the range's first byte up to its end.
   pub part_is :
-      (r : Range) → RangePromise s t k (RangeIs r)
+      (r : Range) → RangePromise s t k (Ok r)
       → PayloadPromise s t k (take (r.at + r.length - r.at) (drop r.at s))
   part_is r p =
       let e : r.at + r.length - r.at ≡ r.length = omega arith in
       record { reply = rw e (sym (ap (bytes_of s) (told_range (payload_range s t k) r p.reply))) }
 
-  pub part_none : (e : Refusal) → RangePromise s t k (Refused e) → PayloadPromise s t k []
+  pub part_none : (e : Refusal) → RangePromise s t k (Err e) → PayloadPromise s t k []
   part_none e p = record { reply = told_none s (payload_range s t k) e p.reply }

@@ -10,30 +10,30 @@ use Rattle.elements_rules.specs.Promise.{table_of}
 use Rattle.places_rules.specs.Whose.{Whose, by_header, by_payload, asked_of, whose_of}
 use Rattle.places_rules.specs.Promise.{range_told, whose_told}
 use Rattle.places_rules.specs.Theorems.{OneRange, OnePayload, OneOwner, PlacesRefuseListed}
-use Rattle.places_rules.specs.declared.payload.RangeReply.{RangeReply}
-use Rattle.places_rules.specs.declared.payload.RangeReply.TheVariants.{Range as RangeIs, Refused as RangeRefused}
-use Rattle.places_rules.specs.declared.whose.WhoseReply.{WhoseReply}
-use Rattle.places_rules.specs.declared.whose.WhoseReply.TheVariants.{Header, Payload, Refused}
+use Rattle.places_rules.specs.declared.whose.WhoseRow.TheVariants.{Header, Payload}
+use Rattle.std.proofs.Common.{Result, Ok, Err}
+use Rattle.refusals.specs.declared.refusal.Refusal.{Refusal}
+use Rattle.places_rules.specs.declared.whose.WhoseRow.{WhoseRow}
 
 -- ---- what was told tells the reply
 
-abbrev pub range_of : Reply Range → RangeReply
-range_of (accepted r) = RangeIs r
-range_of (refusal e) = RangeRefused e
+abbrev pub range_of : Reply Range → Result Range Refusal
+range_of (accepted r) = Ok r
+range_of (refusal e) = Err e
 
-pub range_back : (r : RangeReply) → range_of (range_told r) ≡ r
-range_back (RangeIs r) = refl
-range_back (RangeRefused e) = refl
+pub range_back : (r : Result Range Refusal) → range_of (range_told r) ≡ r
+range_back (Ok r) = refl
+range_back (Err e) = refl
 
-abbrev pub replied : Reply Whose → WhoseReply
-replied (accepted (by_header row rows)) = Header row rows
-replied (accepted (by_payload row rows)) = Payload row rows
-replied (refusal e) = Refused e
+abbrev pub replied : Reply Whose → Result WhoseRow Refusal
+replied (accepted (by_header row rows)) = Ok (Header row rows)
+replied (accepted (by_payload row rows)) = Ok (Payload row rows)
+replied (refusal e) = Err e
 
-pub replied_back : (r : WhoseReply) → replied (whose_told r) ≡ r
-replied_back (Header row rows) = refl
-replied_back (Payload row rows) = refl
-replied_back (Refused e) = refl
+pub replied_back : (r : Result WhoseRow Refusal) → replied (whose_told r) ≡ r
+replied_back (Ok (Header row rows)) = refl
+replied_back (Ok (Payload row rows)) = refl
+replied_back (Err e) = refl
 
 -- ---- the theorems
 

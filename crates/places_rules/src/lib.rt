@@ -5,5 +5,4 @@
 mod payload;
 mod whose;
 
-pub use payload::RangeReply;
-pub use whose::{Holder, WhoseReply};
+pub use whose::{Holder, WhoseRow};

@@ -3,10 +3,9 @@ use refusals::Refusal;
 
 // The row that holds the address by its header or by its payload, and how many rows there are; or a refusal.
 #[derive(Clone, Copy)]
-pub enum WhoseReply {
+pub enum WhoseRow {
     Header { row: u64, rows: u64 },
     Payload { row: u64, rows: u64 },
-    Refused(Refusal),
 }
 
 // What of a row holds an address.

@@ -1,13 +1,14 @@
 // `attachment START SIZE NUMBERS K BYTES`: an attached file.
 use answers::told;
 use answers::told::Told;
-use attachments::{Attachment, AttachmentReply};
+use attachments::Attachment;
+use refusals::Refusal;
 
 // `description RANGE name RANGE mime RANGE data RANGE`
-pub fn attachment(reply: AttachmentReply) -> Told {
+pub fn attachment(reply: Result<(Attachment, u64), Refusal>) -> Told {
     match reply {
-        AttachmentReply::Refused(refusal) => told::refused(told::UNREAD, refusal),
-        AttachmentReply::Attachment { attachment, rows } => {
+        Err(refusal) => told::refused(told::UNREAD, refusal),
+        Ok((attachment, rows)) => {
             let Attachment {
                 description,
                 name,

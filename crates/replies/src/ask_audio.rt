@@ -1,19 +1,14 @@
 // `audio START SIZE NUMBERS K BYTES`: the settings of an audio track.
 use answers::told;
 use answers::told::Told;
-use media_rules::{Audio, AudioReply};
+use media_rules::Audio;
+use refusals::Refusal;
 
 // `rate F channels N depth N`
-pub fn audio(reply: AudioReply) -> Told {
+pub fn audio(reply: Result<(Audio, u64), Refusal>) -> Told {
     match reply {
-        AudioReply::Refused(refusal) => told::refused(told::UNREAD, refusal),
-        AudioReply::Audio { audio, rows } => with_audio(
-            told::before(told::REST, rows),
-            0,
-            1,
-            2,
-            audio,
-        ),
+        Err(refusal) => told::refused(told::UNREAD, refusal),
+        Ok((audio, rows)) => with_audio(told::before(told::REST, rows), 0, 1, 2, audio),
     }
 }
 

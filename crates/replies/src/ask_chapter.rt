@@ -1,13 +1,14 @@
 // `chapter START SIZE NUMBERS K I BYTES`: a chapter of an edition.
 use answers::told;
 use answers::told::Told;
-use chapters::{Chapter, ChapterReply};
+use chapters::Chapter;
+use refusals::Refusal;
 
 // `uid N start N end N hidden F enabled F segment RANGE edition N displays COUNT`
-pub fn chapter(reply: ChapterReply) -> Told {
+pub fn chapter(reply: Result<(Chapter, u64), Refusal>) -> Told {
     match reply {
-        ChapterReply::Refused(refusal) => told::refused(told::UNREAD, refusal),
-        ChapterReply::Chapter { chapter, rows } => {
+        Err(refusal) => told::refused(told::UNREAD, refusal),
+        Ok((chapter, rows)) => {
             let Chapter {
                 uid,
                 time_start,

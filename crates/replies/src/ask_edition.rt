@@ -1,13 +1,14 @@
 // `edition START SIZE NUMBERS K BYTES`: an edition of chapters.
 use answers::told;
 use answers::told::Told;
-use chapters::{ChapterEdition, EditionReply};
+use chapters::ChapterEdition;
+use refusals::Refusal;
 
 // `uid N hidden F default F ordered F chapters COUNT`
-pub fn edition(reply: EditionReply) -> Told {
+pub fn edition(reply: Result<(ChapterEdition, u64), Refusal>) -> Told {
     match reply {
-        EditionReply::Refused(refusal) => told::refused(told::UNREAD, refusal),
-        EditionReply::Edition { edition, rows } => {
+        Err(refusal) => told::refused(told::UNREAD, refusal),
+        Ok((edition, rows)) => {
             let ChapterEdition {
                 uid,
                 hidden,

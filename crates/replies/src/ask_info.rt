@@ -1,13 +1,14 @@
 // `info START SIZE NUMBERS K BYTES`: what there is to know of a recording as a whole.
 use answers::told;
 use answers::told::Told;
-use info_rules::{Info, InfoReply};
+use info_rules::Info;
+use refusals::Refusal;
 
 // `uid RANGE previous RANGE next RANGE families COUNT title RANGE`, the times, and the apps.
-pub fn info(reply: InfoReply) -> Told {
+pub fn info(reply: Result<(Info, u64), Refusal>) -> Told {
     match reply {
-        InfoReply::Refused(refusal) => told::refused(told::UNREAD, refusal),
-        InfoReply::Info { info, rows } => with_info(told::before(told::REST, rows), info),
+        Err(refusal) => told::refused(told::UNREAD, refusal),
+        Ok((info, rows)) => with_info(told::before(told::REST, rows), info),
     }
 }
 

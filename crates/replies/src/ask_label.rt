@@ -1,7 +1,6 @@
 // `label RANGE LABEL BYTES`: the label of a boot stage.
 use answers::answer::bad;
 use bodies_rules::Range;
-use fields_rules::Content;
 use labels::stage_label;
 use lines::numbers;
 use questions::asked::Asked;
@@ -44,12 +43,12 @@ fn label_told<'a>(
 }
 
 // RANGE
-fn content_of(asked: Asked) -> Content {
+fn content_of(asked: Asked) -> Option<Range> {
     if asked.set {
-        return Content::At(Range {
+        return Some(Range {
             at: asked.at,
             length: asked.size,
         });
     }
-    Content::Unset
+    None
 }

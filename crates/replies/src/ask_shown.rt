@@ -1,17 +1,17 @@
 // `shown START SIZE PARENT NUMBERS ROW BYTES`: the shown text of a row, after the read of its table.
 use answers::told;
 use answers::told::Told;
-use elements_rules::ReadReply;
-use places_rules::RangeReply;
+use bodies_rules::Range;
 use questions::asked::Asked;
+use refusals::Refusal;
 
 // The refusal of the read, or `text RANGE HEX`
-pub fn shown(read: ReadReply, text: RangeReply) -> Told {
+pub fn shown(read: Result<u64, Refusal>, text: Result<Range, Refusal>) -> Told {
     match read {
-        ReadReply::Refused(refusal) => told::refused(told::UNREAD, refusal),
-        ReadReply::Rows(_) => match text {
-            RangeReply::Refused(refusal) => told::refused(told::REFUSED, refusal),
-            RangeReply::Range(range) => {
+        Err(refusal) => told::refused(told::UNREAD, refusal),
+        Ok(_) => match text {
+            Err(refusal) => told::refused(told::REFUSED, refusal),
+            Ok(range) => {
                 told::with(
                     told::before(told::ENDED, 0),
                     0,

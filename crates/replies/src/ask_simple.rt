@@ -1,13 +1,14 @@
 // `simple START SIZE NUMBERS K I BYTES`: a simple tag of a tag.
 use answers::told;
 use answers::told::Told;
-use tags_rules::{SimpleReply, SimpleTag};
+use refusals::Refusal;
+use tags_rules::SimpleTag;
 
 // `name RANGE`, the language, `default F`, and the value.
-pub fn simple(reply: SimpleReply) -> Told {
+pub fn simple(reply: Result<(SimpleTag, u64), Refusal>) -> Told {
     match reply {
-        SimpleReply::Refused(refusal) => told::refused(told::UNREAD, refusal),
-        SimpleReply::Simple { tag, rows } => {
+        Err(refusal) => told::refused(told::UNREAD, refusal),
+        Ok((tag, rows)) => {
             let SimpleTag {
                 name,
                 language,

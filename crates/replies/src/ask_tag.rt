@@ -1,14 +1,14 @@
 // `tag START SIZE NUMBERS K BYTES`: a tag.
 use answers::told;
 use answers::told::Told;
-use fields_rules::Flag;
-use tags_rules::{Tag, TagReply, Target, Targets};
+use refusals::Refusal;
+use tags_rules::{Tag, Target};
 
 // What the tag applies to, or `target no`; then `simple COUNT`.
-pub fn tag(reply: TagReply) -> Told {
+pub fn tag(reply: Result<(Tag, u64), Refusal>) -> Told {
     match reply {
-        TagReply::Refused(refusal) => told::refused(told::UNREAD, refusal),
-        TagReply::Tag { tag, rows } => {
+        Err(refusal) => told::refused(told::UNREAD, refusal),
+        Ok((tag, rows)) => {
             let Tag { targets, simple } = tag;
             told::count(
                 with_targets(told::before(told::REST, rows), targets),
@@ -20,10 +20,10 @@ pub fn tag(reply: TagReply) -> Told {
 }
 
 // `target yes value N type RANGE tracks C editions C chapters C attachments C`
-fn with_targets(told: Told, targets: Targets) -> Told {
+fn with_targets(told: Told, targets: Option<Target>) -> Told {
     match targets {
-        Targets::Unset => told::flag(told, 0, Flag::No),
-        Targets::Set(target) => {
+        None => told::flag(told, 0, Some(false)),
+        Some(target) => {
             let Target {
                 target_type_value,
                 target_type,
@@ -32,7 +32,7 @@ fn with_targets(told: Told, targets: Targets) -> Told {
                 chapters,
                 attachments,
             } = target;
-            let t = told::flag(told, 0, Flag::Yes);
+            let t = told::flag(told, 0, Some(true));
             let t = told::number(t, 1, target_type_value);
             let t = told::content(t, 2, target_type);
             let t = told::count(t, 3, tracks);

@@ -3,15 +3,16 @@ use crate::ask_audio::with_audio;
 use crate::ask_tracktype::type_index;
 use answers::told;
 use answers::told::Told;
-use fields_rules::Number;
-use media_rules::{Stereo, Video};
-use tracks_rules::{Settings, Track, TrackReply, Typed};
+use codes::{StereoMode, Tracktype};
+use media_rules::Video;
+use refusals::Refusal;
+use tracks_rules::{Settings, Track};
 
 // `number N uid N type T`, the flags, `duration N`, the texts, and the settings.
-pub fn track(reply: TrackReply) -> Told {
+pub fn track(reply: Result<(Track, u64), Refusal>) -> Told {
     match reply {
-        TrackReply::Refused(refusal) => told::refused(told::UNREAD, refusal),
-        TrackReply::Track { track, rows } => with_track(told::before(told::REST, rows), track),
+        Err(refusal) => told::refused(told::UNREAD, refusal),
+        Ok((track, rows)) => with_track(told::before(told::REST, rows), track),
     }
 }
 
@@ -77,19 +78,19 @@ fn with_texts(told: Told, track: Track) -> Told {
 }
 
 // `type T`; the types are the first words.
-fn with_type(told: Told, tracktype: Typed) -> Told {
+fn with_type(told: Told, tracktype: Option<Tracktype>) -> Told {
     match tracktype {
-        Typed::Unset => told::number(told, 10, Number::Unset),
-        Typed::Is(known) => told::word(told::word(told, 10), type_index(known)),
+        None => told::number(told, 10, None),
+        Some(known) => told::word(told::word(told, 10), type_index(known)),
     }
 }
 
 // Behind `settings`: `none`, `audio ..` or `video ..`
-fn with_settings(told: Told, settings: Settings) -> Told {
+fn with_settings(told: Told, settings: Option<Settings>) -> Told {
     match settings {
-        Settings::None => told::word(told, 27),
-        Settings::Audio(audio) => with_audio(told::word(told, 1), 28, 29, 30, audio),
-        Settings::Video(video) => with_video(told::word(told, 0), video),
+        None => told::word(told, 27),
+        Some(Settings::Audio(audio)) => with_audio(told::word(told, 1), 28, 29, 30, audio),
+        Some(Settings::Video(video)) => with_video(told::word(told, 0), video),
     }
 }
 
@@ -114,9 +115,9 @@ fn with_video(told: Told, video: Video) -> Told {
 }
 
 // The number of a stereo mode.
-fn mode_of(stereo: Stereo) -> Number {
+fn mode_of(stereo: Option<StereoMode>) -> Option<u64> {
     match stereo {
-        Stereo::Unset => Number::Unset,
-        Stereo::Is(mode) => Number::Is(mode.number()),
+        None => None,
+        Some(mode) => Some(mode.number()),
     }
 }

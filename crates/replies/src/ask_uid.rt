@@ -1,13 +1,14 @@
 // `uid START SIZE NUMBERS K LIST I BYTES`: a member of one of a tag's uid lists.
 use answers::told;
 use answers::told::Told;
-use tags_rules::{UidList, UidReply};
+use refusals::Refusal;
+use tags_rules::UidList;
 
 // `uid N`
-pub fn uid(reply: UidReply) -> Told {
+pub fn uid(reply: Result<(u64, u64), Refusal>) -> Told {
     match reply {
-        UidReply::Refused(refusal) => told::refused(told::UNREAD, refusal),
-        UidReply::Uid { uid, rows } => told::count(told::before(told::REST, rows), 0, uid),
+        Err(refusal) => told::refused(told::UNREAD, refusal),
+        Ok((uid, rows)) => told::count(told::before(told::REST, rows), 0, uid),
     }
 }
 

@@ -3,24 +3,22 @@ ghost use Rattle.std.specs.Prelude.{◌≡◌};
 ghost use Rattle.search_rules.specs.Part.{parent_of, PartPromise};
 
 use elements::fill;
-use elements_rules::ReadReply;
 use kinds::ids;
 use refusals::{Cause, Refusal};
 use rowstore::{clear, is_allowed};
-use search_rules::{Parent, PartReply};
-use seekchain_rules::PartPlace;
+use search_rules::PartReply;
 use segments::look_up;
 
 // The id that a part's children are read under; none for what is no part.
-fn parent_of(part: u32) -> Parent
+fn parent_of(part: u32) -> Option<u32>
     ensures { result ≡ parent_of part }
 {
     match part {
-        ids::TRACKS => Parent::Id(ids::TRACKENTRY),
-        ids::ATTACHMENTS => Parent::Id(ids::ATTACHEDFILE),
-        ids::CHAPTERS => Parent::Id(ids::EDITIONENTRY),
-        ids::TAGS => Parent::Id(ids::TAG),
-        _ => Parent::NoPart,
+        ids::TRACKS => Some(ids::TRACKENTRY),
+        ids::ATTACHMENTS => Some(ids::ATTACHEDFILE),
+        ids::CHAPTERS => Some(ids::EDITIONENTRY),
+        ids::TAGS => Some(ids::TAG),
+        _ => None,
     }
 }
 
@@ -38,19 +36,19 @@ pub fn find_part(recording: &[u8], live: bool, part: u32, table: &mut [u64]) -> 
         });
     }
     match parent_of(part) {
-        Parent::NoPart => PartReply::Refused(Refusal {
+        None => PartReply::Refused(Refusal {
             address: 0,
             cause: Cause::BadArgument,
         }),
-        Parent::Id(parent) => match look_up(recording, live, part) {
-            PartPlace::Refused(refusal) => PartReply::Refused(refusal),
-            PartPlace::Absent { heads } => PartReply::Absent { heads },
-            PartPlace::Found { part: found, heads } => {
+        Some(parent) => match look_up(recording, live, part) {
+            Err(refusal) => PartReply::Refused(refusal),
+            Ok((None, heads)) => PartReply::Absent { heads },
+            Ok((Some(found), heads)) => {
                 let at = found.payload.at;
                 let size = found.header.size;
                 match fill(recording, live, at, size, parent, table) {
-                    ReadReply::Refused(refusal) => PartReply::Refused(refusal),
-                    ReadReply::Rows(rows) => PartReply::Found {
+                    Err(refusal) => PartReply::Refused(refusal),
+                    Ok(rows) => PartReply::Found {
                         at,
                         size,
                         rows,

@@ -16,8 +16,6 @@ use Rattle.refusals.specs.declared.refusal.Refusal.{Refusal}
 use Rattle.header.specs.Reads.{behind, header_at}
 use Rattle.header.specs.declared.cursor.Headed.{Headed}
 use Rattle.header.specs.declared.cursor.Header.{Header}
-use Rattle.header.specs.declared.cursor.HeaderRead.{HeaderRead}
-use Rattle.header.specs.declared.cursor.HeaderRead.TheVariants.{Read, Refused as HeaderRefused}
 use Rattle.header.proofs.Inside.{header_there}
 use Rattle.sizes.specs.Unknown.{unknown, endless}
 use Rattle.kinds.specs.Kinds.{member}
@@ -33,10 +31,6 @@ use Rattle.walks_rules.specs.Walk.{Visit, ends, over, on_visit, on_passed, Walk,
 use Rattle.walks_rules.specs.Endings.{ended_at, within, ending, end_from, pass_over, end_of, room_of, walk_from}
 use Rattle.walks_rules.specs.declared.step.Stretch.{Stretch}
 use Rattle.walks_rules.specs.declared.step.Stretch.TheVariants.{Sized, Endless}
-use Rattle.walks_rules.specs.declared.step.ChildRead.{ChildRead}
-use Rattle.walks_rules.specs.declared.step.ChildRead.TheVariants.{Child, End, Refused as ChildRefused}
-use Rattle.walks_rules.specs.declared.pass.Passed.{Passed}
-use Rattle.walks_rules.specs.declared.pass.Passed.TheVariants.{At, Refused as Lost}
 use Rattle.walks_rules.proofs.Steps.{Stepped, stepped_on, Goes, goes, past, ended, element, no_room, less_room}
 use Rattle.walks_rules.proofs.Endings.{within_onward, pass_onward}
 use Rattle.seekhead_rules.specs.Seeks.{segment_id, seek_head_id}
@@ -51,8 +45,7 @@ use Rattle.search_rules.specs.Part.{reply_of}
 use Rattle.search_rules.specs.Faults.{Walks, begun, passing, Along, ToSegment, PassedOver, InSegment, InUnknown}
 use Rattle.search_rules.specs.Faults.{SearchComes, in_file, in_segment, in_endless, in_file_unknown, in_segment_unknown}
 use Rattle.search_rules.specs.Faults.{from_heads, in_part, SearchHonest}
-use Rattle.search_rules.specs.declared.part.Parent.{Parent}
-use Rattle.search_rules.specs.declared.part.Parent.TheVariants.{Id, NoPart}
+use Rattle.std.proofs.Common.{Result, Option, Ok, Err, Some, None}
 
 -- ---- a walk, with the way that it went
 
@@ -61,15 +54,15 @@ abbrev pub Went : {A B : Type 0} → (B → Type 0) → Type 0 → Visit A B →
 Went P Q (ends b) = P b
 Went P Q (over a) = Q
 
-module _ {A B : Type 0} (step : ℕ → ChildRead) (pass : Headed → Passed) (w : Walk A B) (Over : Headed → Type 0)
-    (from : ℕ) (P : B → Type 0) (room : ℕ → ℕ) (closed : (at : ℕ) → room at ≡ 0 → step at ≡ End)
-    (ahead : (at : ℕ) (e : Headed) (next : ℕ) → step at ≡ Child e → pass e ≡ At next → room next < room at)
-    (at_the_end : (at : ℕ) (a : A) → Walks step pass Over from at → step at ≡ End → P (w.ended at a))
-    (unread : (at : ℕ) (e : Refusal) → Walks step pass Over from at → step at ≡ ChildRefused e → P (w.stop e))
-    (each : (a : A) (at : ℕ) (e : Headed) → Walks step pass Over from at → step at ≡ Child e
+module _ {A B : Type 0} (step : ℕ → Result (Option Headed) Refusal) (pass : Headed → Result ℕ Refusal) (w : Walk A B) (Over : Headed → Type 0)
+    (from : ℕ) (P : B → Type 0) (room : ℕ → ℕ) (closed : (at : ℕ) → room at ≡ 0 → step at ≡ (Ok None))
+    (ahead : (at : ℕ) (e : Headed) (next : ℕ) → step at ≡ Ok (Some e) → pass e ≡ Ok next → room next < room at)
+    (at_the_end : (at : ℕ) (a : A) → Walks step pass Over from at → step at ≡ (Ok None) → P (w.ended at a))
+    (unread : (at : ℕ) (e : Refusal) → Walks step pass Over from at → step at ≡ Err e → P (w.stop e))
+    (each : (a : A) (at : ℕ) (e : Headed) → Walks step pass Over from at → step at ≡ Ok (Some e)
     → Went P (Over e) (w.visit a e))
-    (lost : (at : ℕ) (e : Headed) (r : Refusal) → Walks step pass Over from at → step at ≡ Child e → Over e
-    → pass e ≡ Lost r → P (w.stop r)) where
+    (lost : (at : ℕ) (e : Headed) (r : Refusal) → Walks step pass Over from at → step at ≡ Ok (Some e) → Over e
+    → pass e ≡ Err r → P (w.stop r)) where
   -- It holds of the whole walk if it holds wherever the way leads.
   on_the_way : (n at : ℕ) (a : A) → room at ≤ n → Walks step pass Over from at → P (walk step pass w n at a)
   unfolding walk
@@ -79,36 +72,36 @@ module _ {A B : Type 0} (step : ℕ → ChildRead) (pass : Headed → Passed) (w
       Onward : Type 0
       Onward = (next : ℕ) (b : A) → room next ≤ n → Walks step pass Over from next → P (walk step pass w n next b)
 
-      by_pass : (e : Headed) → step at ≡ Child e → Over e → Onward → (b : A) (p : Passed) → pass e ≡ p
+      by_pass : (e : Headed) → step at ≡ Ok (Some e) → Over e → Onward → (b : A) (p : Result ℕ Refusal) → pass e ≡ p
           → P (on_passed p w.stop (λ next. walk step pass w n next b))
-      by_pass e k o on b (At next) q =
+      by_pass e k o on b (Ok next) q =
           let less = ahead at e next k q in
           on next b (omega arith) (passing at next e g k o q)
-      by_pass e k o on b (Lost r) q = lost at e r g k o q
+      by_pass e k o on b (Err r) q = lost at e r g k o q
 
-      by_visit : (e : Headed) → step at ≡ Child e → Onward → (v : Visit A B) → Went P (Over e) v
+      by_visit : (e : Headed) → step at ≡ Ok (Some e) → Onward → (v : Visit A B) → Went P (Over e) v
           → P (on_visit v (λ b. b) (λ more. on_passed (pass e) w.stop (λ next. walk step pass w n next more)))
       by_visit e k on (ends b) p = p
       by_visit e k on (over b) o = by_pass e k o on b (pass e) refl
 
-      by : (x : ChildRead) → step at ≡ x → Onward
+      by : (x : Result (Option Headed) Refusal) → step at ≡ x → Onward
           → P (on_child x (w.ended at a) w.stop (λ e.
           on_visit (w.visit a e) (λ b. b) (λ more. on_passed (pass e) w.stop (λ next. walk step pass w n next more))))
-      by (Child e) k on = by_visit e k on (w.visit a e) (each a at e g k)
-      by End k on = at_the_end at a g k
-      by (ChildRefused r) k on = unread at r g k
+      by (Ok (Some e)) k on = by_visit e k on (w.visit a e) (each a at e g k)
+      by (Ok None) k on = at_the_end at a g k
+      by (Err r) k on = unread at r g k
 
 module _ {A B : Type 0} (live : Bool) (s : List ℕ) (stretch : Stretch) (w : Walk A B) (Over : Headed → Type 0)
     (from : ℕ) (P : B → Type 0)
-    (at_the_end : (at : ℕ) (a : A) → Along live s stretch Over from at → child_at live s stretch at ≡ End
+    (at_the_end : (at : ℕ) (a : A) → Along live s stretch Over from at → child_at live s stretch at ≡ (Ok None)
     → P (w.ended at a))
-    (unread : (at : ℕ) (e : Refusal) → Along live s stretch Over from at → child_at live s stretch at ≡ ChildRefused e
+    (unread : (at : ℕ) (e : Refusal) → Along live s stretch Over from at → child_at live s stretch at ≡ Err e
     → P (w.stop e))
-    (each : (a : A) (at : ℕ) (e : Headed) → Along live s stretch Over from at → child_at live s stretch at ≡ Child e
+    (each : (a : A) (at : ℕ) (e : Headed) → Along live s stretch Over from at → child_at live s stretch at ≡ Ok (Some e)
     → Went P (Over e) (w.visit a e))
     (lost : (at : ℕ) (e : Headed) (r : Refusal) → Along live s stretch Over from at
-    → child_at live s stretch at ≡ Child e
-    → Over e → pass_over live s (end_of stretch) e ≡ Lost r → P (w.stop r)) where
+    → child_at live s stretch at ≡ Ok (Some e)
+    → Over e → pass_over live s (end_of stretch) e ≡ Err r → P (w.stop r)) where
   pub the_walk : (a : A) → P (walk_from live s stretch w from a)
   the_walk a =
       on_the_way (child_at live s stretch) (pass_over live s (end_of stretch)) w Over from P (room_of s stretch)
@@ -120,22 +113,22 @@ module _ {A B : Type 0} (live : Bool) (s : List ℕ) (stretch : Stretch) (w : Wa
 
 -- A step that is refused is not at the end.
 pub not_ended : (live : Bool) (s : List ℕ) (stretch : Stretch) (at : ℕ) (r : Refusal)
-    → child_at live s stretch at ≡ ChildRefused r → child_at live s stretch at ≡ End → ⊥
+    → child_at live s stretch at ≡ Err r → child_at live s stretch at ≡ (Ok None) → ⊥
 not_ended live s stretch at r k e = let z : ◌≡◌ {A = ℕ} 0 1 = cc in omega arith
 
 -- ---- in an element of unknown size
 
 -- What was refused in it is a fault that its walk comes to.
-abbrev Inside : List ℕ → (end : ℕ) → Headed → Passed → Type 0
-Inside s end e (At next) = Unit
-Inside s end e (Lost r) =
-    (a : ℕ) × InUnknown s end e a × (child_at true s (Endless e.header.id end) a ≡ End → ⊥)
+abbrev Inside : List ℕ → (end : ℕ) → Headed → Result ℕ Refusal → Type 0
+Inside s end e (Ok next) = Unit
+Inside s end e (Err r) =
+    (a : ℕ) × InUnknown s end e a × (child_at true s (Endless e.header.id end) a ≡ (Ok None) → ⊥)
     × Fault s a (to_step true) r.cause × (because r.cause a ≡ r)
 
 unknown_fault : (s : List ℕ) (end : ℕ) (e : Headed) → Inside s end e (end_from s e.header.id end e.payload.at)
 unfolding end_from
 unknown_fault s end e =
-    on_the_way (child_at true s stretch) (λ c. At (within c)) (ending s end) (λ c. Unit) e.payload.at
+    on_the_way (child_at true s stretch) (λ c. Ok (within c)) (ending s end) (λ c. Unit) e.payload.at
     (Inside s end e) (λ place. length s - place) (no_room true s stretch)
     (λ at c next q p.
     let t = stepped_on true s stretch at c q in
@@ -154,17 +147,17 @@ unknown_fault s end e =
     stretch = Endless e.header.id end
 
 -- A way past an element that is refused goes through one of unknown size.
-pub passed_fault : (live : Bool) (s : List ℕ) (end : ℕ) (e : Headed) (r : Refusal) → pass_over live s end e ≡ Lost r
+pub passed_fault : (live : Bool) (s : List ℕ) (end : ℕ) (e : Headed) (r : Refusal) → pass_over live s end e ≡ Err r
     → ((live && unknown e.header) ≡ true)
-    × ((a : ℕ) × InUnknown s end e a × (child_at true s (Endless e.header.id end) a ≡ End → ⊥)
+    × ((a : ℕ) × InUnknown s end e a × (child_at true s (Endless e.header.id end) a ≡ (Ok None) → ⊥)
     × Fault s a (to_step true) r.cause × (because r.cause a ≡ r))
 unfolding pass_over
 passed_fault live s end e r q = by (live && unknown e.header) refl q
   where
     by : (b : Bool) → (live && unknown e.header) ≡ b
-        → cond b (end_from s e.header.id end e.payload.at) (At (behind e)) ≡ Lost r
+        → cond b (end_from s e.header.id end e.payload.at) (Ok (behind e)) ≡ Err r
         → ((live && unknown e.header) ≡ true)
-        × ((a : ℕ) × InUnknown s end e a × (child_at true s (Endless e.header.id end) a ≡ End → ⊥)
+        × ((a : ℕ) × InUnknown s end e a × (child_at true s (Endless e.header.id end) a ≡ (Ok None) → ⊥)
         × Fault s a (to_step true) r.cause × (because r.cause a ≡ r))
     by true k w = (k, subst (Inside s end e) w (unknown_fault s end e))
     by false k w = let z : ◌≡◌ {A = ℕ} 0 1 = cc in absurd (let y : ⊥ = omega arith in y)
@@ -186,13 +179,13 @@ overrun_known live segment e q = by (live && unknown segment.header) refl (live 
 
 -- The place of a child is not past its stretch.
 pub child_before : (live : Bool) (s : List ℕ) (stretch : Stretch) (at : ℕ) (e : Headed)
-    → child_at live s stretch at ≡ Child e → is_past s stretch at ≡ false
+    → child_at live s stretch at ≡ Ok (Some e) → is_past s stretch at ≡ false
 child_before live s stretch at e q = by (child_at live s stretch at) q (goes live s stretch at)
   where
-    by : (y : ChildRead) → y ≡ Child e → Goes live s stretch at y → is_past s stretch at ≡ false
-    by (Child d) w (element _ k h o b) = k
-    by End w g = let z : ◌≡◌ {A = ℕ} 0 1 = cc in absurd (let y : ⊥ = omega arith in y)
-    by (ChildRefused r) w g = let z : ◌≡◌ {A = ℕ} 0 1 = cc in absurd (let y : ⊥ = omega arith in y)
+    by : (y : Result (Option Headed) Refusal) → y ≡ Ok (Some e) → Goes live s stretch at y → is_past s stretch at ≡ false
+    by (Ok (Some d)) w (element _ k h o b) = k
+    by (Ok None) w g = let z : ◌≡◌ {A = ℕ} 0 1 = cc in absurd (let y : ⊥ = omega arith in y)
+    by (Err r) w g = let z : ◌≡◌ {A = ℕ} 0 1 = cc in absurd (let y : ⊥ = omega arith in y)
 
 module _ (live : Bool) (s : List ℕ) (part numbers : ℕ) where
   abbrev Here : Refusal → Type 0
@@ -204,9 +197,9 @@ module _ (live : Bool) (s : List ℕ) (part numbers : ℕ) where
 
   -- ---- before the segment
 
-  abbrev OfFile : HeaderRead → Type 0
-  OfFile (Read e) = Unit
-  OfFile (HeaderRefused e) = Here e
+  abbrev OfFile : Result Headed Refusal → Type 0
+  OfFile (Ok e) = Unit
+  OfFile (Err e) = Here e
 
   file_fault : OfFile (segment_of live s)
   unfolding segment_of is_past ended_by
@@ -225,18 +218,18 @@ module _ (live : Bool) (s : List ℕ) (part numbers : ℕ) where
       subst Here j (at_fault a (to_step true) r.cause (in_file_unknown at e a g k o u i n) f)) tt
     where
       by : (e : Headed) (b : Bool) → eqb e.header.id segment_id ≡ b
-          → Went {A = Unit} OfFile (e.header.id ≡ segment_id → ⊥) (cond b (ends (Read e)) (over tt))
+          → Went {A = Unit} OfFile (e.header.id ≡ segment_id → ⊥) (cond b (ends (Ok e)) (over tt))
       by e true q = tt
       by e false q = eqb-false e.header.id segment_id q
 
-      at_end : (at : ℕ) → child_at live s (Sized (length s)) at ≡ End → length s ≤ at
+      at_end : (at : ℕ) → child_at live s (Sized (length s)) at ≡ (Ok None) → length s ≤ at
       at_end at k = leb-true (length s) at (by_way (child_at live s (Sized (length s)) at) k (goes live s _ at))
         where
-          by_way : (y : ChildRead) → y ≡ End → Goes live s (Sized (length s)) at y → leb (length s) at ≡ true
-          by_way End w (past p) = p
-          by_way End w (ended d p h o) = let z : ◌≡◌ {A = ℕ} 0 1 = cc in absurd (let y : ⊥ = omega arith in y)
-          by_way (Child d) w g = let z : ◌≡◌ {A = ℕ} 0 1 = cc in absurd (let y : ⊥ = omega arith in y)
-          by_way (ChildRefused d) w g = let z : ◌≡◌ {A = ℕ} 0 1 = cc in absurd (let y : ⊥ = omega arith in y)
+          by_way : (y : Result (Option Headed) Refusal) → y ≡ (Ok None) → Goes live s (Sized (length s)) at y → leb (length s) at ≡ true
+          by_way (Ok None) w (past p) = p
+          by_way (Ok None) w (ended d p h o) = let z : ◌≡◌ {A = ℕ} 0 1 = cc in absurd (let y : ⊥ = omega arith in y)
+          by_way (Ok (Some d)) w g = let z : ◌≡◌ {A = ℕ} 0 1 = cc in absurd (let y : ⊥ = omega arith in y)
+          by_way (Err d) w g = let z : ◌≡◌ {A = ℕ} 0 1 = cc in absurd (let y : ⊥ = omega arith in y)
 
   -- ---- in the segment
 
@@ -245,7 +238,7 @@ module _ (live : Bool) (s : List ℕ) (part numbers : ℕ) where
   OfPlace (absent_at heads) = Unit
   OfPlace (stopped e) = Here e
 
-  module _ (segment : Headed) (is : segment_of live s ≡ Read segment) where
+  module _ (segment : Headed) (is : segment_of live s ≡ Ok segment) where
     abbrev stretch : Stretch
     stretch = stretch_of live s segment
 
@@ -259,7 +252,7 @@ module _ (live : Bool) (s : List ℕ) (part numbers : ℕ) where
         leb_less l = leb-false (behind segment) at l
 
     -- A child that is refused is so on its own errand, by whether the segment's size is known.
-    child_fault : (at : ℕ) (e : Refusal) → InSegment live s part segment at → child_at live s stretch at ≡ ChildRefused e
+    child_fault : (at : ℕ) (e : Refusal) → InSegment live s part segment at → child_at live s stretch at ≡ Err e
         → Here e
     child_fault at e g k = by (live && unknown segment.header) refl
       where
@@ -273,7 +266,7 @@ module _ (live : Bool) (s : List ℕ) (part numbers : ℕ) where
             let (l, f, i) = step_fault live s stretch at x refl (λ h. refl) e k in
             subst Here i (at_fault at x e.cause (in_segment segment at is u g (before_end u at l)) f)
 
-    visited : (at : ℕ) (e : Headed) → InSegment live s part segment at → child_at live s stretch at ≡ Child e
+    visited : (at : ℕ) (e : Headed) → InSegment live s part segment at → child_at live s stretch at ≡ Ok (Some e)
         → Went {A = Unit} OfPlace (PassedOver live part segment e)
         ((within_segment live segment (searching live s part segment)).visit tt e)
     unfolding visit member barred_step
@@ -358,11 +351,11 @@ module _ (live : Bool) (s : List ℕ) (part numbers : ℕ) where
       of (absent_at heads) w f = let z : ◌≡◌ {A = ℕ} 0 1 = cc in absurd (let y : ⊥ = omega arith in y)
       of (stopped r) w f = let i : r ≡ e = cc in subst Here i f
 
-      by : (x : HeaderRead) → segment_of live s ≡ x → on_header x stopped (segment_children live s part) ≡ stopped e
+      by : (x : Result Headed Refusal) → segment_of live s ≡ x → on_header x stopped (segment_children live s part) ≡ stopped e
           → OfFile x
           → Here e
-      by (Read segment) k w f = of (segment_children live s part segment) w (segment_fault segment k)
-      by (HeaderRefused r) k w f = let i : r ≡ e = cc in subst Here i f
+      by (Ok segment) k w f = of (segment_children live s part segment) w (segment_fault segment k)
+      by (Err r) k w f = let i : r ≡ e = cc in subst Here i f
 
   -- ---- the search
 
@@ -376,7 +369,7 @@ module _ (live : Bool) (s : List ℕ) (part numbers : ℕ) where
       bad : bad_argument ≡ e → HonestHere e
       bad i = subst HonestHere i (callers (inl refl) refl)
 
-      by_reading : (parent : ℕ) (x : Headed) (heads : List ℕ) → parent_of part ≡ Id parent
+      by_reading : (parent : ℕ) (x : Headed) (heads : List ℕ) → parent_of part ≡ Some parent
           → lookup_of live s part ≡ found_at x heads
           → (o : Outcome) → filled live s x.payload.at x.header.size parent numbers ≡ o
           → on_outcome o refused (found x.payload.at x.header.size heads) ≡ refused e → HonestHere e
@@ -392,7 +385,7 @@ module _ (live : Bool) (s : List ℕ) (part numbers : ℕ) where
             fault = here.fault;
           })
 
-      by_place : (parent : ℕ) → parent_of part ≡ Id parent → (p : Lookup) → lookup_of live s part ≡ p
+      by_place : (parent : ℕ) → parent_of part ≡ Some parent → (p : Lookup) → lookup_of live s part ≡ p
           → on_lookup p (λ x heads.
           on_outcome (filled live s x.payload.at x.header.size parent numbers) refused
           (found x.payload.at x.header.size heads))
@@ -406,15 +399,15 @@ module _ (live : Bool) (s : List ℕ) (part numbers : ℕ) where
           let i : r ≡ e = cc in
           there (place_fault e (k ∙ ap stopped i))
 
-      by_parent : (x : Parent) → parent_of part ≡ x
+      by_parent : (x : Option ℕ) → parent_of part ≡ x
           → on_parent x (refused bad_argument) (λ parent.
           on_lookup (lookup_of live s part) (λ y heads.
           on_outcome (filled live s y.payload.at y.header.size parent numbers) refused
           (found y.payload.at y.header.size heads)))
           ≡ refused e
           → HonestHere e
-      by_parent (Id parent) k w = by_place parent k (lookup_of live s part) refl w
-      by_parent NoPart k w = bad (cc)
+      by_parent (Some parent) k w = by_place parent k (lookup_of live s part) refl w
+      by_parent None k w = bad (cc)
 
       by : (b : Bool)
           → cond b (refused bad_argument)

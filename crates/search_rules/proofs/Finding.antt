@@ -14,37 +14,34 @@ use Rattle.elements_rules.specs.Reading.{Outcome, done}
 use Rattle.elements_rules.specs.Reading.{refused as unread}
 use Rattle.elements_rules.specs.Promise.{allowed, filled, read_of, zeros, ReadPromise}
 use Rattle.elements_rules.specs.Promise.{reply_of as read_reply, table_of as read_table, read_told}
-use Rattle.elements_rules.specs.declared.reply.ReadReply.TheVariants.{Rows, Refused as ReadRefused}
 use Rattle.elements_rules.proofs.Outcomes.{passes}
 use Rattle.elements_rules.proofs.Limits.{within, by_start}
 use Rattle.seekchain_rules.specs.Answers.{on_outcome}
 use Rattle.seekchain_rules.specs.Lookup.{Lookup}
 use Rattle.seekchain_rules.specs.Lookup.{found as found_at, absent as absent_at, stopped as stopped_at}
 use Rattle.seekchain_rules.specs.Contract.{place_told}
-use Rattle.seekchain_rules.specs.declared.lookup.PartPlace.TheVariants.{Found as PlaceFound}
-use Rattle.seekchain_rules.specs.declared.lookup.PartPlace.TheVariants.{Absent as PlaceAbsent, Refused as PlaceRefused}
 use Rattle.segments_rules.specs.Segment.{lookup_of}
 use Rattle.search_rules.specs.Part.{parent_of, Search, found, absent, refused, on_lookup, search_of}
 use Rattle.search_rules.specs.Part.{reply_of, table_of, part_told, PartPromise}
-use Rattle.search_rules.specs.declared.part.Parent.TheVariants.{Id, NoPart}
 use Rattle.search_rules.specs.declared.part.PartReply.{PartReply}
 use Rattle.search_rules.specs.declared.part.PartReply.TheVariants.{Found, Absent, Refused}
 use Rattle.search_rules.proofs.Trusty.{found_inside}
+use Rattle.std.proofs.Common.{Ok, Err, Some, None}
 
 -- ---- what a place told
 
-told_stopped : (e : Refusal) (p : Lookup) → PlaceRefused e ≡ place_told p → p ≡ stopped_at e
+told_stopped : (e : Refusal) (p : Lookup) → Err e ≡ place_told p → p ≡ stopped_at e
 told_stopped e (found_at part heads) q = let z : ◌≡◌ {A = ℕ} 0 1 = cc in absurd (omega arith)
 told_stopped e (absent_at heads) q = let z : ◌≡◌ {A = ℕ} 0 1 = cc in absurd (omega arith)
 told_stopped e (stopped_at e') q = cc
 
-told_absent : (n : ℕ) (p : Lookup) → PlaceAbsent n ≡ place_told p
+told_absent : (n : ℕ) (p : Lookup) → Ok (None, n) ≡ place_told p
     → (heads : List ℕ) × (p ≡ absent_at heads) × (n ≡ length heads)
 told_absent n (found_at part heads) q = let z : ◌≡◌ {A = ℕ} 0 1 = cc in absurd (omega arith)
 told_absent n (absent_at heads) q = (heads, refl, cc)
 told_absent n (stopped_at e) q = let z : ◌≡◌ {A = ℕ} 0 1 = cc in absurd (omega arith)
 
-told_found : (e : Headed) (n : ℕ) (p : Lookup) → PlaceFound e n ≡ place_told p
+told_found : (e : Headed) (n : ℕ) (p : Lookup) → Ok (Some e, n) ≡ place_told p
     → (heads : List ℕ) × (p ≡ found_at e heads) × (n ≡ length heads)
 told_found e n (found_at part heads) q = (heads, cc, cc)
 told_found e n (absent_at heads) q = let z : ◌≡◌ {A = ℕ} 0 1 = cc in absurd (omega arith)
@@ -60,7 +57,7 @@ allowed_at s at numbers a l =
     sym (by_start s at numbers w.bytes w.multiple w.few) ∙ le-leb at (length s) l
 
 pub found_allowed : (live : Bool) (s : List ℕ) (part numbers : ℕ) (e : Headed) (n : ℕ) → allowed s 0 numbers ≡ true
-    → PlaceFound e n ≡ place_told (lookup_of live s part) → allowed s e.payload.at numbers ≡ true
+    → Ok (Some e, n) ≡ place_told (lookup_of live s part) → allowed s e.payload.at numbers ≡ true
 found_allowed live s part numbers e n a w =
     let (heads, q, l) = told_found e n (lookup_of live s part) w in
     allowed_at s e.payload.at numbers a (found_inside live s part e heads q)
@@ -81,11 +78,11 @@ module _ (live : Bool) (s : List ℕ) (part numbers : ℕ) where
   search_broken a = rw a refl
 
   module _ (a : allowed s 0 numbers ≡ true) where
-    search_none : parent_of part ≡ NoPart → search_of live s part numbers ≡ refused bad_argument
+    search_none : parent_of part ≡ None → search_of live s part numbers ≡ refused bad_argument
     unfolding search_of
     search_none i = rw (a, i) refl
 
-    search_at : (parent : ℕ) → parent_of part ≡ Id parent → (p : Lookup) → lookup_of live s part ≡ p
+    search_at : (parent : ℕ) → parent_of part ≡ Some parent → (p : Lookup) → lookup_of live s part ≡ p
         → search_of live s part numbers ≡ on_lookup p (reading live s numbers parent)
     unfolding search_of
     search_at parent i p q = rw (a, i, q) refl
@@ -99,14 +96,14 @@ read_at live s at size parent numbers a = passes _ _ _ (ap not a)
 -- ---- the reply and the table
 
 module _ (at size numbers : ℕ) (heads t' : List ℕ) where
-  read_refused : (e : Refusal) (o : Outcome) → read_told (ReadRefused e) ≡ read_reply o → t' ≡ read_table at numbers o
+  read_refused : (e : Refusal) (o : Outcome) → read_told (Err e) ≡ read_reply o → t' ≡ read_table at numbers o
       → (part_told (Refused e) ≡ reply_of (as_search at size heads o))
       × (t' ≡ table_of numbers (as_search at size heads o))
   unfolding table_of read_table
   read_refused e (done f) q w = let z : ◌≡◌ {A = ℕ} 0 1 = cc in absurd (omega arith)
   read_refused e (unread e') q w = let x : e ≡ e' = cc in (ap refusal x, w)
 
-  read_rows : (rows n : ℕ) → n ≡ length heads → (o : Outcome) → read_told (Rows rows) ≡ read_reply o
+  read_rows : (rows n : ℕ) → n ≡ length heads → (o : Outcome) → read_told (Ok rows) ≡ read_reply o
       → t' ≡ read_table at numbers o
       → (part_told (Found at size rows n) ≡ reply_of (as_search at size heads o))
       × (t' ≡ table_of numbers (as_search at size heads o))
@@ -132,12 +129,12 @@ module _ (live : Bool) (s : List ℕ) (part : ℕ) (t : List ℕ) where
   find_broken e t' a i z = cleared e bad_argument t' (search_broken live s part (length t) a) i z
 
   module _ (a : allowed s 0 (length t) ≡ true) where
-    pub find_none : (e : Refusal) (t' : List ℕ) → parent_of part ≡ NoPart → e ≡ bad_argument
+    pub find_none : (e : Refusal) (t' : List ℕ) → parent_of part ≡ None → e ≡ bad_argument
         → t' ≡ zeros (length t) → PartPromise live s part t (Refused e) t'
     find_none e t' i j z = cleared e bad_argument t' (search_none live s part (length t) a i) j z
 
-    module _ (parent : ℕ) (i : parent_of part ≡ Id parent) where
-      pub find_stopped : (e : Refusal) (t' : List ℕ) → PlaceRefused e ≡ place_told (lookup_of live s part)
+    module _ (parent : ℕ) (i : parent_of part ≡ Some parent) where
+      pub find_stopped : (e : Refusal) (t' : List ℕ) → Err e ≡ place_told (lookup_of live s part)
           → t' ≡ zeros (length t) → PartPromise live s part t (Refused e) t'
       find_stopped e t' w z =
           let q = search_at live s part (length t) a parent i (stopped_at e) (told_stopped e (lookup_of live s part) w) in
@@ -150,13 +147,13 @@ module _ (live : Bool) (s : List ℕ) (part : ℕ) (t : List ℕ) where
           promised (absent heads) (search_at live s part (length t) a parent i (absent_at heads) q) (Absent n) t'
           (ap (λ (k : ℕ). part_told (Absent k)) l) z
 
-      pub find_absent : (n : ℕ) (t' : List ℕ) → PlaceAbsent n ≡ place_told (lookup_of live s part)
+      pub find_absent : (n : ℕ) (t' : List ℕ) → Ok (None, n) ≡ place_told (lookup_of live s part)
           → t' ≡ zeros (length t) → PartPromise live s part t (Absent n) t'
       find_absent n t' w z =
           let (heads, q, l) = told_absent n (lookup_of live s part) w in
           absent_promised n heads t' q l z
 
-      module _ (e : Headed) (n : ℕ) (w : PlaceFound e n ≡ place_told (lookup_of live s part)) where
+      module _ (e : Headed) (n : ℕ) (w : Ok (Some e, n) ≡ place_told (lookup_of live s part)) where
         abbrev at : ℕ
         at = e.payload.at
 
@@ -166,7 +163,7 @@ module _ (live : Bool) (s : List ℕ) (part : ℕ) (t : List ℕ) where
         read_is : read_of live s at size parent (length t) ≡ filled live s at size parent (length t)
         read_is = read_at live s at size parent (length t) (found_allowed live s part (length t) e n a w)
 
-        pub find_refused : (r : Refusal) (t' : List ℕ) → ReadPromise live s at size parent t (ReadRefused r) t'
+        pub find_refused : (r : Refusal) (t' : List ℕ) → ReadPromise live s at size parent t (Err r) t'
             → PartPromise live s part t (Refused r) t'
         find_refused r t' p =
             let (heads, q, l) = told_found e n (lookup_of live s part) w in
@@ -176,7 +173,7 @@ module _ (live : Bool) (s : List ℕ) (part : ℕ) (t : List ℕ) where
             promised (as_search at size heads o)
             (search_at live s part (length t) a parent i (found_at e heads) q) (Refused r) t' x k
 
-        pub find_rows : (rows : ℕ) (t' : List ℕ) → ReadPromise live s at size parent t (Rows rows) t'
+        pub find_rows : (rows : ℕ) (t' : List ℕ) → ReadPromise live s at size parent t (Ok rows) t'
             → PartPromise live s part t (Found at size rows n) t'
         find_rows rows t' p =
             let (heads, q, l) = told_found e n (lookup_of live s part) w in

@@ -23,11 +23,10 @@ use Rattle.segments_rules.specs.Segment.{lookup_of}
 use Rattle.search_rules.specs.Part.{parent_of, Search, found, absent, refused, on_parent, on_lookup, search_of}
 use Rattle.search_rules.specs.Part.{heads_of, reply_of, table_of, part_told, PartPromise}
 use Rattle.search_rules.specs.Theorems.{HeadsAllowed, HeadsCounted, FoundBy, FoundIsPart, FoundIsRead}
-use Rattle.search_rules.specs.declared.part.Parent.{Parent}
-use Rattle.search_rules.specs.declared.part.Parent.TheVariants.{Id, NoPart}
 use Rattle.search_rules.specs.declared.part.PartReply.TheVariants.{Found, Absent}
 use Rattle.search_rules.proofs.Trusty.{none_read, Placed, place_trusty, found_part, found_inside}
 use Rattle.search_rules.proofs.Finding.{allowed_at, as_search, reading, read_at}
+use Rattle.std.proofs.Common.{Option, Some, None}
 
 -- ---- the heads
 
@@ -52,14 +51,14 @@ pub heads_allowed : HeadsAllowed
 unfolding search_of heads_of
 heads_allowed live s part numbers = by (not (allowed s 0 numbers)) (parent_of part)
   where
-    by : (b : Bool) (x : Parent)
+    by : (b : Bool) (x : Option ℕ)
         → GoodHeads live s
         (heads_of
         (cond b (refused bad_argument)
         (on_parent x (refused bad_argument) (λ parent. on_lookup (lookup_of live s part) (reading live s numbers parent)))))
     by true x = none_read live s
-    by false (Id parent) = heads_of_place live s part numbers parent (lookup_of live s part) (place_trusty live s part)
-    by false NoPart = none_read live s
+    by false (Some parent) = heads_of_place live s part numbers parent (lookup_of live s part) (place_trusty live s part)
+    by false None = none_read live s
 
 -- ---- what a reply tells of the search
 
@@ -92,7 +91,7 @@ heads_counted live s part t t' = (
 record Sought (live : Bool) (s : List ℕ) (part numbers at size : ℕ) (heads : List ℕ) (f : Forest) : Type 0 where
   parent : ℕ
   within : allowed s 0 numbers ≡ true
-  named : parent_of part ≡ Id parent
+  named : parent_of part ≡ Some parent
   element : Headed
   place : lookup_of live s part ≡ found_at element heads
   payload : element.payload.at ≡ at
@@ -100,7 +99,7 @@ record Sought (live : Bool) (s : List ℕ) (part numbers at size : ℕ) (heads :
   read : filled live s at size parent numbers ≡ done f
 
 module _ (live : Bool) (s : List ℕ) (part numbers at size : ℕ) (heads : List ℕ) (f : Forest) where
-  sought_read : (parent : ℕ) (e : Headed) (hs : List ℕ) → allowed s 0 numbers ≡ true → parent_of part ≡ Id parent
+  sought_read : (parent : ℕ) (e : Headed) (hs : List ℕ) → allowed s 0 numbers ≡ true → parent_of part ≡ Some parent
       → lookup_of live s part ≡ found_at e hs
       → (o : Outcome) → filled live s e.payload.at e.header.size parent numbers ≡ o
       → as_search e.payload.at e.header.size hs o ≡ found at size heads f
@@ -122,7 +121,7 @@ module _ (live : Bool) (s : List ℕ) (part numbers at size : ℕ) (heads : List
       }
   sought_read parent e hs a i p (unread r) k w = let z : ◌≡◌ {A = ℕ} 0 1 = cc in absurd (omega arith)
 
-  sought_at : (parent : ℕ) → allowed s 0 numbers ≡ true → parent_of part ≡ Id parent
+  sought_at : (parent : ℕ) → allowed s 0 numbers ≡ true → parent_of part ≡ Some parent
       → (p : Lookup) → lookup_of live s part ≡ p
       → on_lookup p (reading live s numbers parent) ≡ found at size heads f → Sought live s part numbers at size heads f
   sought_at parent a i (found_at e hs) p w =
@@ -134,13 +133,13 @@ module _ (live : Bool) (s : List ℕ) (part numbers at size : ℕ) (heads : List
   unfolding search_of
   sought = by (allowed s 0 numbers) refl (parent_of part) refl
     where
-      by : (b : Bool) → allowed s 0 numbers ≡ b → (x : Parent) → parent_of part ≡ x
+      by : (b : Bool) → allowed s 0 numbers ≡ b → (x : Option ℕ) → parent_of part ≡ x
           → cond (not b) (refused bad_argument)
           (on_parent x (refused bad_argument) (λ parent. on_lookup (lookup_of live s part) (reading live s numbers parent)))
           ≡ found at size heads f
           → Sought live s part numbers at size heads f
-      by true a (Id parent) i w = sought_at parent a i (lookup_of live s part) refl w
-      by true a NoPart i w = let z : ◌≡◌ {A = ℕ} 0 1 = cc in absurd (omega arith)
+      by true a (Some parent) i w = sought_at parent a i (lookup_of live s part) refl w
+      by true a None i w = let z : ◌≡◌ {A = ℕ} 0 1 = cc in absurd (omega arith)
       by false a x i w = let z : ◌≡◌ {A = ℕ} 0 1 = cc in absurd (omega arith)
 
 -- Its payload starts in the recording.
@@ -167,7 +166,7 @@ found_is_part live s part t at size rows n t' p =
     subst (λ (hs : List ℕ). FoundBy live s part at size hs) (sym (ap heads_of q)) by
 
 -- A part is read under one parent.
-same_parent : (a b : ℕ) {x : Parent} → x ≡ Id a → x ≡ Id b → a ≡ b
+same_parent : (a b : ℕ) {x : (Option ℕ)} → x ≡ Some a → x ≡ Some b → a ≡ b
 same_parent a b p q = cc
 
 pub found_is_read : FoundIsRead

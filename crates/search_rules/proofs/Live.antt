@@ -12,8 +12,6 @@ use Rattle.refusals.specs.declared.refusal.Refusal.{Refusal}
 use Rattle.header.specs.Reads.{behind, header_at}
 use Rattle.header.specs.declared.cursor.Headed.{Headed}
 use Rattle.header.specs.declared.cursor.Header.{Header}
-use Rattle.header.specs.declared.cursor.HeaderRead.{HeaderRead}
-use Rattle.header.specs.declared.cursor.HeaderRead.TheVariants.{Read, Refused as HeaderRefused}
 use Rattle.header.proofs.Inside.{header_there}
 use Rattle.sizes.specs.Unknown.{unknown}
 use Rattle.elements_rules.specs.Reading.{Outcome}
@@ -27,10 +25,6 @@ use Rattle.walks_rules.specs.Walk.{Visit, ends, over, on_visit, on_passed, Walk,
 use Rattle.walks_rules.specs.Endings.{pass_over, end_of, room_of, walk_from}
 use Rattle.walks_rules.specs.declared.step.Stretch.{Stretch}
 use Rattle.walks_rules.specs.declared.step.Stretch.TheVariants.{Sized}
-use Rattle.walks_rules.specs.declared.step.ChildRead.{ChildRead}
-use Rattle.walks_rules.specs.declared.step.ChildRead.TheVariants.{Child, End, Refused as ChildRefused}
-use Rattle.walks_rules.specs.declared.pass.Passed.{Passed}
-use Rattle.walks_rules.specs.declared.pass.Passed.TheVariants.{At, Refused as Lost}
 use Rattle.walks_rules.proofs.Steps.{stepped_on}
 use Rattle.walks_rules.proofs.Known.{KnownAt, child_known, pass_known}
 use Rattle.seekhead_rules.specs.Seeks.{segment_id, seek_head_id}
@@ -45,30 +39,29 @@ use Rattle.search_rules.specs.Part.{reply_of, part_told}
 use Rattle.search_rules.specs.Faults.{Walks, begun, passing, Along, ToSegment, PassedOver, InSegment, SearchComes}
 use Rattle.search_rules.specs.Faults.{in_file, in_segment, from_heads, in_part}
 use Rattle.search_rules.specs.Live.{EqualParts, EqualWithout}
-use Rattle.search_rules.specs.declared.part.Parent.{Parent}
-use Rattle.search_rules.specs.declared.part.Parent.TheVariants.{Id, NoPart}
 use Rattle.search_rules.proofs.Unique.{replied, replied_back}
 use Rattle.search_rules.proofs.Faults.{child_before, Went, the_walk}
+use Rattle.std.proofs.Common.{Result, Option, Ok, Err, Some, None}
 
 -- ---- two walks that go one way
 
-module _ {A B : Type 0} (step step' : ℕ → ChildRead) (pass pass' : Headed → Passed) (w w' : Walk A B)
+module _ {A B : Type 0} (step step' : ℕ → Result (Option Headed) Refusal) (pass pass' : Headed → Result ℕ Refusal) (w w' : Walk A B)
     (Over : Headed → Type 0) (from : ℕ)
     (Ended-same : (at : ℕ) (a : A) → w'.ended at a ≡ w.ended at a)
     (stop_same : (e : Refusal) → w'.stop e ≡ w.stop e)
     (steps_same : (at : ℕ) → Walks step pass Over from at → step' at ≡ step at)
-    (visits_same : (a : A) (at : ℕ) (e : Headed) → Walks step pass Over from at → step at ≡ Child e
+    (visits_same : (a : A) (at : ℕ) (e : Headed) → Walks step pass Over from at → step at ≡ Ok (Some e)
     → w'.visit a e ≡ w.visit a e)
-    (Goes-over : (a b : A) (at : ℕ) (e : Headed) → Walks step pass Over from at → step at ≡ Child e
+    (Goes-over : (a b : A) (at : ℕ) (e : Headed) → Walks step pass Over from at → step at ≡ Ok (Some e)
     → w.visit a e ≡ over b → Over e)
-    (Passes-same : (at : ℕ) (e : Headed) → Walks step pass Over from at → step at ≡ Child e → pass' e ≡ pass e) where
+    (Passes-same : (at : ℕ) (e : Headed) → Walks step pass Over from at → step at ≡ Ok (Some e) → pass' e ≡ pass e) where
   pub same_walk : (n at : ℕ) (a : A) → Walks step pass Over from at
       → walk step' pass' w' n at a ≡ walk step pass w n at a
   unfolding walk
   same_walk zero at a g = Ended-same at a
   same_walk (suc n) at a g = ap turn' (steps_same at g) ∙ by (step at) refl (same_walk n)
     where
-      turn' : ChildRead → B
+      turn' : Result (Option Headed) Refusal → B
       turn' x =
           on_child x (w'.ended at a) w'.stop (λ e.
           on_visit (w'.visit a e) (λ b. b) (λ more.
@@ -78,34 +71,34 @@ module _ {A B : Type 0} (step step' : ℕ → ChildRead) (pass pass' : Headed �
       Onward = (next : ℕ) (b : A) → Walks step pass Over from next
           → walk step' pass' w' n next b ≡ walk step pass w n next b
 
-      by_pass : (e : Headed) → step at ≡ Child e → Over e → Onward → (b : A) (p : Passed) → pass e ≡ p
+      by_pass : (e : Headed) → step at ≡ Ok (Some e) → Over e → Onward → (b : A) (p : Result ℕ Refusal) → pass e ≡ p
           → on_passed p w'.stop (λ next. walk step' pass' w' n next b)
           ≡ on_passed p w.stop (λ next. walk step pass w n next b)
-      by_pass e k o on b (At next) q = on next b (passing at next e g k o q)
-      by_pass e k o on b (Lost r) q = stop_same r
+      by_pass e k o on b (Ok next) q = on next b (passing at next e g k o q)
+      by_pass e k o on b (Err r) q = stop_same r
 
-      by_visit : (e : Headed) → step at ≡ Child e → Onward → (v : Visit A B) → w.visit a e ≡ v
+      by_visit : (e : Headed) → step at ≡ Ok (Some e) → Onward → (v : Visit A B) → w.visit a e ≡ v
           → on_visit v (λ b. b) (λ more. on_passed (pass' e) w'.stop (λ next. walk step' pass' w' n next more))
           ≡ on_visit v (λ b. b) (λ more. on_passed (pass e) w.stop (λ next. walk step pass w n next more))
       by_visit e k on (ends b) q = refl
       by_visit e k on (over b) q =
-          ap (λ (p : Passed). on_passed p w'.stop (λ next. walk step' pass' w' n next b)) (Passes-same at e g k)
+          ap (λ (p : Result ℕ Refusal). on_passed p w'.stop (λ next. walk step' pass' w' n next b)) (Passes-same at e g k)
           ∙ by_pass e k (Goes-over a b at e g k q) on b (pass e) refl
 
-      by : (x : ChildRead) → step at ≡ x → Onward
+      by : (x : Result (Option Headed) Refusal) → step at ≡ x → Onward
           → turn' x
           ≡ on_child x (w.ended at a) w.stop (λ e.
           on_visit (w.visit a e) (λ b. b) (λ more. on_passed (pass e) w.stop (λ next. walk step pass w n next more)))
-      by (Child e) k on =
+      by (Ok (Some e)) k on =
           ap (λ (v : Visit A B). on_visit v (λ b. b) (λ more.
           on_passed (pass' e) w'.stop (λ next. walk step' pass' w' n next more))) (visits_same a at e g k)
           ∙ by_visit e k on (w.visit a e) refl
-      by End k on = Ended-same at a
-      by (ChildRefused r) k on = stop_same r
+      by (Ok None) k on = Ended-same at a
+      by (Err r) k on = stop_same r
 
 -- The size of an element at a place of known sizes.
 pub of_known : (s : List ℕ) (stretch : Stretch) (at : ℕ) (e : Headed) → KnownAt s at
-    → child_at false s stretch at ≡ Child e → unknown e.header ≡ false
+    → child_at false s stretch at ≡ Ok (Some e) → unknown e.header ≡ false
 of_known s stretch at e n q = n e.header (header_there s at e (stepped_on false s stretch at e q).here).head
 
 -- ---- before the segment
@@ -123,14 +116,14 @@ module _ (s : List ℕ) (in_file_law : (at : ℕ) → ToSegment false s at → K
       (room_of s (Sized (length s)) 0) 0 tt begun
     where
       not_segment : (a b : Unit {0}) (e : Headed) (t : Bool) → eqb e.header.id segment_id ≡ t
-          → cond t (ends (Read e)) (over a) ≡ over b → e.header.id ≡ segment_id → ⊥
+          → cond t (ends (Ok e)) (over a) ≡ over b → e.header.id ≡ segment_id → ⊥
       not_segment a b e true q w = let z : ◌≡◌ {A = ℕ} 0 1 = cc in absurd (let y : ⊥ = omega arith in y)
       not_segment a b e false q w = eqb-false e.header.id segment_id q
 
   -- The segment has a known size.
-  abbrev pub Sizes : HeaderRead → Type 0
-  Sizes (Read e) = unknown e.header ≡ false
-  Sizes (HeaderRefused r) = Unit
+  abbrev pub Sizes : Result Headed Refusal → Type 0
+  Sizes (Ok e) = unknown e.header ≡ false
+  Sizes (Err r) = Unit
 
   pub segment_sized : Sizes (segment_of false s)
   unfolding segment_of
@@ -141,7 +134,7 @@ module _ (s : List ℕ) (in_file_law : (at : ℕ) → ToSegment false s at → K
       (λ at e r g q o p. tt) tt
     where
       by : (e : Headed) → unknown e.header ≡ false → (b : Bool) → eqb e.header.id segment_id ≡ b
-          → Went {A = Unit} Sizes (e.header.id ≡ segment_id → ⊥) (cond b (ends (Read e)) (over tt))
+          → Went {A = Unit} Sizes (e.header.id ≡ segment_id → ⊥) (cond b (ends (Ok e)) (over tt))
       by e u true q = u
       by e u false q = eqb-false e.header.id segment_id q
 
@@ -151,7 +144,7 @@ module _ (s : List ℕ) (part numbers : ℕ) (k : AllKnown s (SearchComes false 
 
   -- ---- in the segment
 
-  module _ (segment : Headed) (is : segment_of false s ≡ Read segment) (u : unknown segment.header ≡ false) where
+  module _ (segment : Headed) (is : segment_of false s ≡ Ok segment) (u : unknown segment.header ≡ false) where
     abbrev stretch : Stretch
     stretch = Sized (behind segment)
 
@@ -168,10 +161,10 @@ module _ (s : List ℕ) (part numbers : ℕ) (k : AllKnown s (SearchComes false 
         k at (to_pass false (seek_head_id ∷ part ∷ []) _) h
         (in_segment segment at is refl g (leb-false (behind segment) at p)) refl q
 
-    child_sized : (at : ℕ) (e : Headed) → On at → child_at false s stretch at ≡ Child e → unknown e.header ≡ false
+    child_sized : (at : ℕ) (e : Headed) → On at → child_at false s stretch at ≡ Ok (Some e) → unknown e.header ≡ false
     child_sized at e g q = of_known s stretch at e (in_segment_law at g (child_before false s stretch at e q)) q
 
-    heads_same : (at : ℕ) (e : Headed) → On at → child_at false s stretch at ≡ Child e → e.header.id ≡ seek_head_id
+    heads_same : (at : ℕ) (e : Headed) → On at → child_at false s stretch at ≡ Ok (Some e) → e.header.id ≡ seek_head_id
         → by_heads true s part segment.payload.at e ≡ by_heads false s part segment.payload.at e
     unfolding stretch_of
     heads_same at e g q i =
@@ -181,7 +174,7 @@ module _ (s : List ℕ) (part numbers : ℕ) (k : AllKnown s (SearchComes false 
         (from_heads segment e a x is (subst On (sym t.begins) g) (ap (child_at false s stretch) t.begins ∙ q)
         (record { head = t.there; named = i }) c) r w)
 
-    visit_same : (at : ℕ) (e : Headed) → On at → child_at false s stretch at ≡ Child e
+    visit_same : (at : ℕ) (e : Headed) → On at → child_at false s stretch at ≡ Ok (Some e)
         → visit true s part segment e ≡ visit false s part segment e
     unfolding visit
     visit_same at e g q = by (eqb e.header.id seek_head_id) refl
@@ -194,12 +187,12 @@ module _ (s : List ℕ) (part numbers : ℕ) (k : AllKnown s (SearchComes false 
         by true i = ap ends (heads_same at e g q (eqb-true e.header.id seek_head_id i))
         by false i = refl
 
-    overruns_same : (at : ℕ) (e : Headed) → On at → child_at false s stretch at ≡ Child e
+    overruns_same : (at : ℕ) (e : Headed) → On at → child_at false s stretch at ≡ Ok (Some e)
         → overruns true segment e ≡ overruns false segment e
     unfolding overruns
     overruns_same at e g q = rw (u, child_sized at e g q) refl
 
-    within_same : (at : ℕ) (e : Headed) → On at → child_at false s stretch at ≡ Child e
+    within_same : (at : ℕ) (e : Headed) → On at → child_at false s stretch at ≡ Ok (Some e)
         → (within_segment true segment (searching true s part segment)).visit tt e
         ≡ (within_segment false segment (searching false s part segment)).visit tt e
     within_same at e g q = rw (visit_same at e g q, overruns_same at e g q) refl
@@ -247,17 +240,17 @@ module _ (s : List ℕ) (part numbers : ℕ) (k : AllKnown s (SearchComes false 
   lookup_same : lookup_of true s part ≡ lookup_of false s part
   unfolding lookup_of
   lookup_same =
-      ap (λ (x : HeaderRead). on_header x stopped (segment_children true s part)) (segment_known s in_file_law)
+      ap (λ (x : Result Headed Refusal). on_header x stopped (segment_children true s part)) (segment_known s in_file_law)
       ∙ by (segment_of false s) refl (segment_sized s in_file_law)
     where
-      by : (x : HeaderRead) → segment_of false s ≡ x → Sizes s in_file_law x
+      by : (x : Result Headed Refusal) → segment_of false s ≡ x → Sizes s in_file_law x
           → on_header x stopped (segment_children true s part) ≡ on_header x stopped (segment_children false s part)
-      by (Read segment) is u = children_same segment is u
-      by (HeaderRefused r) is u = refl
+      by (Ok segment) is u = children_same segment is u
+      by (Err r) is u = refl
 
   -- ---- the part
 
-  part_same : (parent : ℕ) → parent_of part ≡ Id parent → (p : Lookup) → lookup_of false s part ≡ p
+  part_same : (parent : ℕ) → parent_of part ≡ Some parent → (p : Lookup) → lookup_of false s part ≡ p
       → on_lookup p (λ e heads.
       on_outcome (filled true s e.payload.at e.header.size parent numbers) refused
       (found e.payload.at e.header.size heads))
@@ -273,7 +266,7 @@ module _ (s : List ℕ) (part numbers : ℕ) (k : AllKnown s (SearchComes false 
   part_same parent i (stopped r) q = refl
 
   -- A search whose arguments are allowed.
-  asked_same : (parent : ℕ) → parent_of part ≡ Id parent
+  asked_same : (parent : ℕ) → parent_of part ≡ Some parent
       → on_lookup (lookup_of true s part) (λ e heads.
       on_outcome (filled true s e.payload.at e.header.size parent numbers) refused
       (found e.payload.at e.header.size heads))
@@ -287,7 +280,7 @@ module _ (s : List ℕ) (part numbers : ℕ) (k : AllKnown s (SearchComes false 
       ∙ part_same parent i (lookup_of false s part) refl
 
 search_same : (s : List ℕ) (part numbers : ℕ)
-    → (allowed s 0 numbers ≡ true → (parent : ℕ) → parent_of part ≡ Id parent
+    → (allowed s 0 numbers ≡ true → (parent : ℕ) → parent_of part ≡ Some parent
     → AllKnown s (SearchComes false s part numbers))
     → search_of true s part numbers ≡ search_of false s part numbers
 unfolding search_of
@@ -299,11 +292,11 @@ search_same s part numbers k = by (allowed s 0 numbers) refl (parent_of part) re
         on_outcome (filled live s e.payload.at e.header.size parent numbers) refused
         (found e.payload.at e.header.size heads))
 
-    by : (b : Bool) → allowed s 0 numbers ≡ b → (x : Parent) → parent_of part ≡ x
+    by : (b : Bool) → allowed s 0 numbers ≡ b → (x : Option ℕ) → parent_of part ≡ x
         → cond (not b) (refused bad_argument) (on_parent x (refused bad_argument) (searched true))
         ≡ cond (not b) (refused bad_argument) (on_parent x (refused bad_argument) (searched false))
-    by true a (Id parent) i = asked_same s part numbers (k a parent i) parent i
-    by true a NoPart i = refl
+    by true a (Some parent) i = asked_same s part numbers (k a parent i) parent i
+    by true a None i = refl
     by false a x i = refl
 
 pub equal_parts : EqualParts

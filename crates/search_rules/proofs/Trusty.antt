@@ -12,8 +12,6 @@ use Rattle.refusals.specs.Refusals.{overrun}
 use Rattle.refusals.specs.declared.refusal.Refusal.{Refusal}
 use Rattle.header.specs.Reads.{header_at}
 use Rattle.header.specs.declared.cursor.Headed.{Headed}
-use Rattle.header.specs.declared.cursor.HeaderRead.{HeaderRead}
-use Rattle.header.specs.declared.cursor.HeaderRead.TheVariants.{Read, Refused}
 use Rattle.header.proofs.Inside.{header_there}
 use Rattle.seekhead_rules.specs.Seeks.{seek_head_id}
 use Rattle.walks_rules.specs.Answers.{on_header}
@@ -27,6 +25,7 @@ use Rattle.segments_rules.specs.Segment.{segment_children, lookup_of}
 use Rattle.walks_rules.proofs.Bounds.{Ended}
 use Rattle.walks_rules.proofs.Walks.{walk_holds}
 use Rattle.search_rules.specs.Theorems.{FoundWay, met, named, FoundBy}
+use Rattle.std.proofs.Common.{Result, Ok, Err}
 
 -- No head at all.
 pub none_read : (live : Bool) (s : List ℕ) → GoodHeads live s []
@@ -58,7 +57,7 @@ module _ (live : Bool) (s : List ℕ) (wanted : ℕ) (segment : Headed) where
   led first i (stopped e) b = tt
 
   -- What a child ends the search with.
-  visited : (e : Headed) → header_at s e.place.at ≡ Read e
+  visited : (e : Headed) → header_at s e.place.at ≡ Ok e
       → Ended (Trusty live s wanted start) (visit live s wanted segment e)
   unfolding visit
   visited e q = by (eqb e.header.id seek_head_id) refl (eqb e.header.id wanted) refl
@@ -96,17 +95,17 @@ module _ (live : Bool) (s : List ℕ) (wanted : ℕ) where
   unfolding lookup_of
   place_trusty = go (segment_of live s) refl
     where
-      in_segment_law : (e : Headed) → segment_of live s ≡ Read e → (p : Lookup) → Trusty live s wanted e.payload.at p
+      in_segment_law : (e : Headed) → segment_of live s ≡ Ok e → (p : Lookup) → Trusty live s wanted e.payload.at p
           → Placed live s wanted p
       in_segment_law e q (found part heads) t =
           (record { part = part; payload = refl; sized = refl; segment = e; is_segment = q; way = t.0 }, t.1)
       in_segment_law e q (absent heads) t = t
       in_segment_law e q (stopped r) t = tt
 
-      go : (x : HeaderRead) → segment_of live s ≡ x
+      go : (x : Result Headed Refusal) → segment_of live s ≡ x
           → Placed live s wanted (on_header x stopped (segment_children live s wanted))
-      go (Refused e) q = tt
-      go (Read e) q = in_segment_law e q (segment_children live s wanted e) (children_trusty live s wanted e)
+      go (Err e) q = tt
+      go (Ok e) q = in_segment_law e q (segment_children live s wanted e) (children_trusty live s wanted e)
 
   -- ---- where a part was found
 

@@ -4,7 +4,6 @@ use Rattle.std.specs.Prelude.{ℕ, ◌-◌, ◌/◌, ◌<◌, ◌≡◌, List, [
 use Rattle.refusals.specs.declared.refusal.Refusal.{Refusal}
 use Rattle.header.specs.Reads.{behind}
 use Rattle.header.specs.declared.cursor.Headed.{Headed}
-use Rattle.header.specs.declared.cursor.HeaderRead.TheVariants.{Read}
 use Rattle.sizes.specs.Unknown.{unknown}
 use Rattle.elements_rules.specs.Rows.{width}
 use Rattle.elements_rules.specs.Promise.{keeping}
@@ -13,25 +12,21 @@ use Rattle.walks_rules.specs.Step.{child_at}
 use Rattle.walks_rules.specs.Endings.{within, pass_over, end_of}
 use Rattle.walks_rules.specs.declared.step.Stretch.{Stretch}
 use Rattle.walks_rules.specs.declared.step.Stretch.TheVariants.{Sized, Endless}
-use Rattle.walks_rules.specs.declared.step.ChildRead.{ChildRead}
-use Rattle.walks_rules.specs.declared.step.ChildRead.TheVariants.{Child, End}
-use Rattle.walks_rules.specs.declared.pass.Passed.{Passed}
-use Rattle.walks_rules.specs.declared.pass.Passed.TheVariants.{At}
 use Rattle.seekhead_rules.specs.Seeks.{segment_id, seek_head_id}
 use Rattle.seekchain_rules.specs.Lookup.{found}
 use Rattle.seekchain_rules.specs.Theorems.{IsAt}
 use Rattle.seekchain_rules.specs.Faults.{HeadsCome}
 use Rattle.segments_rules.specs.Segment.{segment_of, stretch_of, overruns, lookup_of}
 use Rattle.search_rules.specs.Part.{parent_of, PartPromise}
-use Rattle.search_rules.specs.declared.part.Parent.TheVariants.{Id}
 use Rattle.search_rules.specs.declared.part.PartReply.TheVariants.{Refused}
+use Rattle.std.specs.Prelude.{Result, Option, Ok, Some, None}
 
 -- A walk from a place on, by a step to each element and a way past it, comes to a place: over elements that are passed
 -- over.
-pub data Walks (step : ℕ → ChildRead) (pass : Headed → Passed) (Over : Headed → Type 0) (from : ℕ) : ℕ → Type 0 where
+pub data Walks (step : ℕ → Result (Option Headed) Refusal) (pass : Headed → Result ℕ Refusal) (Over : Headed → Type 0) (from : ℕ) : ℕ → Type 0 where
   begun : Walks step pass Over from from
   passing :
-      (to next : ℕ) (e : Headed) → Walks step pass Over from to → step to ≡ Child e → Over e → pass e ≡ At next
+      (to next : ℕ) (e : Headed) → Walks step pass Over from to → step to ≡ Ok (Some e) → Over e → pass e ≡ Ok next
       → Walks step pass Over from next
 
 -- The same over a stretch of the recording.
@@ -56,7 +51,7 @@ InSegment live s part segment a =
 -- The way over what an element of unknown size holds, to its end.
 abbrev pub InUnknown : List ℕ → (end : ℕ) → Headed → ℕ → Type 0
 InUnknown s end e a =
-    Walks (child_at true s (Endless e.header.id end)) (λ c. At (within c)) (λ c. Unit) e.payload.at a
+    Walks (child_at true s (Endless e.header.id end)) (λ c. Ok (within c)) (λ c. Unit) e.payload.at a
 
 -- What a search comes to: the header of an element of the file, before the segment or where none is left; a child of
 -- the segment, whose size is known or, in live mode, is not; what an element of unknown size holds that is passed over,
@@ -65,33 +60,33 @@ InUnknown s end e a =
 pub data SearchComes (live : Bool) (s : List ℕ) (part numbers : ℕ) : ℕ → Errand → Type 0 where
   in_file : (a : ℕ) → ToSegment live s a → SearchComes live s part numbers a (to_step live)
   in_segment :
-      (segment : Headed) (a : ℕ) → segment_of live s ≡ Read segment → (live && unknown segment.header) ≡ false
+      (segment : Headed) (a : ℕ) → segment_of live s ≡ Ok segment → (live && unknown segment.header) ≡ false
       → InSegment live s part segment a → a < behind segment
       → SearchComes live s part numbers a (to_pass live (seek_head_id ∷ part ∷ []) (behind segment - a))
   in_endless :
-      (segment : Headed) (a : ℕ) → segment_of live s ≡ Read segment → (live && unknown segment.header) ≡ true
-      → InSegment live s part segment a → (child_at live s (stretch_of live s segment) a ≡ End → ⊥)
+      (segment : Headed) (a : ℕ) → segment_of live s ≡ Ok segment → (live && unknown segment.header) ≡ true
+      → InSegment live s part segment a → (child_at live s (stretch_of live s segment) a ≡ (Ok None) → ⊥)
       → SearchComes live s part numbers a (to_step live)
   in_file_unknown :
-      (at : ℕ) (e : Headed) (a : ℕ) → ToSegment live s at → child_at live s (Sized (length s)) at ≡ Child e
+      (at : ℕ) (e : Headed) (a : ℕ) → ToSegment live s at → child_at live s (Sized (length s)) at ≡ Ok (Some e)
       → (e.header.id ≡ segment_id → ⊥) → (live && unknown e.header) ≡ true → InUnknown s (length s) e a
-      → (child_at true s (Endless e.header.id (length s)) a ≡ End → ⊥)
+      → (child_at true s (Endless e.header.id (length s)) a ≡ (Ok None) → ⊥)
       → SearchComes live s part numbers a (to_step true)
   in_segment_unknown :
-      (segment : Headed) (at : ℕ) (e : Headed) (a : ℕ) → segment_of live s ≡ Read segment
-      → InSegment live s part segment at → child_at live s (stretch_of live s segment) at ≡ Child e
+      (segment : Headed) (at : ℕ) (e : Headed) (a : ℕ) → segment_of live s ≡ Ok segment
+      → InSegment live s part segment at → child_at live s (stretch_of live s segment) at ≡ Ok (Some e)
       → PassedOver live part segment e → (live && unknown e.header) ≡ true
       → InUnknown s (end_of (stretch_of live s segment)) e a
-      → (child_at true s (Endless e.header.id (end_of (stretch_of live s segment))) a ≡ End → ⊥)
+      → (child_at true s (Endless e.header.id (end_of (stretch_of live s segment))) a ≡ (Ok None) → ⊥)
       → SearchComes live s part numbers a (to_step true)
   from_heads :
-      (segment first : Headed) (a : ℕ) (x : Errand) → segment_of live s ≡ Read segment
+      (segment first : Headed) (a : ℕ) (x : Errand) → segment_of live s ≡ Ok segment
       → InSegment live s part segment first.place.at
-      → child_at live s (stretch_of live s segment) first.place.at ≡ Child first
+      → child_at live s (stretch_of live s segment) first.place.at ≡ Ok (Some first)
       → IsAt s seek_head_id first.place.at first → HeadsCome live s part segment.payload.at first a x
       → SearchComes live s part numbers a x
   in_part :
-      (parent : ℕ) (e : Headed) (heads : List ℕ) (a : ℕ) (x : Errand) → parent_of part ≡ Id parent
+      (parent : ℕ) (e : Headed) (heads : List ℕ) (a : ℕ) (x : Errand) → parent_of part ≡ Some parent
       → lookup_of live s part ≡ found e heads
       → Comes s (keeping live) (numbers / width) 0 parent e.payload.at e.header.size 0 a x
       → SearchComes live s part numbers a x

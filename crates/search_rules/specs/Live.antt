@@ -5,8 +5,8 @@ use Rattle.elements_rules.specs.Promise.{allowed}
 use Rattle.elements_rules.specs.Live.{AllKnown, NoneUnknown}
 use Rattle.search_rules.specs.Part.{parent_of, PartPromise}
 use Rattle.search_rules.specs.Faults.{SearchComes}
-use Rattle.search_rules.specs.declared.part.Parent.TheVariants.{Id}
 use Rattle.search_rules.specs.declared.part.PartReply.{PartReply}
+use Rattle.std.specs.Prelude.{Some}
 
 -- If no header that the search reads in old mode has an unknown size, live mode gives the equal reply and table. With
 -- 14 it reads none. The headers are those that a refusal may name (`SearchHonest`), sought addresses among them: a seek
@@ -14,7 +14,7 @@ use Rattle.search_rules.specs.declared.part.PartReply.{PartReply}
 abbrev pub EqualParts : Type 0
 EqualParts =
     (s : List ℕ) (part : ℕ) (t : List ℕ) (r r' : PartReply) (t' u' : List ℕ)
-    → (allowed s 0 (length t) ≡ true → (parent : ℕ) → parent_of part ≡ Id parent
+    → (allowed s 0 (length t) ≡ true → (parent : ℕ) → parent_of part ≡ Some parent
     → AllKnown s (SearchComes false s part (length t)))
     → PartPromise false s part t r t' → PartPromise true s part t r' u' → (r' ≡ r) × (u' ≡ t')
 

@@ -12,19 +12,18 @@ use Rattle.seekchain_rules.specs.Answers.{on_outcome}
 use Rattle.seekchain_rules.specs.Lookup.{Lookup}
 use Rattle.seekchain_rules.specs.Lookup.{found as found_at, absent as absent_at, stopped as stopped_at}
 use Rattle.segments_rules.specs.Segment.{lookup_of}
-use Rattle.search_rules.specs.declared.part.Parent.{Parent}
-use Rattle.search_rules.specs.declared.part.Parent.TheVariants.{Id, NoPart}
 use Rattle.search_rules.specs.declared.part.PartReply.{PartReply}
 use Rattle.search_rules.specs.declared.part.PartReply.TheVariants.{Found, Absent, Refused}
+use Rattle.std.specs.Prelude.{Option, Some, None}
 
 -- The parts, each with the id that its children are read under (document 01, Kinds): Tracks, Attachments, Chapters and
 -- Tags.
-unfoldable pub parent_of : ℕ → Parent
+unfoldable pub parent_of : ℕ → Option ℕ
 parent_of part =
-    cond (eqb part 0x1654AE6B) (Id 0xAE)
-    (cond (eqb part 0x1941A469) (Id 0x61A7)
-    (cond (eqb part 0x1043A770) (Id 0x45B9)
-    (cond (eqb part 0x1254C367) (Id 0x7373) NoPart)))
+    cond (eqb part 0x1654AE6B) (Some 0xAE)
+    (cond (eqb part 0x1941A469) (Some 0x61A7)
+    (cond (eqb part 0x1043A770) (Some 0x45B9)
+    (cond (eqb part 0x1254C367) (Some 0x7373) None)))
 
 -- What a search comes to: a part with its payload's address and size, the addresses of the heads that were read, and
 -- its elements; or an absent part, with the heads; or a refusal.
@@ -33,9 +32,9 @@ pub data Search : Type 0 where
   absent : (heads : List ℕ) → Search
   refused : Refusal → Search
 
-abbrev pub on_parent : Parent → Search → (ℕ → Search) → Search
-on_parent (Id parent) none some = some parent
-on_parent NoPart none some = none
+abbrev pub on_parent : Option ℕ → Search → (ℕ → Search) → Search
+on_parent (Some parent) none some = some parent
+on_parent None none some = none
 
 abbrev pub on_lookup : Lookup → (Headed → List ℕ → Search) → Search
 on_lookup (found_at e heads) next = next e heads

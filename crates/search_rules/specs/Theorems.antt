@@ -1,18 +1,16 @@
 -- What is proved of the definitions beside the contracts: the statements of the theorems.
 use Rattle.std.specs.Prelude.{ℕ, ◌≡◌, List, [], ◌∷◌, Bool, length}
 use Rattle.header.specs.declared.cursor.Headed.{Headed}
-use Rattle.header.specs.declared.cursor.HeaderRead.TheVariants.{Read}
 use Rattle.refusals.specs.Theorems.{Listed}
 use Rattle.refusals.specs.declared.refusal.Refusal.{Refusal}
 use Rattle.elements_rules.specs.Promise.{zeros, ReadPromise}
-use Rattle.elements_rules.specs.declared.reply.ReadReply.TheVariants.{Rows}
 use Rattle.seekhead_rules.specs.Seeks.{seek_head_id}
 use Rattle.seekchain_rules.specs.Theorems.{IsAt, GoodHeads, Named}
 use Rattle.segments_rules.specs.Segment.{segment_of}
 use Rattle.search_rules.specs.Part.{parent_of, search_of, heads_of, PartPromise}
-use Rattle.search_rules.specs.declared.part.Parent.TheVariants.{Id}
 use Rattle.search_rules.specs.declared.part.PartReply.{PartReply}
 use Rattle.search_rules.specs.declared.part.PartReply.TheVariants.{Found, Absent, Refused}
+use Rattle.std.specs.Prelude.{Ok, Some}
 
 -- Any two replies and tables that the promise permits to one question are equal (document 01, Strength of the
 -- promises). The numbers that stood in the lent table do not matter, only how many there are.
@@ -55,7 +53,7 @@ pub record FoundBy (live : Bool) (s : List ℕ) (wanted at size : ℕ) (heads : 
   pub payload : part.payload.at ≡ at
   pub sized : part.header.size ≡ size
   pub segment : Headed
-  pub is_segment : segment_of live s ≡ Read segment
+  pub is_segment : segment_of live s ≡ Ok segment
   pub way : FoundWay live s wanted segment.payload.at part heads
 
 abbrev pub FoundIsPart : Type 0
@@ -69,8 +67,8 @@ FoundIsPart =
 abbrev pub FoundIsRead : Type 0
 FoundIsRead =
     (live : Bool) (s : List ℕ) (part parent : ℕ) (t : List ℕ) (at size rows heads : ℕ) (t' : List ℕ)
-    → PartPromise live s part t (Found at size rows heads) t' → parent_of part ≡ Id parent
-    → ReadPromise live s at size parent t (Rows rows) t'
+    → PartPromise live s part t (Found at size rows heads) t' → parent_of part ≡ Some parent
+    → ReadPromise live s at size parent t (Ok rows) t'
 
 -- The table is written whatever happens: zeros for an absent part, and after a refusal.
 abbrev pub NotUntouched : Type 0

@@ -4,4 +4,4 @@
 
 mod part;
 
-pub use part::{Parent, PartReply};
+pub use part::PartReply;

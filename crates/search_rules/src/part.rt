@@ -16,10 +16,3 @@ pub enum PartReply {
     },
     Refused(Refusal),
 }
-
-// The id that a part's children are read under.
-#[derive(Clone, Copy)]
-pub enum Parent {
-    Id(u32),
-    NoPart,
-}

@@ -5,14 +5,14 @@ ghost use Rattle.kinds.specs.Kinds.{member};
 ghost use Rattle.seekchain_rules.specs.Heads.{last_address, last_head, sought as sought_at, next_head, linked_heads};
 ghost use Rattle.seekchain_rules.specs.Contract.{heads_told};
 
-use header::{Cursor, Headed, HeaderRead};
+use header::{Cursor, Headed};
 use kinds::ids;
 use refusals::{Cause, Refusal};
-use seekchain_rules::{HeadsRead, NextHead};
+use seekchain_rules::HeadsRead;
 use seekhead::head_body;
-use seekhead_rules::{HeadRead, Latest, Positions, Wanted};
+use seekhead_rules::{Positions, Wanted};
 use walks::child_at;
-use walks_rules::{ChildRead, Stretch};
+use walks_rules::Stretch;
 
 // The most seek heads that one search reads, the first included.
 const MOST_HEADS: usize = 64;
@@ -43,25 +43,25 @@ fn contains(seen: &[u64], n: usize, address: u64) -> bool
 }
 
 // The element that a sought address holds: header, 17, 9 where its id is another.
-pub fn sought(recording: &[u8], live: bool, address: u64, id: u32) -> HeaderRead
+pub fn sought(recording: &[u8], live: bool, address: u64, id: u32) -> Result<Headed, Refusal>
     ensures { result ≡ sought_at live recording.now address id }
 {
     let place = Cursor { at: address };
     let stretch = Stretch::Sized(recording.len() as u64);
     match child_at(recording, live, place, stretch) {
-        ChildRead::Refused(refusal) => HeaderRead::Refused(refusal),
-        ChildRead::End => HeaderRead::Refused(Refusal {
+        Err(refusal) => Err(refusal),
+        Ok(None) => Err(Refusal {
             address,
             cause: Cause::PastEnd,
         }),
-        ChildRead::Child(element) => {
+        Ok(Some(element)) => {
             if element.header.id != id {
-                return HeaderRead::Refused(Refusal {
+                return Err(Refusal {
                     address,
                     cause: Cause::StaleEntry,
                 });
             }
-            HeaderRead::Read(element)
+            Ok(element)
         }
     }
 }
@@ -75,37 +75,37 @@ fn next_head(
     seen: &[u64],
     read: usize,
     last: u64,
-    link: Latest,
-) -> NextHead
+    link: Option<u64>,
+) -> Result<Option<Headed>, Refusal>
     requires read_in_bounds { read ≤ length seen.now }
     requires last_value { last ≡ last_head (take read seen.now) }
     ensures { result ≡ next_head live recording.now start (take read seen.now) link }
 {
     match link {
-        Latest::Nowhere => NextHead::Last,
-        Latest::At(position) => {
+        None => Ok(None),
+        Some(position) => {
             if is_too_far(start, position) {
-                return NextHead::Refused(Refusal {
+                return Err(Refusal {
                     address: last,
                     cause: Cause::InvalidSeekHead(ids::SEEKHEAD),
                 });
             }
             let address = start + position;
             if contains(seen, read, address) {
-                return NextHead::Refused(Refusal {
+                return Err(Refusal {
                     address,
                     cause: Cause::HeadAgain,
                 });
             }
             if read >= MOST_HEADS {
-                return NextHead::Refused(Refusal {
+                return Err(Refusal {
                     address,
                     cause: Cause::TooManyHeads,
                 });
             }
             match sought(recording, live, address, ids::SEEKHEAD) {
-                HeaderRead::Refused(refusal) => NextHead::Refused(refusal),
-                HeaderRead::Read(head) => NextHead::Next(head),
+                Err(refusal) => Err(refusal),
+                Ok(head) => Ok(Some(head)),
             }
         }
     }
@@ -127,35 +127,35 @@ pub fn linked_heads(
     let mut n: usize = 0;
     let mut head = first;
     let mut parts = Positions {
-        first: Latest::Nowhere,
-        second: Latest::Nowhere,
-        third: Latest::Nowhere,
-        fourth: Latest::Nowhere,
-        fifth: Latest::Nowhere,
+        first: None,
+        second: None,
+        third: None,
+        fourth: None,
+        fifth: None,
     };
     loop {
         match head_body(recording, live, wanted, parts, head) {
-            HeadRead::Refused(refusal) => {
+            Err(refusal) => {
                 return HeadsRead::Refused(refusal);
             }
-            HeadRead::Read(found) => {
+            Ok(found) => {
                 let last = head.place.at;
                 seen[n] = last;
                 let read = n + 1;
                 parts = found.parts;
                 let link = found.head;
                 match next_head(recording, live, start, &seen, read, last, link) {
-                    NextHead::Refused(refusal) => {
+                    Err(refusal) => {
                         return HeadsRead::Refused(refusal);
                     }
-                    NextHead::Last => {
+                    Ok(None) => {
                         return HeadsRead::Read {
                             parts,
                             heads: read as u64,
                             last,
                         };
                     }
-                    NextHead::Next(next) => {
+                    Ok(Some(next)) => {
                         n = read;
                         head = next;
                     }

@@ -5,10 +5,10 @@ ghost use Rattle.seekchain_rules.specs.Lookup.{by_heads};
 ghost use Rattle.seekchain_rules.specs.Contract.{place_told, PartMet};
 
 use crate::heads::{is_too_far, linked_heads, sought};
-use header::{Headed, HeaderRead};
+use header::Headed;
 use refusals::{Cause, Refusal};
-use seekchain_rules::{HeadsRead, PartPlace};
-use seekhead_rules::{Latest, Wanted};
+use seekchain_rules::HeadsRead;
+use seekhead_rules::Wanted;
 
 // The part by the latest position of its id, where so many heads were read, the last of them at `last`: absent, or 8,
 // header, 17, 9.
@@ -19,30 +19,36 @@ pub fn part_at(
     start: u64,
     heads: u64,
     last: u64,
-    link: Latest,
-) -> PartPlace
+    link: Option<u64>,
+) -> Result<(Option<Headed>, u64), Refusal>
     ensures { PartMet live recording.now wanted start heads last link result }
 {
     match link {
-        Latest::Nowhere => PartPlace::Absent { heads },
-        Latest::At(position) => {
+        None => Ok((None, heads)),
+        Some(position) => {
             if is_too_far(start, position) {
-                return PartPlace::Refused(Refusal {
+                return Err(Refusal {
                     address: last,
                     cause: Cause::InvalidSeekHead(wanted),
                 });
             }
             let address = start + position;
             match sought(recording, live, address, wanted) {
-                HeaderRead::Refused(refusal) => PartPlace::Refused(refusal),
-                HeaderRead::Read(part) => PartPlace::Found { part, heads },
+                Err(refusal) => Err(refusal),
+                Ok(part) => Ok((Some(part), heads)),
             }
         }
     }
 }
 
 // The wanted part by the heads from the first one on, with positions counted from the segment's start.
-pub fn by_heads(recording: &[u8], live: bool, wanted: u32, start: u64, first: Headed) -> PartPlace
+pub fn by_heads(
+    recording: &[u8],
+    live: bool,
+    wanted: u32,
+    start: u64,
+    first: Headed,
+) -> Result<(Option<Headed>, u64), Refusal>
     requires { Readable recording.now first }
     ensures { result ≡ place_told (by_heads live recording.now wanted start first) }
 {
@@ -54,7 +60,7 @@ pub fn by_heads(recording: &[u8], live: bool, wanted: u32, start: u64, first: He
         fifth: 0,
     };
     match linked_heads(recording, live, only, start, first) {
-        HeadsRead::Refused(refusal) => PartPlace::Refused(refusal),
+        HeadsRead::Refused(refusal) => Err(refusal),
         HeadsRead::Read { parts, heads, last } => {
             let link = parts.first;
             part_at(recording, live, wanted, start, heads, last, link)

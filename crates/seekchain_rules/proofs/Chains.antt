@@ -9,7 +9,6 @@ use lib.Seq.{length-take-le}
 use Rattle.refusals.specs.declared.refusal.Refusal.{Refusal}
 use Rattle.header.specs.Reads.{header_at}
 use Rattle.header.specs.declared.cursor.Headed.{Headed}
-use Rattle.header.specs.declared.cursor.HeaderRead.TheVariants.{Read}
 use Rattle.elements_rules.specs.Forest.{Forest}
 use Rattle.elements_rules.specs.Reading.{done}
 use Rattle.seekhead_rules.specs.Seeks.{seek_head_id, head_of, entries}
@@ -19,7 +18,6 @@ use Rattle.seekhead_rules.specs.declared.seek.Seek.{Seek}
 use Rattle.seekhead_rules.specs.declared.head.Wanted.{Wanted}
 use Rattle.seekhead_rules.specs.declared.head.Positions.{Positions}
 use Rattle.seekhead_rules.specs.declared.head.Seektable.{Seektable}
-use Rattle.seekhead_rules.specs.declared.head.HeadRead.TheVariants.{Read as HeadIs, Refused as HeadRefused}
 use Rattle.seekhead_rules.proofs.PositionLaws.{positions_append, positions_none}
 use Rattle.seekhead_rules.proofs.Levels.{told_read, told_stopped}
 use Rattle.seekhead_rules.proofs.Members.{children, children_law}
@@ -28,10 +26,10 @@ use Rattle.seekchain_rules.specs.Heads.{last_head, chain, linked_heads}
 use Rattle.seekchain_rules.specs.Contract.{heads_told}
 use Rattle.seekchain_rules.specs.Answers.{on_outcome}
 use Rattle.seekchain_rules.specs.Theorems.{heads_from, ChainUnfolds}
-use Rattle.seekchain_rules.specs.declared.heads.NextHead.TheVariants.{Next, Last, Refused}
 use Rattle.seekchain_rules.specs.declared.heads.HeadsRead.TheVariants.{Read as HeadsAre, Refused as HeadsRefused}
 use Rattle.seekchain_rules.proofs.Seen.{noted_address, last_noted}
 use Rattle.seekchain_rules.proofs.Sought.{next_is}
+use Rattle.std.proofs.Common.{Ok, Err, Some, None}
 
 unfolds : (live : Bool) (s : List ℕ) (start : ℕ) (heads : Heads) (head : Headed) → length heads.addresses < most_heads
     → heads_from live s start heads head
@@ -63,11 +61,11 @@ module _ (live : Bool) (s : List ℕ) (wanted : Wanted) (start : ℕ) (first : H
     pub es : List Seek
     pub few : n < 64
     pub long : length seen ≡ 64
-    pub there : header_at s head.place.at ≡ Read head
+    pub there : header_at s head.place.at ≡ Ok head
     pub rest : all_heads ≡ chain live s start (64 - n) (read_so_far seen n es) head
     pub are : parts ≡ positions wanted es
 
-  pub chaining_holds : (seen : List ℕ) → length seen ≡ 64 → header_at s first.place.at ≡ Read first
+  pub chaining_holds : (seen : List ℕ) → length seen ≡ 64 → header_at s first.place.at ≡ Ok first
       → Chaining seen 0 first no_positions
   chaining_holds seen l t = record {
     es = [];
@@ -82,7 +80,7 @@ module _ (live : Bool) (s : List ℕ) (wanted : Wanted) (start : ℕ) (first : H
     more : 64 - n ≡ suc (63 - n)
     more = omega (arith, g.few)
 
-    pub chaining_lost : (e : Refusal) → HeadRefused e ≡ head_told live s wanted parts head
+    pub chaining_lost : (e : Refusal) → Err e ≡ head_told live s wanted parts head
         → HeadsRefused e ≡ heads_told wanted all_heads
     unfolding chain
     chaining_lost e q =
@@ -100,7 +98,7 @@ module _ (live : Bool) (s : List ℕ) (wanted : Wanted) (start : ℕ) (first : H
     pub chaining_last : head.place.at ≡ last_head (take (n + 1) seen_now)
     chaining_last = last_noted seen n head.place.at (omega (arith, g.few, g.long))
 
-    module _ (found : Seektable) (q : HeadIs found ≡ head_told live s wanted parts head) where
+    module _ (found : Seektable) (q : Ok found ≡ head_told live s wanted parts head) where
       -- The head was read, and its own entries are known.
       record Followed : Type 0 where
         own : List Seek
@@ -132,11 +130,11 @@ module _ (live : Bool) (s : List ℕ) (wanted : Wanted) (start : ℕ) (first : H
           let (f, k, e) = told_read live s (children s wanted) (children_law s wanted) _ found (head_of live s head) q in
           follow f k e
 
-      pub chaining_stops : (e : Refusal) → Refused e ≡ next_head live s start (take (n + 1) seen_now) found.head
+      pub chaining_stops : (e : Refusal) → Err e ≡ next_head live s start (take (n + 1) seen_now) found.head
           → HeadsRefused e ≡ heads_told wanted all_heads
       chaining_stops e k = rw (followed.is, ← k) refl
 
-      pub chaining_ends : Last ≡ next_head live s start (take (n + 1) seen_now) found.head
+      pub chaining_ends : (Ok None) ≡ next_head live s start (take (n + 1) seen_now) found.head
           → HeadsAre found.parts (n + 1) head.place.at ≡ heads_told wanted all_heads
       chaining_ends k =
           let l = length-take-le (n + 1) seen_now (omega (arith, seen_long, g.few)) in
@@ -144,7 +142,7 @@ module _ (live : Bool) (s : List ℕ) (wanted : Wanted) (start : ℕ) (first : H
           ∙ rw (followed.is, ← k, l)
           (ap (λ (x : ℕ). HeadsAre (positions wanted (g.es ++ followed.own)) (n + 1) x) chaining_last)
 
-      pub chaining_on : (next : Headed) → Next next ≡ next_head live s start (take (n + 1) seen_now) found.head
+      pub chaining_on : (next : Headed) → Ok (Some next) ≡ next_head live s start (take (n + 1) seen_now) found.head
           → Chaining seen_now (n + 1) next found.parts
       chaining_on next k =
           let w = followed in

@@ -18,8 +18,6 @@ use Rattle.header.specs.Header.{refused as refused_header}
 use Rattle.header.specs.Reads.{header_at}
 use Rattle.header.specs.declared.cursor.Headed.{Headed}
 use Rattle.header.specs.declared.cursor.Header.{Header}
-use Rattle.header.specs.declared.cursor.HeaderRead.{HeaderRead}
-use Rattle.header.specs.declared.cursor.HeaderRead.TheVariants.{Read, Refused as HeaderRefused}
 use Rattle.header.proofs.Inside.{header_there, header_refused}
 use Rattle.sizes.specs.Unknown.{unknown, endless}
 use Rattle.kinds.specs.Kinds.{member}
@@ -33,8 +31,6 @@ use Rattle.elements_rules.proofs.Faults.{header_fault, body_found}
 use Rattle.seekhead_rules.specs.Seeks.{segment_id, seek_head_id, without_rows, head_of, entries}
 use Rattle.seekhead_rules.specs.Table.{latest}
 use Rattle.seekhead_rules.specs.declared.seek.Seek.{Seek}
-use Rattle.seekhead_rules.specs.declared.head.Latest.{Latest}
-use Rattle.seekhead_rules.specs.declared.head.Latest.TheVariants.{Nowhere, At}
 use Rattle.walks_rules.specs.Answers.{on_header}
 use Rattle.seekchain_rules.specs.Answers.{on_outcome}
 use Rattle.walks_rules.specs.Step.{is_past, ended_by, barred_step, child_at, on_child}
@@ -46,12 +42,9 @@ use Rattle.seekchain_rules.specs.Heads.{too_far, last_head, sought, next_head, o
 use Rattle.seekchain_rules.specs.Lookup.{found, stopped, on_chain, part_at, by_heads}
 use Rattle.seekchain_rules.specs.Faults.{Followed, one, more, ReadNext, initial, linked, HeadsCome, in_head}
 use Rattle.seekchain_rules.specs.Faults.{by_link, to_head, by_entry, to_part, HeadsHonest}
-use Rattle.seekchain_rules.specs.declared.heads.NextHead.{NextHead}
-use Rattle.seekchain_rules.specs.declared.heads.NextHead.TheVariants.{Next, Last, Refused}
-use Rattle.walks_rules.specs.declared.step.ChildRead.{ChildRead}
-use Rattle.walks_rules.specs.declared.step.ChildRead.TheVariants.{Child, End, Refused as ChildRefused}
 use Rattle.seekchain_rules.proofs.Seen.{last_joined}
 use Rattle.seekchain_rules.proofs.Sought.{next_is}
+use Rattle.std.proofs.Common.{Result, Option, Ok, Err, Some, None}
 
 -- ---- one step
 
@@ -66,20 +59,20 @@ past_end_law s at l = rw (drop_of_length-le s l) nothing
 -- A step that is refused: at its place, for what is there, on any errand that bars what the step bars.
 pub step_fault : (live : Bool) (s : List ℕ) (stretch : Stretch) (at : ℕ) (x : Errand) → reads_header x ≡ true
     → ((h : Header) → barred x h ≡ (live && (unknown h && not (endless h.id))))
-    → (e : Refusal) → child_at live s stretch at ≡ ChildRefused e
+    → (e : Refusal) → child_at live s stretch at ≡ Err e
     → (is_past s stretch at ≡ false) × Fault s at x e.cause × (because e.cause at ≡ e)
 unfolding barred_step
 step_fault live s stretch at x reads bars e q = by (child_at live s stretch at) q (goes live s stretch at)
   where
-    by : (y : ChildRead) → y ≡ ChildRefused e → Goes live s stretch at y
+    by : (y : Result (Option Headed) Refusal) → y ≡ Err e → Goes live s stretch at y
         → (is_past s stretch at ≡ false) × Fault s at x e.cause × (because e.cause at ≡ e)
-    by (Child d) w g = let z : ◌≡◌ {A = ℕ} 0 1 = cc in absurd (let y : ⊥ = omega arith in y)
-    by End w g = let z : ◌≡◌ {A = ℕ} 0 1 = cc in absurd (let y : ⊥ = omega arith in y)
-    by (ChildRefused _) w (unread r k h) =
+    by (Ok (Some d)) w g = let z : ◌≡◌ {A = ℕ} 0 1 = cc in absurd (let y : ⊥ = omega arith in y)
+    by (Ok None) w g = let z : ◌≡◌ {A = ℕ} 0 1 = cc in absurd (let y : ⊥ = omega arith in y)
+    by (Err _) w (unread r k h) =
         let i : r ≡ e = cc in
-        let (n, c) = header_refused s at e (h ∙ ap HeaderRefused i) in
+        let (n, c) = header_refused s at e (h ∙ ap Err i) in
         (k, header_fault s at x reads e.cause n, c)
-    by (ChildRefused _) w (unsized d k h o b) =
+    by (Err _) w (unsized d k h o b) =
         let t = header_there s at d h in
         let i : unknown_size d.place.at ≡ e = cc in
         let j : unknown_size at ≡ e = ap unknown_size (sym t.begins) ∙ i in
@@ -93,7 +86,7 @@ step_fault live s stretch at x reads bars e q = by (child_at live s stretch at) 
 
 -- A sought address that is refused: at the address, for what is there.
 sought_fault : (live : Bool) (s : List ℕ) (address id : ℕ) (Reached : ℕ → Errand → Type 0)
-    → Reached address (to_find live id) → (e : Refusal) → sought live s address id ≡ HeaderRefused e
+    → Reached address (to_find live id) → (e : Refusal) → sought live s address id ≡ Err e
     → FaultThere s Reached e
 unfolding sought is_past ended_by barred_step
 sought_fault live s address id Reached r e q = by (child_at live s (Sized (length s)) address) refl q
@@ -102,7 +95,7 @@ sought_fault live s address id Reached r e q = by (child_at live s (Sized (lengt
     here c f i = subst (FaultThere s Reached) i (record { errand = to_find live id; reached = r; fault = f })
 
     by_id : (x : Headed) → Stepped live s (Sized (length s)) address x → (b : Bool) → eqb x.header.id id ≡ b
-        → cond b (Read x) (HeaderRefused (stale_entry address)) ≡ HeaderRefused e → FaultThere s Reached e
+        → cond b (Ok x) (Err (stale_entry address)) ≡ Err e → FaultThere s Reached e
     by_id x t true k w = let z : ◌≡◌ {A = ℕ} 0 1 = cc in absurd (let y : ⊥ = omega arith in y)
     by_id x t false k w =
         let i : stale_entry address ≡ e = cc in
@@ -110,30 +103,30 @@ sought_fault live s address id Reached r e q = by (child_at live s (Sized (lengt
         (other_found live id
         (x.header, (header_there s address x t.here).head, t.allowed, eqb-false x.header.id id k)) i
 
-    at_end : child_at live s (Sized (length s)) address ≡ End → length s ≤ address
+    at_end : child_at live s (Sized (length s)) address ≡ (Ok None) → length s ≤ address
     at_end k = leb-true (length s) address (by_way (child_at live s (Sized (length s)) address) k
         (goes live s _ address))
       where
-        by_way : (y : ChildRead) → y ≡ End → Goes live s (Sized (length s)) address y → leb (length s) address ≡ true
-        by_way End w (past p) = p
-        by_way End w (ended d p h o) = let z : ◌≡◌ {A = ℕ} 0 1 = cc in absurd (let y : ⊥ = omega arith in y)
-        by_way (Child d) w g = let z : ◌≡◌ {A = ℕ} 0 1 = cc in absurd (let y : ⊥ = omega arith in y)
-        by_way (ChildRefused d) w g = let z : ◌≡◌ {A = ℕ} 0 1 = cc in absurd (let y : ⊥ = omega arith in y)
+        by_way : (y : Result (Option Headed) Refusal) → y ≡ (Ok None) → Goes live s (Sized (length s)) address y → leb (length s) address ≡ true
+        by_way (Ok None) w (past p) = p
+        by_way (Ok None) w (ended d p h o) = let z : ◌≡◌ {A = ℕ} 0 1 = cc in absurd (let y : ⊥ = omega arith in y)
+        by_way (Ok (Some d)) w g = let z : ◌≡◌ {A = ℕ} 0 1 = cc in absurd (let y : ⊥ = omega arith in y)
+        by_way (Err d) w g = let z : ◌≡◌ {A = ℕ} 0 1 = cc in absurd (let y : ⊥ = omega arith in y)
 
-    by : (x : ChildRead) → child_at live s (Sized (length s)) address ≡ x
-        → on_child x (HeaderRefused (past_end address)) HeaderRefused (λ y.
-        cond (eqb y.header.id id) (Read y) (HeaderRefused (stale_entry address)))
-        ≡ HeaderRefused e
+    by : (x : Result (Option Headed) Refusal) → child_at live s (Sized (length s)) address ≡ x
+        → on_child x (Err (past_end address)) Err (λ y.
+        cond (eqb y.header.id id) (Ok y) (Err (stale_entry address)))
+        ≡ Err e
         → FaultThere s Reached e
-    by (Child x) k w =
+    by (Ok (Some x)) k w =
         by_id x (stepped_on live s (Sized (length s)) address x k) (eqb x.header.id id) refl w
-    by End k w =
+    by (Ok None) k w =
         let i : past_end address ≡ e = cc in
         here C.PastEnd (header_fault s address (to_find live id) refl C.PastEnd (past_end_law s address (at_end k))) i
-    by (ChildRefused r') k w =
+    by (Err r') k w =
         let i : r' ≡ e = cc in
         let (l, f, j) = step_fault live s (Sized (length s)) address (to_find live id) refl (λ h. refl) e
-        (k ∙ ap ChildRefused i) in
+        (k ∙ ap Err i) in
         here e.cause f j
 
 -- A position that is too far.
@@ -172,7 +165,7 @@ module _ (live : Bool) (s : List ℕ) (wanted start : ℕ) (first : Headed) wher
   next_fault : (before : List ℕ) (last : ℕ) (es own : List Seek) (e : Refusal)
       → Followed live s start first (record { addresses = before ++ (last ∷ []); entries = es }) own
       → length before < most_heads
-      → next_head live s start (before ++ (last ∷ [])) (latest seek_head_id own) ≡ Refused e → Here e
+      → next_head live s start (before ++ (last ∷ [])) (latest seek_head_id own) ≡ Err e → Here e
   unfolding next_head
   next_fault before last es own e p l q = by_link_law (latest seek_head_id own) refl q
     where
@@ -185,30 +178,30 @@ module _ (live : Bool) (s : List ℕ) (wanted start : ℕ) (first : Headed) wher
       entry : (position : ℕ) → Errand
       entry position = to_follow start position seen
 
-      here : (position : ℕ) (c : Cause) (at : ℕ) → latest seek_head_id own ≡ At position
+      here : (position : ℕ) (c : Cause) (at : ℕ) → latest seek_head_id own ≡ Some position
           → Fault s at (entry position) c → because c at ≡ e → Here e
       here position c at k f i =
           subst Here i (record { errand = entry position; reached = by_link heads own position at p k; fault = f })
 
-      by_sought : (position : ℕ) → latest seek_head_id own ≡ At position → too_far start position ≡ false
+      by_sought : (position : ℕ) → latest seek_head_id own ≡ Some position → too_far start position ≡ false
           → member (start + position) seen ≡ false → leb most_heads (length seen) ≡ false
-          → (x : HeaderRead) → sought live s (start + position) seek_head_id ≡ x → on_header x Refused Next ≡ Refused e
+          → (x : Result Headed Refusal) → sought live s (start + position) seek_head_id ≡ x → on_header x Err (λ x. Ok (Some x)) ≡ Err e
           → Here e
-      by_sought position k f m n (Read x) w r =
+      by_sought position k f m n (Ok x) w r =
           let z : ◌≡◌ {A = ℕ} 0 1 = cc in absurd (let y : ⊥ = omega arith in y)
-      by_sought position k f m n (HeaderRefused e') w r =
+      by_sought position k f m n (Err e') w r =
           let i : e' ≡ e = cc in
           sought_fault live s (start + position) seek_head_id (HeadsCome live s wanted start first)
-          (to_head heads own position p k f m n) e (w ∙ ap HeaderRefused i)
+          (to_head heads own position p k f m n) e (w ∙ ap Err i)
 
-      by_tests : (position : ℕ) → latest seek_head_id own ≡ At position
+      by_tests : (position : ℕ) → latest seek_head_id own ≡ Some position
           → (b : Bool) → too_far start position ≡ b → (c : Bool) → member (start + position) seen ≡ c
           → (d : Bool) → leb most_heads (length seen) ≡ d
-          → cond b (Refused (invalid_seek_head seek_head_id (last_head seen)))
-          (cond c (Refused (head_again (start + position)))
-          (cond d (Refused (too_many_heads (start + position)))
-          (on_header (sought live s (start + position) seek_head_id) Refused Next)))
-          ≡ Refused e
+          → cond b (Err (invalid_seek_head seek_head_id (last_head seen)))
+          (cond c (Err (head_again (start + position)))
+          (cond d (Err (too_many_heads (start + position)))
+          (on_header (sought live s (start + position) seek_head_id) Err (λ x. Ok (Some x)))))
+          ≡ Err e
           → Here e
       by_tests position k true f c m d n r =
           let i : invalid_seek_head seek_head_id (last_head seen) ≡ e = cc in
@@ -228,9 +221,9 @@ module _ (live : Bool) (s : List ℕ) (wanted start : ℕ) (first : Headed) wher
       by_tests position k false f false m false n r =
           by_sought position k f m n (sought live s (start + position) seek_head_id) refl r
 
-      by_link_law : (link : Latest) → latest seek_head_id own ≡ link → next_head live s start seen link ≡ Refused e → Here e
-      by_link_law Nowhere k r = let z : ◌≡◌ {A = ℕ} 0 1 = cc in absurd (let y : ⊥ = omega arith in y)
-      by_link_law (At position) k r =
+      by_link_law : (link : Option ℕ) → latest seek_head_id own ≡ link → next_head live s start seen link ≡ Err e → Here e
+      by_link_law None k r = let z : ◌≡◌ {A = ℕ} 0 1 = cc in absurd (let y : ⊥ = omega arith in y)
+      by_link_law (Some position) k r =
           by_tests position k (too_far start position) refl (member (start + position) seen) refl
           (leb most_heads (length seen)) refl r
 
@@ -243,30 +236,30 @@ module _ (live : Bool) (s : List ℕ) (wanted start : ℕ) (first : Headed) wher
   pub record Ends (all : Heads) : Type 0 where
     pub own : List Seek
     pub followed : Followed live s start first all own
-    pub none : latest seek_head_id own ≡ Nowhere
+    pub none : latest seek_head_id own ≡ None
     pub before : List ℕ
     pub last : ℕ
     pub joined : all.addresses ≡ before ++ (last ∷ [])
 
   -- No head follows where no entry names one.
-  last_none : (seen : List ℕ) (link : Latest) → next_head live s start seen link ≡ Last → link ≡ Nowhere
+  last_none : (seen : List ℕ) (link : Option ℕ) → next_head live s start seen link ≡ (Ok None) → link ≡ None
   unfolding next_head
-  last_none seen Nowhere q = refl
-  last_none seen (At p) q =
+  last_none seen None q = refl
+  last_none seen (Some p) q =
       by (too_far start p) (member (start + p) seen) (leb most_heads (length seen))
       (sought live s (start + p) seek_head_id) q
     where
-      by : (a b c : Bool) (x : HeaderRead)
-          → cond a (Refused (invalid_seek_head seek_head_id (last_head seen)))
-          (cond b (Refused (head_again (start + p)))
-          (cond c (Refused (too_many_heads (start + p))) (on_header x Refused Next)))
-          ≡ Last
-          → At p ≡ Nowhere
+      by : (a b c : Bool) (x : Result Headed Refusal)
+          → cond a (Err (invalid_seek_head seek_head_id (last_head seen)))
+          (cond b (Err (head_again (start + p)))
+          (cond c (Err (too_many_heads (start + p))) (on_header x Err (λ x. Ok (Some x)))))
+          ≡ (Ok None)
+          → Some p ≡ None
       by true b c x r = let z : ◌≡◌ {A = ℕ} 0 1 = cc in absurd (let y : ⊥ = omega arith in y)
       by false true c x r = let z : ◌≡◌ {A = ℕ} 0 1 = cc in absurd (let y : ⊥ = omega arith in y)
       by false false true x r = let z : ◌≡◌ {A = ℕ} 0 1 = cc in absurd (let y : ⊥ = omega arith in y)
-      by false false false (Read h) r = let z : ◌≡◌ {A = ℕ} 0 1 = cc in absurd (let y : ⊥ = omega arith in y)
-      by false false false (HeaderRefused e) r = let z : ◌≡◌ {A = ℕ} 0 1 = cc in absurd (let y : ⊥ = omega arith in y)
+      by false false false (Ok h) r = let z : ◌≡◌ {A = ℕ} 0 1 = cc in absurd (let y : ⊥ = omega arith in y)
+      by false false false (Err e) r = let z : ◌≡◌ {A = ℕ} 0 1 = cc in absurd (let y : ⊥ = omega arith in y)
 
   -- What the chain comes to.
   abbrev pub Came : Chain → Type 0
@@ -287,15 +280,15 @@ module _ (live : Bool) (s : List ℕ) (wanted start : ℕ) (first : Headed) wher
       own : Forest → List Seek
       own f = entries s head.payload.at f
 
-      by_next : (f : Forest) → head_of live s head ≡ done f → Onward → (x : NextHead)
+      by_next : (f : Forest) → head_of live s head ≡ done f → Onward → (x : Result (Option Headed) Refusal)
           → next_head live s start (heads.addresses ++ (head.place.at ∷ [])) (latest seek_head_id (own f)) ≡ x
           → Came (on_next x (chained (with_head heads head (own f))) broken
           (chain live s start left (with_head heads head (own f))))
-      by_next f k on (Next next) w =
+      by_next f k on (Ok (Some next)) w =
           let all = with_head heads head (own f) in
           let m = length-append heads.addresses (head.place.at ∷ []) in
           on all next (linked all (own f) next (read_on heads head f n k) w) (omega arith)
-      by_next f k on Last w =
+      by_next f k on (Ok None) w =
           record {
             own = own f;
             followed = read_on heads head f n k;
@@ -304,7 +297,7 @@ module _ (live : Bool) (s : List ℕ) (wanted start : ℕ) (first : Headed) wher
             last = head.place.at;
             joined = refl;
           }
-      by_next f k on (Refused e) w =
+      by_next f k on (Err e) w =
           next_fault heads.addresses head.place.at (heads.entries ++ own f) (own f) e
           (read_on heads head f n k) (omega arith) w
 
@@ -331,17 +324,17 @@ module _ (live : Bool) (s : List ℕ) (wanted start : ℕ) (first : Headed) wher
   unfolding part_at
   part_fault heads g e q = by_link_law (latest wanted heads.entries) refl q
     where
-      by_sought : (position : ℕ) → latest wanted heads.entries ≡ At position → too_far start position ≡ false
-          → (x : HeaderRead) → sought live s (start + position) wanted ≡ x
+      by_sought : (position : ℕ) → latest wanted heads.entries ≡ Some position → too_far start position ≡ false
+          → (x : Result Headed Refusal) → sought live s (start + position) wanted ≡ x
           → on_header x stopped (λ part. found part heads.addresses) ≡ stopped e → Here e
-      by_sought position k f (Read x) w r =
+      by_sought position k f (Ok x) w r =
           let z : ◌≡◌ {A = ℕ} 0 1 = cc in absurd (let y : ⊥ = omega arith in y)
-      by_sought position k f (HeaderRefused e') w r =
+      by_sought position k f (Err e') w r =
           let i : e' ≡ e = cc in
           sought_fault live s (start + position) wanted (HeadsCome live s wanted start first)
-          (to_part heads g.own position g.followed g.none k f) e (w ∙ ap HeaderRefused i)
+          (to_part heads g.own position g.followed g.none k f) e (w ∙ ap Err i)
 
-      by_far : (position : ℕ) → latest wanted heads.entries ≡ At position
+      by_far : (position : ℕ) → latest wanted heads.entries ≡ Some position
           → (b : Bool) → too_far start position ≡ b
           → cond b (stopped (invalid_seek_head wanted (last_head heads.addresses)))
           (on_header (sought live s (start + position) wanted) stopped (λ part. found part heads.addresses))
@@ -360,10 +353,10 @@ module _ (live : Bool) (s : List ℕ) (wanted start : ℕ) (first : Headed) wher
           })
       by_far position k false f r = by_sought position k f (sought live s (start + position) wanted) refl r
 
-      by_link_law : (link : Latest) → latest wanted heads.entries ≡ link
+      by_link_law : (link : Option ℕ) → latest wanted heads.entries ≡ link
           → part_at live s wanted start heads.addresses link ≡ stopped e → Here e
-      by_link_law Nowhere k r = let z : ◌≡◌ {A = ℕ} 0 1 = cc in absurd (let y : ⊥ = omega arith in y)
-      by_link_law (At position) k r = by_far position k (too_far start position) refl r
+      by_link_law None k r = let z : ◌≡◌ {A = ℕ} 0 1 = cc in absurd (let y : ⊥ = omega arith in y)
+      by_link_law (Some position) k r = by_far position k (too_far start position) refl r
 
 pub heads_honest : HeadsHonest
 unfolding by_heads

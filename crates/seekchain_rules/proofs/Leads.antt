@@ -10,15 +10,11 @@ use lib.Dec.{eqb}
 use borrow.Author.Tests.{eqb-false}
 use Rattle.refusals.specs.Refusals.{invalid_seek_head}
 use Rattle.header.specs.declared.cursor.Headed.{Headed}
-use Rattle.header.specs.declared.cursor.HeaderRead.{HeaderRead}
-use Rattle.header.specs.declared.cursor.HeaderRead.TheVariants.{Read, Refused as HeaderRefused}
 use Rattle.elements_rules.specs.Forest.{Forest}
 use Rattle.elements_rules.specs.Reading.{Outcome, done, refused}
 use Rattle.kinds.specs.Kinds.{member}
 use Rattle.seekhead_rules.specs.Seeks.{seek_head_id, head_of, entries}
 use Rattle.seekhead_rules.specs.Table.{latest}
-use Rattle.seekhead_rules.specs.declared.head.Latest.{Latest}
-use Rattle.seekhead_rules.specs.declared.head.Latest.TheVariants.{Nowhere, At}
 use Rattle.walks_rules.specs.Answers.{on_header}
 use Rattle.seekchain_rules.specs.Answers.{on_outcome}
 use Rattle.seekchain_rules.specs.Heads.{Heads, no_heads, with_head, Chain, chained, broken, most_heads, next_head}
@@ -26,9 +22,9 @@ use Rattle.seekchain_rules.specs.Heads.{too_far, last_head, sought, on_next, cha
 use Rattle.seekchain_rules.specs.Lookup.{found, stopped, on_chain, part_at, by_heads}
 use Rattle.seekchain_rules.specs.Theorems.{IsAt, IsHead, AreHeads, NotAmong, Distinct, GoodHeads, ByHeads}
 use Rattle.seekchain_rules.specs.Theorems.{HeadsLead}
-use Rattle.seekchain_rules.specs.declared.heads.NextHead.{NextHead}
-use Rattle.seekchain_rules.specs.declared.heads.NextHead.TheVariants.{Next, Last, Refused}
 use Rattle.seekchain_rules.proofs.Sought.{sought_is, next_is}
+use Rattle.std.proofs.Common.{Result, Option, Ok, Err, Some, None}
+use Rattle.refusals.specs.declared.refusal.Refusal.{Refusal}
 
 -- ---- one address more
 
@@ -94,14 +90,14 @@ chain_sound live s start (suc more) heads head a = go (head_of live s head) refl
     Onward = (all : Heads) (next : Headed) → Ahead live s all.addresses next
         → Sound live s (chain live s start more all next)
 
-    by_next : Onward → (all : Heads) → GoodHeads live s all.addresses → (link : Latest)
-        → (x : NextHead) → next_head live s start all.addresses link ≡ x
+    by_next : Onward → (all : Heads) → GoodHeads live s all.addresses → (link : Option ℕ)
+        → (x : Result (Option Headed) Refusal) → next_head live s start all.addresses link ≡ x
         → Sound live s (on_next x (chained all) broken (chain live s start more all))
-    by_next k all g link (Next next) q =
+    by_next k all g link (Ok (Some next)) q =
         let i = next_is live s start all.addresses next link q in
         k all next (record { good = g; is = i.is; new = not_among _ _ i.new; few = omega (arith, i.few) })
-    by_next k all g link Last q = g
-    by_next k all g link (Refused e) q = tt
+    by_next k all g link (Ok None) q = g
+    by_next k all g link (Err e) q = tt
 
     go : (o : Outcome) → head_of live s head ≡ o → Onward
         → Sound live s (on_outcome o broken (λ f.
@@ -119,10 +115,10 @@ chain_sound live s start (suc more) heads head a = go (head_of live s head) refl
 
 module _ (live : Bool) (s : List ℕ) (wanted start : ℕ) (first : Headed) (heads : Heads)
     (c : linked_heads live s start first ≡ chained heads) (g : GoodHeads live s heads.addresses) where
-  by_header_law : (position : ℕ) → latest wanted heads.entries ≡ At position
-      → (x : HeaderRead) → sought live s (start + position) wanted ≡ x
+  by_header_law : (position : ℕ) → latest wanted heads.entries ≡ Some position
+      → (x : Result Headed Refusal) → sought live s (start + position) wanted ≡ x
       → ByHeads live s wanted start first (on_header x stopped (λ part. found part heads.addresses))
-  by_header_law position l (Read part) q = (
+  by_header_law position l (Ok part) q = (
     record {
       entries = heads.entries;
       position = position;
@@ -132,20 +128,20 @@ module _ (live : Bool) (s : List ℕ) (wanted start : ℕ) (first : Headed) (hea
     },
     g,
   )
-  by_header_law position l (HeaderRefused e) q = tt
+  by_header_law position l (Err e) q = tt
 
-  by_far : (position : ℕ) → latest wanted heads.entries ≡ At position → (b : Bool)
+  by_far : (position : ℕ) → latest wanted heads.entries ≡ Some position → (b : Bool)
       → ByHeads live s wanted start first
       (cond b (stopped (invalid_seek_head wanted (last_head heads.addresses)))
       (on_header (sought live s (start + position) wanted) stopped (λ part. found part heads.addresses)))
   by_far position l true = tt
   by_far position l false = by_header_law position l (sought live s (start + position) wanted) refl
 
-  by_latest : (l : Latest) → latest wanted heads.entries ≡ l
+  by_latest : (l : Option ℕ) → latest wanted heads.entries ≡ l
       → ByHeads live s wanted start first (part_at live s wanted start heads.addresses l)
   unfolding part_at
-  by_latest Nowhere l = (record { entries = heads.entries; read = c; never = l }, g)
-  by_latest (At position) l = by_far position l (too_far start position)
+  by_latest None l = (record { entries = heads.entries; read = c; never = l }, g)
+  by_latest (Some position) l = by_far position l (too_far start position)
 
 pub heads_lead : HeadsLead
 unfolding by_heads AreHeads Distinct NotAmong

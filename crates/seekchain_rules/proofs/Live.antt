@@ -10,8 +10,6 @@ use lib.Dec.{leb, eqb}
 use Rattle.refusals.specs.Refusals.{past_end, invalid_seek_head, stale_entry, head_again, too_many_heads}
 use Rattle.refusals.specs.declared.refusal.Refusal.{Refusal}
 use Rattle.header.specs.declared.cursor.Headed.{Headed}
-use Rattle.header.specs.declared.cursor.HeaderRead.{HeaderRead}
-use Rattle.header.specs.declared.cursor.HeaderRead.TheVariants.{Read, Refused as HeaderRefused}
 use Rattle.kinds.specs.Kinds.{member}
 use Rattle.elements_rules.specs.Forest.{Forest}
 use Rattle.elements_rules.specs.Reading.{Outcome, done, refused}
@@ -21,28 +19,24 @@ use Rattle.elements_rules.proofs.Live.{body_known}
 use Rattle.walks_rules.specs.Answers.{on_header}
 use Rattle.walks_rules.specs.Step.{on_child}
 use Rattle.walks_rules.specs.declared.step.Stretch.TheVariants.{Sized}
-use Rattle.walks_rules.specs.declared.step.ChildRead.{ChildRead}
 use Rattle.walks_rules.proofs.Known.{KnownAt, child_known}
 use Rattle.seekhead_rules.specs.Seeks.{segment_id, seek_head_id, head_of, entries}
 use Rattle.seekhead_rules.specs.Table.{on_latest, latest}
 use Rattle.seekhead_rules.specs.declared.seek.Seek.{Seek}
-use Rattle.seekhead_rules.specs.declared.head.Latest.{Latest}
-use Rattle.seekhead_rules.specs.declared.head.Latest.TheVariants.{Nowhere, At}
 use Rattle.seekchain_rules.specs.Answers.{on_outcome}
 use Rattle.seekchain_rules.specs.Heads.{Heads, no_heads, with_head, Chain, chained, broken, most_heads, too_far}
 use Rattle.seekchain_rules.specs.Heads.{last_head, sought, next_head, on_next, chain, linked_heads}
 use Rattle.seekchain_rules.specs.Lookup.{Lookup, found, absent, stopped, on_chain, part_at, by_heads}
 use Rattle.seekchain_rules.specs.Faults.{Followed, ReadNext, initial, linked, HeadsCome, in_head, to_head, to_part}
 use Rattle.seekchain_rules.specs.Live.{HeadsEqual}
-use Rattle.seekchain_rules.specs.declared.heads.NextHead.{NextHead}
-use Rattle.seekchain_rules.specs.declared.heads.NextHead.TheVariants.{Next, Last, Refused}
 use Rattle.seekchain_rules.proofs.Faults.{read_on, Ends, Came, chain_came}
+use Rattle.std.proofs.Common.{Result, Option, Ok, Err, Some, None}
 
 sought_known : (s : List ℕ) (address id : ℕ) → KnownAt s address → sought true s address id ≡ sought false s address id
 unfolding sought
 sought_known s address id k =
-    ap (λ (x : ChildRead). on_child x (HeaderRefused (past_end address)) HeaderRefused (λ y.
-    cond (eqb y.header.id id) (Read y) (HeaderRefused (stale_entry address))))
+    ap (λ (x : Result (Option Headed) Refusal). on_child x (Err (past_end address)) Err (λ y.
+    cond (eqb y.header.id id) (Ok y) (Err (stale_entry address))))
     (child_known s (Sized (length s)) address (λ p. k))
 
 module _ (s : List ℕ) (wanted start : ℕ) (first : Headed) (k : AllKnown s (HeadsCome false s wanted start first)) where
@@ -58,29 +52,29 @@ module _ (s : List ℕ) (wanted start : ℕ) (first : Headed) (k : AllKnown s (H
   unfolding next_head
   next_known heads own p = by_link_law (latest seek_head_id own) refl
     where
-      by_tests : (position : ℕ) → latest seek_head_id own ≡ At position
+      by_tests : (position : ℕ) → latest seek_head_id own ≡ Some position
           → (b : Bool) → too_far start position ≡ b → (c : Bool) → member (start + position) heads.addresses ≡ c
           → (d : Bool) → leb most_heads (length heads.addresses) ≡ d
-          → cond b (Refused (invalid_seek_head seek_head_id (last_head heads.addresses)))
-          (cond c (Refused (head_again (start + position)))
-          (cond d (Refused (too_many_heads (start + position)))
-          (on_header (sought true s (start + position) seek_head_id) Refused Next)))
-          ≡ cond b (Refused (invalid_seek_head seek_head_id (last_head heads.addresses)))
-          (cond c (Refused (head_again (start + position)))
-          (cond d (Refused (too_many_heads (start + position)))
-          (on_header (sought false s (start + position) seek_head_id) Refused Next)))
+          → cond b (Err (invalid_seek_head seek_head_id (last_head heads.addresses)))
+          (cond c (Err (head_again (start + position)))
+          (cond d (Err (too_many_heads (start + position)))
+          (on_header (sought true s (start + position) seek_head_id) Err (λ x. Ok (Some x)))))
+          ≡ cond b (Err (invalid_seek_head seek_head_id (last_head heads.addresses)))
+          (cond c (Err (head_again (start + position)))
+          (cond d (Err (too_many_heads (start + position)))
+          (on_header (sought false s (start + position) seek_head_id) Err (λ x. Ok (Some x)))))
       by_tests position e true f c m d n = refl
       by_tests position e false f true m d n = refl
       by_tests position e false f false m true n = refl
       by_tests position e false f false m false n =
-          ap (λ (x : HeaderRead). on_header x Refused Next)
+          ap (λ (x : Result Headed Refusal). on_header x Err (λ x. Ok (Some x)))
           (sought_known s (start + position) seek_head_id (λ h q.
           k (start + position) (to_find false seek_head_id) h (to_head heads own position p e f m n) refl q))
 
-      by_link_law : (link : Latest) → latest seek_head_id own ≡ link
+      by_link_law : (link : Option ℕ) → latest seek_head_id own ≡ link
           → next_head true s start heads.addresses link ≡ next_head false s start heads.addresses link
-      by_link_law Nowhere e = refl
-      by_link_law (At position) e =
+      by_link_law None e = refl
+      by_link_law (Some position) e =
           by_tests position e (too_far start position) refl (member (start + position) heads.addresses) refl
           (leb most_heads (length heads.addresses)) refl
 
@@ -105,17 +99,17 @@ module _ (s : List ℕ) (wanted start : ℕ) (first : Headed) (k : AllKnown s (H
       Onward = (all : Heads) (next : Headed) → ReadNext false s start first all next
           → chain true s start left all next ≡ chain false s start left all next
 
-      by_next : (f : Forest) → head_of false s head ≡ done f → Onward → (x : NextHead)
+      by_next : (f : Forest) → head_of false s head ≡ done f → Onward → (x : Result (Option Headed) Refusal)
           → next_head false s start (with_head heads head (own f)).addresses (latest seek_head_id (own f)) ≡ x
           → on_next x (chained (with_head heads head (own f))) broken
           (chain true s start left (with_head heads head (own f)))
           ≡ on_next x (chained (with_head heads head (own f))) broken
           (chain false s start left (with_head heads head (own f)))
-      by_next f q more (Next next) w =
+      by_next f q more (Ok (Some next)) w =
           let all = with_head heads head (own f) in
           more all next (linked all (own f) next (read_on false s wanted start first heads head f n q) w)
-      by_next f q more Last w = refl
-      by_next f q more (Refused e) w = refl
+      by_next f q more (Ok None) w = refl
+      by_next f q more (Err e) w = refl
 
       by : (o : Outcome) → head_of false s head ≡ o → Onward
           → on_outcome o broken (λ f. on true (own f) (with_head heads head (own f)))
@@ -123,7 +117,7 @@ module _ (s : List ℕ) (wanted start : ℕ) (first : Headed) (k : AllKnown s (H
       by (refused e) q more = refl
       by (done f) q more =
           let all = with_head heads head (own f) in
-          ap (λ (x : NextHead). on_next x (chained all) broken (chain true s start left all))
+          ap (λ (x : Result (Option Headed) Refusal). on_next x (chained all) broken (chain true s start left all))
           (next_known all (own f) (read_on false s wanted start first heads head f n q))
           ∙ by_next f q more (next_head false s start all.addresses (latest seek_head_id (own f))) refl
 
@@ -133,22 +127,22 @@ module _ (s : List ℕ) (wanted start : ℕ) (first : Headed) (k : AllKnown s (H
   unfolding part_at
   part_known heads g = by_link_law (latest wanted heads.entries) refl
     where
-      by_far : (position : ℕ) → latest wanted heads.entries ≡ At position → (b : Bool) → too_far start position ≡ b
+      by_far : (position : ℕ) → latest wanted heads.entries ≡ Some position → (b : Bool) → too_far start position ≡ b
           → cond b (stopped (invalid_seek_head wanted (last_head heads.addresses)))
           (on_header (sought true s (start + position) wanted) stopped (λ part. found part heads.addresses))
           ≡ cond b (stopped (invalid_seek_head wanted (last_head heads.addresses)))
           (on_header (sought false s (start + position) wanted) stopped (λ part. found part heads.addresses))
       by_far position e true f = refl
       by_far position e false f =
-          ap (λ (x : HeaderRead). on_header x stopped (λ part. found part heads.addresses))
+          ap (λ (x : Result Headed Refusal). on_header x stopped (λ part. found part heads.addresses))
           (sought_known s (start + position) wanted (λ h q.
           k (start + position) (to_find false wanted) h
           (to_part heads g.own position g.followed g.none e f) refl q))
 
-      by_link_law : (link : Latest) → latest wanted heads.entries ≡ link
+      by_link_law : (link : Option ℕ) → latest wanted heads.entries ≡ link
           → part_at true s wanted start heads.addresses link ≡ part_at false s wanted start heads.addresses link
-      by_link_law Nowhere e = refl
-      by_link_law (At position) e = by_far position e (too_far start position) refl
+      by_link_law None e = refl
+      by_link_law (Some position) e = by_far position e (too_far start position) refl
 
 pub heads_equal : HeadsEqual
 unfolding by_heads

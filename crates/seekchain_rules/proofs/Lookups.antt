@@ -13,26 +13,25 @@ use Rattle.seekchain_rules.specs.Heads.{Chain, chained, broken, last_head, linke
 use Rattle.seekchain_rules.specs.Lookup.{on_chain, part_at, by_heads}
 use Rattle.seekchain_rules.specs.Contract.{heads_told, place_told, PartMet}
 use Rattle.seekchain_rules.specs.declared.heads.HeadsRead.TheVariants.{Read as HeadsAre, Refused as HeadsRefused}
-use Rattle.seekchain_rules.specs.declared.lookup.PartPlace.{PartPlace}
-use Rattle.seekchain_rules.specs.declared.lookup.PartPlace.TheVariants.{Refused}
+use Rattle.std.proofs.Common.{Result, Option, Err}
 
 module _ (live : Bool) (s : List ℕ) (wanted start : ℕ) (first : Headed) where
-  abbrev looked_up : Chain → PartPlace
+  abbrev looked_up : Chain → Result (Option Headed × ℕ) Refusal
   looked_up c =
       place_told (on_chain c (λ heads. part_at live s wanted start heads.addresses (latest wanted heads.entries)))
 
-  broken_off : (c : Chain) (e : Refusal) → HeadsRefused e ≡ heads_told (only wanted) c → Refused e ≡ looked_up c
+  broken_off : (c : Chain) (e : Refusal) → HeadsRefused e ≡ heads_told (only wanted) c → Err e ≡ looked_up c
   broken_off (chained heads) e q = let z : ◌≡◌ {A = ℕ} 0 1 = cc in absurd (omega arith)
   broken_off (broken e') e q = cc
 
   pub chain_broken : (e : Refusal) → HeadsRefused e ≡ heads_told (only wanted) (linked_heads live s start first)
-      → Refused e ≡ place_told (by_heads live s wanted start first)
+      → Err e ≡ place_told (by_heads live s wanted start first)
   unfolding by_heads
   chain_broken e q = broken_off (linked_heads live s start first) e q
 
   -- The position of the one wanted id is its latest.
   read_off : (c : Chain) (parts : Positions) (n last : ℕ) → HeadsAre parts n last ≡ heads_told (only wanted) c
-      → (r : PartPlace) → PartMet live s wanted start n last parts.first r → r ≡ looked_up c
+      → (r : Result (Option Headed × ℕ) Refusal) → PartMet live s wanted start n last parts.first r → r ≡ looked_up c
   unfolding positions_from
   read_off (chained heads) parts n last q r m =
       let p : parts ≡ positions (only wanted) heads.entries = cc in
@@ -44,7 +43,7 @@ module _ (live : Bool) (s : List ℕ) (wanted start : ℕ) (first : Headed) wher
 
   pub chain_read : (parts : Positions) (n last : ℕ)
       → HeadsAre parts n last ≡ heads_told (only wanted) (linked_heads live s start first)
-      → (r : PartPlace) → PartMet live s wanted start n last parts.first r
+      → (r : Result (Option Headed × ℕ) Refusal) → PartMet live s wanted start n last parts.first r
       → r ≡ place_told (by_heads live s wanted start first)
   unfolding by_heads
   chain_read parts n last q r m = read_off (linked_heads live s start first) parts n last q r m

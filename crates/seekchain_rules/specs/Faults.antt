@@ -9,10 +9,9 @@ use Rattle.elements_rules.specs.Faults.{Errand, to_find, to_follow, to_look_up, 
 use Rattle.seekhead_rules.specs.Seeks.{segment_id, seek_head_id, without_rows, head_of, entries}
 use Rattle.seekhead_rules.specs.Table.{latest}
 use Rattle.seekhead_rules.specs.declared.seek.Seek.{Seek}
-use Rattle.seekhead_rules.specs.declared.head.Latest.TheVariants.{Nowhere, At}
 use Rattle.seekchain_rules.specs.Heads.{Heads, no_heads, with_head, most_heads, next_head, too_far}
 use Rattle.seekchain_rules.specs.Lookup.{stopped, by_heads}
-use Rattle.seekchain_rules.specs.declared.heads.NextHead.TheVariants.{Next}
+use Rattle.std.specs.Prelude.{Ok, Some, None}
 
 -- The heads that were read from the first on, with all their entries, and the last one's own entries: each was read
 -- whole, and its own entry for a head led to the next.
@@ -23,7 +22,7 @@ pub data Followed (live : Bool) (s : List ℕ) (start : ℕ) (first : Headed) : 
       (entries s first.payload.at f)
   more :
       (heads : Heads) (own : List Seek) (head : Headed) (f : Forest) → Followed live s start first heads own
-      → next_head live s start heads.addresses (latest seek_head_id own) ≡ Next head → head_of live s head ≡ done f
+      → next_head live s start heads.addresses (latest seek_head_id own) ≡ Ok (Some head) → head_of live s head ≡ done f
       → Followed live s start first (with_head heads head (entries s head.payload.at f))
       (entries s head.payload.at f)
 
@@ -32,7 +31,7 @@ pub data ReadNext (live : Bool) (s : List ℕ) (start : ℕ) (first : Headed) : 
   initial : ReadNext live s start first no_heads first
   linked :
       (heads : Heads) (own : List Seek) (head : Headed) → Followed live s start first heads own
-      → next_head live s start heads.addresses (latest seek_head_id own) ≡ Next head
+      → next_head live s start heads.addresses (latest seek_head_id own) ≡ Ok (Some head)
       → ReadNext live s start first heads head
 
 -- What a search for a part comes to from the first head on: an element of a head that it reads; an entry for a further
@@ -45,20 +44,20 @@ pub data HeadsCome (live : Bool) (s : List ℕ) (wanted start : ℕ) (first : He
       → HeadsCome live s wanted start first a x
   by_link :
       (heads : Heads) (own : List Seek) (position a : ℕ) → Followed live s start first heads own
-      → latest seek_head_id own ≡ At position
+      → latest seek_head_id own ≡ Some position
       → HeadsCome live s wanted start first a (to_follow start position heads.addresses)
   to_head :
       (heads : Heads) (own : List Seek) (position : ℕ) → Followed live s start first heads own
-      → latest seek_head_id own ≡ At position → too_far start position ≡ false
+      → latest seek_head_id own ≡ Some position → too_far start position ≡ false
       → member (start + position) heads.addresses ≡ false → leb most_heads (length heads.addresses) ≡ false
       → HeadsCome live s wanted start first (start + position) (to_find live seek_head_id)
   by_entry :
       (heads : Heads) (own : List Seek) (position a : ℕ) → Followed live s start first heads own
-      → latest seek_head_id own ≡ Nowhere → latest wanted heads.entries ≡ At position
+      → latest seek_head_id own ≡ None → latest wanted heads.entries ≡ Some position
       → HeadsCome live s wanted start first a (to_look_up wanted start position heads.addresses)
   to_part :
       (heads : Heads) (own : List Seek) (position : ℕ) → Followed live s start first heads own
-      → latest seek_head_id own ≡ Nowhere → latest wanted heads.entries ≡ At position
+      → latest seek_head_id own ≡ None → latest wanted heads.entries ≡ Some position
       → too_far start position ≡ false
       → HeadsCome live s wanted start first (start + position) (to_find live wanted)
 

@@ -4,20 +4,15 @@ use Rattle.std.specs.Prelude.{ℕ, zero, suc, ◌+◌, List, [], ◌∷◌, ◌+
 use Rattle.refusals.specs.Refusals.{past_end, invalid_seek_head, stale_entry, head_again, too_many_heads}
 use Rattle.refusals.specs.declared.refusal.Refusal.{Refusal}
 use Rattle.header.specs.declared.cursor.Headed.{Headed}
-use Rattle.header.specs.declared.cursor.HeaderRead.{HeaderRead}
-use Rattle.header.specs.declared.cursor.HeaderRead.TheVariants.{Read}
-use Rattle.header.specs.declared.cursor.HeaderRead.TheVariants.{Refused as HeaderRefused}
 use Rattle.kinds.specs.Kinds.{member}
 use Rattle.seekhead_rules.specs.Seeks.{seek_head_id, head_of, entries}
 use Rattle.seekhead_rules.specs.Table.{on_latest, latest}
 use Rattle.seekhead_rules.specs.declared.seek.Seek.{Seek}
-use Rattle.seekhead_rules.specs.declared.head.Latest.{Latest}
 use Rattle.walks_rules.specs.Answers.{on_header}
 use Rattle.seekchain_rules.specs.Answers.{on_outcome}
 use Rattle.walks_rules.specs.Step.{child_at, on_child}
 use Rattle.walks_rules.specs.declared.step.Stretch.TheVariants.{Sized}
-use Rattle.seekchain_rules.specs.declared.heads.NextHead.{NextHead}
-use Rattle.seekchain_rules.specs.declared.heads.NextHead.TheVariants.{Next, Last, Refused}
+use Rattle.std.specs.Prelude.{Result, Option, Ok, Err, Some, None}
 
 -- ---- addresses
 
@@ -31,10 +26,10 @@ too_far start position = ltb last_address (start + position)
 
 -- The element that a sought address holds, up to the recording's end: 1 past it, header, 17, 9 where its id is another,
 -- each at the address.
-unfoldable pub sought : (live : Bool) → List ℕ → (address id : ℕ) → HeaderRead
+unfoldable pub sought : (live : Bool) → List ℕ → (address id : ℕ) → Result Headed Refusal
 sought live s address id =
-    on_child (child_at live s (Sized (length s)) address) (HeaderRefused (past_end address)) HeaderRefused (λ e.
-    cond (eqb e.header.id id) (Read e) (HeaderRefused (stale_entry address)))
+    on_child (child_at live s (Sized (length s)) address) (Err (past_end address)) Err (λ e.
+    cond (eqb e.header.id id) (Ok e) (Err (stale_entry address)))
 
 -- ---- the next head
 
@@ -50,18 +45,18 @@ last_head (a ∷ b ∷ rest) = last_head (b ∷ rest)
 
 -- The head that a head's entry for one leads to, where the heads at some addresses were read: 8, 10, 11, header, 17, 9.
 -- Without such an entry there is none. 8 is at the last head that was read, 10 and 11 at the one that is not.
-unfoldable pub next_head : (live : Bool) → List ℕ → (start : ℕ) (seen : List ℕ) (link : Latest) → NextHead
+unfoldable pub next_head : (live : Bool) → List ℕ → (start : ℕ) (seen : List ℕ) (link : Option ℕ) → Result (Option Headed) Refusal
 next_head live s start seen link =
-    on_latest link Last (λ position.
-    cond (too_far start position) (Refused (invalid_seek_head seek_head_id (last_head seen)))
-    (cond (member (start + position) seen) (Refused (head_again (start + position)))
-    (cond (leb most_heads (length seen)) (Refused (too_many_heads (start + position)))
-    (on_header (sought live s (start + position) seek_head_id) Refused Next))))
+    on_latest link (Ok None) (λ position.
+    cond (too_far start position) (Err (invalid_seek_head seek_head_id (last_head seen)))
+    (cond (member (start + position) seen) (Err (head_again (start + position)))
+    (cond (leb most_heads (length seen)) (Err (too_many_heads (start + position)))
+    (on_header (sought live s (start + position) seek_head_id) Err (λ x. Ok (Some x))))))
 
-abbrev pub on_next : {A : Type 0} → NextHead → A → (Refusal → A) → (Headed → A) → A
-on_next (Next head) last stop next = next head
-on_next Last last stop next = last
-on_next (Refused e) last stop next = stop e
+abbrev pub on_next : {A : Type 0} → Result (Option Headed) Refusal → A → (Refusal → A) → (Headed → A) → A
+on_next (Ok (Some head)) last stop next = next head
+on_next (Ok None) last stop next = last
+on_next (Err e) last stop next = stop e
 
 -- ---- the chain
 

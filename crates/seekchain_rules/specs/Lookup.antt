@@ -4,9 +4,9 @@ use Rattle.refusals.specs.Refusals.{invalid_seek_head}
 use Rattle.refusals.specs.declared.refusal.Refusal.{Refusal}
 use Rattle.header.specs.declared.cursor.Headed.{Headed}
 use Rattle.seekhead_rules.specs.Table.{on_latest, latest}
-use Rattle.seekhead_rules.specs.declared.head.Latest.{Latest}
 use Rattle.walks_rules.specs.Answers.{on_header}
 use Rattle.seekchain_rules.specs.Heads.{Heads, Chain, chained, broken, too_far, last_head, sought, linked_heads}
+use Rattle.std.specs.Prelude.{Option}
 
 -- Where a part is: the part, or that it is absent, with the addresses of the heads that were read; or why the search
 -- stopped.
@@ -21,7 +21,7 @@ on_chain (broken e) next = stopped e
 
 -- The part by the latest position of its id, where the heads at some addresses were read: absent, or 8 at the last of
 -- them, header, 17, 9.
-unfoldable pub part_at : (live : Bool) → List ℕ → (wanted start : ℕ) (heads : List ℕ) (link : Latest) → Lookup
+unfoldable pub part_at : (live : Bool) → List ℕ → (wanted start : ℕ) (heads : List ℕ) (link : Option ℕ) → Lookup
 part_at live s wanted start heads link =
     on_latest link (absent heads) (λ position.
     cond (too_far start position) (stopped (invalid_seek_head wanted (last_head heads)))

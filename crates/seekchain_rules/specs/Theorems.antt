@@ -4,25 +4,22 @@ use Rattle.std.specs.Prelude.{ℕ, ◌+◌, ◌-◌, ◌≤◌, ◌<◌, ◌≡�
 use Rattle.refusals.specs.Refusals.{invalid_seek_head, head_again, too_many_heads}
 use Rattle.header.specs.Reads.{header_at}
 use Rattle.header.specs.declared.cursor.Headed.{Headed}
-use Rattle.header.specs.declared.cursor.HeaderRead.TheVariants.{Read}
 use Rattle.kinds.specs.Kinds.{member}
 use Rattle.elements_rules.specs.Forest.{Forest}
 use Rattle.elements_rules.specs.Reading.{done}
 use Rattle.seekhead_rules.specs.Seeks.{seek_head_id, head_of, entries}
 use Rattle.seekhead_rules.specs.Table.{latest}
 use Rattle.seekhead_rules.specs.declared.seek.Seek.{Seek}
-use Rattle.seekhead_rules.specs.declared.head.Latest.{Latest}
-use Rattle.seekhead_rules.specs.declared.head.Latest.TheVariants.{Nowhere, At}
 use Rattle.walks_rules.specs.Answers.{on_header}
 use Rattle.seekchain_rules.specs.Answers.{on_outcome}
 use Rattle.seekchain_rules.specs.Heads.{Heads, Chain, chained, broken, with_head, most_heads, next_head, on_next}
 use Rattle.seekchain_rules.specs.Heads.{too_far, last_head, sought, chain, linked_heads}
 use Rattle.seekchain_rules.specs.Lookup.{Lookup, found, absent, stopped, by_heads}
-use Rattle.seekchain_rules.specs.declared.heads.NextHead.TheVariants.{Next, Last, Refused}
+use Rattle.std.specs.Prelude.{Option, Ok, Err, Some, None}
 
 -- An element with that id is at an address: its header was read there.
 pub record IsAt (s : List ℕ) (id address : ℕ) (e : Headed) : Type 0 where
-  pub head : header_at s address ≡ Read e
+  pub head : header_at s address ≡ Ok e
   pub named : e.header.id ≡ id
 
 -- ---- what follows a head
@@ -30,19 +27,19 @@ pub record IsAt (s : List ℕ) (id address : ℕ) (e : Headed) : Type 0 where
 -- The order of the tests on an entry for a further head: 8, 10, 11, then what is at the address. It shuts out a reader
 -- that gives 11 for a head that was read already, and one that looks at the header of a 65th head.
 pub record NextOrder (live : Bool) (s : List ℕ) (start : ℕ) (seen : List ℕ) : Type 0 where
-  pub none : next_head live s start seen Nowhere ≡ Last
+  pub none : next_head live s start seen None ≡ (Ok None)
   pub eight :
       (p : ℕ) → too_far start p ≡ true
-      → next_head live s start seen (At p) ≡ Refused (invalid_seek_head seek_head_id (last_head seen))
+      → next_head live s start seen (Some p) ≡ Err (invalid_seek_head seek_head_id (last_head seen))
   pub ten :
       (p : ℕ) → too_far start p ≡ false → member (start + p) seen ≡ true
-      → next_head live s start seen (At p) ≡ Refused (head_again (start + p))
+      → next_head live s start seen (Some p) ≡ Err (head_again (start + p))
   pub eleven :
       (p : ℕ) → too_far start p ≡ false → member (start + p) seen ≡ false → leb most_heads (length seen) ≡ true
-      → next_head live s start seen (At p) ≡ Refused (too_many_heads (start + p))
+      → next_head live s start seen (Some p) ≡ Err (too_many_heads (start + p))
   pub there :
       (p : ℕ) → too_far start p ≡ false → member (start + p) seen ≡ false → leb most_heads (length seen) ≡ false
-      → next_head live s start seen (At p) ≡ on_header (sought live s (start + p) seek_head_id) Refused Next
+      → next_head live s start seen (Some p) ≡ on_header (sought live s (start + p) seek_head_id) Err (λ x. Ok (Some x))
 
 abbrev pub NextInOrder : Type 0
 NextInOrder = (live : Bool) (s : List ℕ) (start : ℕ) (seen : List ℕ) → NextOrder live s start seen
@@ -64,8 +61,8 @@ pub record ChainUnfolds : Type 0 where
       on_next (next_head live s start all.addresses (latest seek_head_id own)) (chained all) broken
       (heads_from live s start all))
   pub bounded :
-      (live : Bool) (s : List ℕ) (start : ℕ) (seen : List ℕ) (link : Latest) (head : Headed)
-      → next_head live s start seen link ≡ Next head → length seen < most_heads
+      (live : Bool) (s : List ℕ) (start : ℕ) (seen : List ℕ) (link : Option ℕ) (head : Headed)
+      → next_head live s start seen link ≡ Ok (Some head) → length seen < most_heads
 
 -- A seek head is at the address, and its whole payload was read.
 pub record IsHead (live : Bool) (s : List ℕ) (address : ℕ) : Type 0 where
@@ -101,14 +98,14 @@ pub record Named (live : Bool) (s : List ℕ) (wanted start : ℕ) (first part :
   pub entries : List Seek
   pub position : ℕ
   pub read : linked_heads live s start first ≡ chained (record { addresses = heads; entries = entries })
-  pub last : latest wanted entries ≡ At position
+  pub last : latest wanted entries ≡ Some position
   pub is : IsAt s wanted (start + position) part
 
 -- A part that no entry names.
 pub record Unnamed (live : Bool) (s : List ℕ) (wanted start : ℕ) (first : Headed) (heads : List ℕ) : Type 0 where
   pub entries : List Seek
   pub read : linked_heads live s start first ≡ chained (record { addresses = heads; entries = entries })
-  pub never : latest wanted entries ≡ Nowhere
+  pub never : latest wanted entries ≡ None
 
 -- What a place that the heads lead to is.
 abbrev pub ByHeads : (live : Bool) → List ℕ → (wanted start : ℕ) (first : Headed) → Lookup → Type 0

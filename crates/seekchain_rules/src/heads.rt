@@ -3,14 +3,6 @@ use header::Headed;
 use refusals::Refusal;
 use seekhead_rules::Positions;
 
-// The head that an entry leads to, or that there is none, or a refusal.
-#[derive(Clone, Copy)]
-pub enum NextHead {
-    Next(Headed),
-    Last,
-    Refused(Refusal),
-}
-
 // The latest positions of the wanted ids over all heads, how many heads were read, and the address of the last one; or
 // a refusal.
 #[derive(Clone, Copy)]

@@ -5,5 +5,4 @@
 mod heads;
 mod lookup;
 
-pub use heads::{HeadsRead, NextHead};
-pub use lookup::PartPlace;
+pub use heads::HeadsRead;

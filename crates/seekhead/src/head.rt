@@ -7,17 +7,17 @@ ghost use Rattle.seekhead_rules.specs.Contract.{Taken, child_told, inserted, hea
 use crate::seek::seek_body;
 use crate::skim::skim_body;
 use elements::element_header;
-use header::{Cursor, Headed, HeaderRead};
+use header::{Cursor, Headed};
 use kinds::ids;
 use refusals::{Cause, Refusal};
-use seekhead_rules::{HeadRead, Latest, Positions, Seek, SeekRead, Seektable, SkimRead, Wanted};
+use seekhead_rules::{Positions, Seek, Seektable, Wanted};
 
 // The latest position of an id, after one more entry: the last Seek of an id wins.
-fn later(old: Latest, id: u32, seek: Seek) -> Latest
+fn later(old: Option<u64>, id: u32, seek: Seek) -> Option<u64>
     ensures { result ≡ later_of id old seek }
 {
     if seek.id == id {
-        return Latest::At(seek.position);
+        return Some(seek.position);
     }
     old
 }
@@ -59,19 +59,19 @@ fn head_child(
     wanted: Wanted,
     table: Seektable,
     child: Headed,
-) -> HeadRead
+) -> Result<Seektable, Refusal>
     requires { Taken live recording.now child }
     ensures { result ≡ child_told live recording.now wanted table child }
 {
     if child.header.id == ids::SEEK {
         return match seek_body(recording, live, child) {
-            SeekRead::Refused(refusal) => HeadRead::Refused(refusal),
-            SeekRead::Read(seek) => HeadRead::Read(insert(table, wanted, seek)),
+            Err(refusal) => Err(refusal),
+            Ok(seek) => Ok(insert(table, wanted, seek)),
         };
     }
     match skim_body(recording, live, child, ids::SEGMENT, 0) {
-        SkimRead::Refused(refusal) => HeadRead::Refused(refusal),
-        SkimRead::Read(_) => HeadRead::Read(table),
+        Err(refusal) => Err(refusal),
+        Ok(_) => Ok(table),
     }
 }
 
@@ -82,30 +82,27 @@ pub fn head_body(
     wanted: Wanted,
     parts: Positions,
     head: Headed,
-) -> HeadRead
+) -> Result<Seektable, Refusal>
     requires { Readable recording.now head }
     ensures { result ≡ head_told live recording.now wanted parts head }
 {
     let mut at = head.payload.at;
     let end = at + head.header.size;
-    let mut table = Seektable {
-        parts,
-        head: Latest::Nowhere,
-    };
+    let mut table = Seektable { parts, head: None };
     while at < end {
         let place = Cursor { at };
         match element_header(recording, live, place) {
-            HeaderRead::Refused(refusal) => {
-                return HeadRead::Refused(refusal);
+            Err(refusal) => {
+                return Err(refusal);
             }
-            HeaderRead::Read(child) => match head_child(recording, live, wanted, table, child) {
-                HeadRead::Refused(refusal) => {
-                    return HeadRead::Refused(refusal);
+            Ok(child) => match head_child(recording, live, wanted, table, child) {
+                Err(refusal) => {
+                    return Err(refusal);
                 }
-                HeadRead::Read(more) => {
+                Ok(more) => {
                     let next = child.payload.at + child.header.size;
                     if end < next {
-                        return HeadRead::Refused(Refusal {
+                        return Err(Refusal {
                             address: at,
                             cause: Cause::Overrun,
                         });
@@ -116,5 +113,5 @@ pub fn head_body(
             },
         }
     }
-    HeadRead::Read(table)
+    Ok(table)
 }

@@ -8,10 +8,10 @@ ghost use Rattle.seekhead_rules.specs.Contract.{Taken, Whole, member_told, seek_
 use crate::skim::skim_body;
 use bodies_rules::{Body, Value};
 use elements::element_header;
-use header::{Cursor, Headed, HeaderRead, big_endian};
+use header::{Cursor, Headed, big_endian};
 use kinds::ids;
 use refusals::{Cause, Refusal};
-use seekhead_rules::{Seek, SeekRead, SkimRead};
+use seekhead_rules::Seek;
 
 // The smaller of two numbers.
 fn fewer(x: u64, y: u64) -> u64
@@ -70,18 +70,18 @@ fn noted(recording: &[u8], seek: Seek, member: Headed, body: Body) -> Seek
 }
 
 // A Seek with the member whose header was read.
-fn seek_member(recording: &[u8], live: bool, seek: Seek, member: Headed) -> SeekRead
+fn seek_member(recording: &[u8], live: bool, seek: Seek, member: Headed) -> Result<Seek, Refusal>
     requires { Taken live recording.now member }
     ensures { result ≡ member_told live recording.now seek member }
 {
     match skim_body(recording, live, member, ids::SEEK, 1) {
-        SkimRead::Refused(refusal) => SeekRead::Refused(refusal),
-        SkimRead::Read(body) => SeekRead::Read(noted(recording, seek, member, body)),
+        Err(refusal) => Err(refusal),
+        Ok(body) => Ok(noted(recording, seek, member, body)),
     }
 }
 
 // A Seek whose header was read, with its members.
-pub fn seek_body(recording: &[u8], live: bool, element: Headed) -> SeekRead
+pub fn seek_body(recording: &[u8], live: bool, element: Headed) -> Result<Seek, Refusal>
     requires { Readable recording.now element }
     ensures { result ≡ seek_told live recording.now element }
 {
@@ -91,17 +91,17 @@ pub fn seek_body(recording: &[u8], live: bool, element: Headed) -> SeekRead
     while at < end {
         let place = Cursor { at };
         match element_header(recording, live, place) {
-            HeaderRead::Refused(refusal) => {
-                return SeekRead::Refused(refusal);
+            Err(refusal) => {
+                return Err(refusal);
             }
-            HeaderRead::Read(member) => match seek_member(recording, live, seek, member) {
-                SeekRead::Refused(refusal) => {
-                    return SeekRead::Refused(refusal);
+            Ok(member) => match seek_member(recording, live, seek, member) {
+                Err(refusal) => {
+                    return Err(refusal);
                 }
-                SeekRead::Read(more) => {
+                Ok(more) => {
                     let next = member.payload.at + member.header.size;
                     if end < next {
-                        return SeekRead::Refused(Refusal {
+                        return Err(Refusal {
                             address: at,
                             cause: Cause::Overrun,
                         });
@@ -112,5 +112,5 @@ pub fn seek_body(recording: &[u8], live: bool, element: Headed) -> SeekRead
             },
         }
     }
-    SeekRead::Read(seek)
+    Ok(seek)
 }

@@ -2,17 +2,22 @@
 ghost use Rattle.seekhead_rules.specs.Contract.{Taken, Shallow, Skimmed};
 
 use bodies::read_body;
-use bodies_rules::{Body, BodyRead};
+use bodies_rules::Body;
 use elements::master_body;
-use elements_rules::{Above, ElementRead, Mode};
+use elements_rules::{Above, Mode};
 use header::Headed;
 use kind_decision::kind_of;
 use kinds::MASTER;
 use refusals::Refusal;
-use seekhead_rules::SkimRead;
 
 // The body of an element whose header was read, under a parent id and at a depth. A master's elements are read too.
-pub fn skim_body(recording: &[u8], live: bool, element: Headed, parent: u32, depth: u64) -> SkimRead
+pub fn skim_body(
+    recording: &[u8],
+    live: bool,
+    element: Headed,
+    parent: u32,
+    depth: u64,
+) -> Result<Body, Refusal>
     requires taken { Taken live recording.now element }
     requires shallow { Shallow depth }
     ensures { Skimmed live recording.now depth parent element result }
@@ -31,15 +36,15 @@ pub fn skim_body(recording: &[u8], live: bool, element: Headed, parent: u32, dep
         // The readers ask for a table; no row is kept in this one.
         let mut none = [0u64; 1];
         return match master_body(recording, &mut none, mode, payload, header.size, 0, above) {
-            ElementRead::Refused(refusal) => SkimRead::Refused(refusal),
-            ElementRead::Read { rows: _, next: _ } => SkimRead::Read(Body::Master),
+            Err(refusal) => Err(refusal),
+            Ok((_, _)) => Ok(Body::Master),
         };
     }
     match read_body(recording, element, kind) {
-        BodyRead::Refused(cause) => SkimRead::Refused(Refusal {
+        Err(cause) => Err(Refusal {
             address: element.place.at,
             cause,
         }),
-        BodyRead::Read(body, _) => SkimRead::Read(body),
+        Ok((body, _)) => Ok(body),
     }
 }

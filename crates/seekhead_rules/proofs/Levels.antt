@@ -19,9 +19,9 @@ use Rattle.header.specs.Reads.{behind}
 use Rattle.seekhead_rules.specs.Seeks.{without_rows}
 use Rattle.seekhead_rules.specs.Contract.{element_at, told}
 use Rattle.header.specs.declared.cursor.Headed.{Headed}
-use Rattle.header.specs.declared.cursor.HeaderRead.TheVariants.{Read, Refused}
 use Rattle.header.proofs.Inside.{header_there}
 use Rattle.seekhead_rules.proofs.Uncounted.{rest_uncounted}
+use Rattle.std.proofs.Common.{Ok, Err}
 
 -- A level: the depth and the parent id of its elements, what they make of a value one after another, and how that or a
 -- refusal is told.
@@ -60,7 +60,7 @@ module _ (live : Bool) (s : List ℕ) (l : Level) (law : Lawful l) where
   told_read make x (refused e) q = absurd (law.other x e q)
 
   -- An element that was read takes its header and its size.
-  spans : (at : ℕ) (e : Headed) → element_header_read live s at ≡ Read e → (f : Forest)
+  spans : (at : ℕ) (e : Headed) → element_header_read live s at ≡ Ok e → (f : Forest)
       → element_at live s l.depth l.parent at ≡ done f
       → at + span f ≡ behind e
   unfolding span full
@@ -133,11 +133,11 @@ module _ (live : Bool) (s : List ℕ) (l : Level) (law : Lawful l) where
             comes_to (refused e)
             (g.rest ∙ rw (child_refused child_read g.most at _ 0 e (omega arith) g.enough q))
 
-        pub pass_unread : (e : Refusal) → element_header_read live s at ≡ Refused e → l.stop e ≡ level_told
+        pub pass_unread : (e : Refusal) → element_header_read live s at ≡ Err e → l.stop e ≡ level_told
         pass_unread e q =
             lost e (el_refused s (without_rows live) 0 l.depth l.parent at 0 e q)
 
-        module _ (e : Headed) (q : element_header_read live s at ≡ Read e) where
+        module _ (e : Headed) (q : element_header_read live s at ≡ Ok e) where
           -- The child's answer names its place by its header.
           here : (r : l.R) → r ≡ child_told e.place.at a → r ≡ child_told at a
           here r w = w ∙ ap (λ (x : ℕ). child_told x a) (header_there s at e (step_read live s at e q).1).begins

@@ -22,18 +22,14 @@ use Rattle.seekhead_rules.specs.Table.{latest_from}
 use Rattle.seekhead_rules.specs.Contract.{element_at, Holds, member_told, seek_told, inserted}
 use Rattle.seekhead_rules.specs.Contract.{with_entries, child_told}
 use Rattle.header.specs.declared.cursor.Headed.{Headed}
-use Rattle.header.specs.declared.cursor.HeaderRead.TheVariants.{Read}
 use Rattle.seekhead_rules.specs.declared.seek.Seek.{Seek}
-use Rattle.seekhead_rules.specs.declared.seek.SeekRead.{SeekRead}
-use Rattle.seekhead_rules.specs.declared.seek.SeekRead.TheVariants.{Read as SeekIs, Refused as SeekRefused}
 use Rattle.seekhead_rules.specs.declared.head.Wanted.{Wanted}
 use Rattle.seekhead_rules.specs.declared.head.Seektable.{Seektable}
-use Rattle.seekhead_rules.specs.declared.head.HeadRead.{HeadRead}
-use Rattle.seekhead_rules.specs.declared.head.HeadRead.TheVariants.{Read as HeadIs, Refused as HeadRefused}
 use Rattle.header.proofs.Inside.{header_there}
 use Rattle.seekhead_rules.proofs.PositionLaws.{latest_append, positions_append, positions_none}
 use Rattle.seekhead_rules.proofs.Levels.{Level, Lawful, told_read, told_stopped}
 use Rattle.seekhead_rules.proofs.Skims.{by_elements}
+use Rattle.std.proofs.Common.{Result, Ok, Err}
 
 -- ---- what comes after what was gathered
 
@@ -58,9 +54,9 @@ entries_join s at (node e kids rest) g =
 abbrev pub members : List ℕ → Level
 members s = record {
   A = Seek;
-  R = SeekRead;
-  read = SeekIs;
-  stop = SeekRefused;
+  R = (Result Seek Refusal);
+  read = Ok;
+  stop = Err;
   depth = 1;
   parent = seek_id;
   make = with_members s;
@@ -80,9 +76,9 @@ members_law s = record {
 abbrev pub children : List ℕ → Wanted → Level
 children s wanted = record {
   A = Seektable;
-  R = HeadRead;
-  read = HeadIs;
-  stop = HeadRefused;
+  R = (Result Seektable Refusal);
+  read = Ok;
+  stop = Err;
   depth = 0;
   parent = segment_id;
   make = with_entries s wanted;
@@ -103,13 +99,13 @@ children_law s wanted = record {
 -- ---- a member of a Seek
 
 pub member_more : (live : Bool) (s : List ℕ) (seek : Seek) (e : Headed)
-    → element_header_read live s e.place.at ≡ Read e
+    → element_header_read live s e.place.at ≡ Ok e
     → (b : Body) → Holds live s 1 seek_id e b → (r : Seek) → r ≡ noted s e (body b) seek
-    → SeekIs r ≡ member_told live s seek e
+    → Ok r ≡ member_told live s seek e
 unfolding with_members
 member_more live s seek e q b x r w =
     let t = header_there s e.place.at e (step_read live s e.place.at e q).1 in
-    rw x.holds (ap SeekIs (w ∙ ap (λ (y : Told). noted s e y seek) x.is
+    rw x.holds (ap Ok (w ∙ ap (λ (y : Told). noted s e y seek) x.is
     ∙ ap (λ (y : Headed).
     noted s y (body_of s y.payload.at e.header.size (kind_under e.header.id seek_id)) seek) t.is))
 
@@ -123,20 +119,20 @@ seek_is_master h q = rw q refl
 module _ (live : Bool) (s : List ℕ) (wanted : Wanted) (table : Seektable) (e : Headed) where
   -- What is no Seek adds nothing.
   pub other_more : (e.header.id ≡ seek_id → ⊥) → (b : Body) → Holds live s 0 segment_id e b
-      → HeadIs table ≡ child_told live s wanted table e
+      → Ok table ≡ child_told live s wanted table e
   unfolding with_entries entries entry_of latest_from
   other_more o b x =
       rw (x.holds, ne_eqb e.header.id seek_id o, positions_none wanted table.parts) refl
 
-  module _ (there : element_header_read live s e.place.at ≡ Read e) (q : e.header.id ≡ seek_id) where
+  module _ (there : element_header_read live s e.place.at ≡ Ok e) (q : e.header.id ≡ seek_id) where
     -- A Seek is its members.
     by_members : element_at live s 0 segment_id e.place.at
         ≡ above (element_of segment_id e.header) (seek_body live s e)
     by_members =
         by_elements live s 0 segment_id e there (omega arith) (seek_is_master e.header q) ∙ rw q refl
 
-    pub seek_refusal : (x : Refusal) → SeekRefused x ≡ seek_told live s e
-        → HeadRefused x ≡ child_told live s wanted table e
+    pub seek_refusal : (x : Refusal) → Err x ≡ seek_told live s e
+        → Err x ≡ child_told live s wanted table e
     seek_refusal x w = rw (by_members, told_stopped live s (members s) (members_law s) _ x (seek_body live s e) w) refl
 
     its_entry : (f : Forest)
@@ -145,10 +141,10 @@ module _ (live : Bool) (s : List ℕ) (wanted : Wanted) (table : Seektable) (e :
     unfolding entries entry_of
     its_entry f = rw (q, (header_there s e.place.at e (step_read live s e.place.at e there).1).behind) refl
 
-    pub seek_more : (x : Seek) → SeekIs x ≡ seek_told live s e
-        → (r : Seektable) → r ≡ inserted wanted table (x ∷ []) → HeadIs r ≡ child_told live s wanted table e
+    pub seek_more : (x : Seek) → Ok x ≡ seek_told live s e
+        → (r : Seektable) → r ≡ inserted wanted table (x ∷ []) → Ok r ≡ child_told live s wanted table e
     unfolding with_entries
     seek_more x w r i =
         let (f, k, y) = told_read live s (members s) (members_law s) _ x (seek_body live s e) w in
-        rw (by_members, k) (ap HeadIs (i ∙ ap (λ (v : Seek). inserted wanted table (v ∷ [])) y
+        rw (by_members, k) (ap Ok (i ∙ ap (λ (v : Seek). inserted wanted table (v ∷ [])) y
         ∙ ap (inserted wanted table) (its_entry f)))

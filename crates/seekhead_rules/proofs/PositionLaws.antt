@@ -12,15 +12,14 @@ use Rattle.seekhead_rules.specs.Seeks.{last_four}
 use Rattle.seekhead_rules.specs.Table.{later, latest_from, positions_from}
 use Rattle.seekhead_rules.specs.Theorems.{latest_each, PositionsEach}
 use Rattle.seekhead_rules.specs.declared.seek.Seek.{Seek}
-use Rattle.seekhead_rules.specs.declared.head.Latest.{Latest}
-use Rattle.seekhead_rules.specs.declared.head.Latest.TheVariants.{At}
 use Rattle.seekhead_rules.specs.declared.head.Wanted.{Wanted}
 use Rattle.seekhead_rules.specs.declared.head.Positions.{Positions}
+use Rattle.std.proofs.Common.{Option, Some}
 
 -- ---- the last entry of an id wins
 
-module _ (id : ℕ) (old : Latest) (seek : Seek) where
-  pub later_same : seek.id ≡ id → At seek.position ≡ later id old seek
+module _ (id : ℕ) (old : Option ℕ) (seek : Seek) where
+  pub later_same : seek.id ≡ id → Some seek.position ≡ later id old seek
   unfolding later
   later_same q = rw (eq-eqb seek.id id q) refl
 
@@ -30,7 +29,7 @@ module _ (id : ℕ) (old : Latest) (seek : Seek) where
 
 -- ---- more entries after others
 
-pub latest_append : (id : ℕ) (old : Latest) (es fs : List Seek)
+pub latest_append : (id : ℕ) (old : Option ℕ) (es fs : List Seek)
     → latest_from id old (es ++ fs) ≡ latest_from id (latest_from id old es) fs
 unfolding latest_from
 latest_append id old [] fs = refl

@@ -12,24 +12,17 @@ use Rattle.seekhead_rules.specs.Seeks.{segment_id, seek_head_id, seek_id, withou
 use Rattle.seekhead_rules.specs.Seeks.{head_of, seek_body, entries}
 use Rattle.seekhead_rules.specs.Table.{latest_from, positions_from}
 use Rattle.header.specs.declared.cursor.Headed.{Headed}
-use Rattle.header.specs.declared.cursor.HeaderRead.TheVariants.{Read}
 use Rattle.seekhead_rules.specs.declared.seek.Seek.{Seek}
-use Rattle.seekhead_rules.specs.declared.seek.SeekRead.{SeekRead}
-use Rattle.seekhead_rules.specs.declared.seek.SeekRead.TheVariants.{Read as SeekIs, Refused as SeekRefused}
-use Rattle.seekhead_rules.specs.declared.skim.SkimRead.{SkimRead}
-use Rattle.seekhead_rules.specs.declared.skim.SkimRead.TheVariants.{Read as Skim, Refused as SkimRefused}
 use Rattle.seekhead_rules.specs.declared.head.Wanted.{Wanted}
-use Rattle.seekhead_rules.specs.declared.head.Latest.TheVariants.{Nowhere}
 use Rattle.seekhead_rules.specs.declared.head.Positions.{Positions}
 use Rattle.seekhead_rules.specs.declared.head.Seektable.{Seektable}
-use Rattle.seekhead_rules.specs.declared.head.HeadRead.{HeadRead}
-use Rattle.seekhead_rules.specs.declared.head.HeadRead.TheVariants.{Read as HeadIs, Refused as HeadRefused}
+use Rattle.std.specs.Prelude.{Result, Ok, Err, None}
 
 -- What a reader of an element of a payload asks: a recording within its limit, and an element whose header was read by
 -- the element rules.
 pub record Taken (live : Bool) (s : List ℕ) (e : Headed) : Type 0 where
   pub small : length s ≤ most_bytes
-  pub there : element_header_read live s e.place.at ≡ Read e
+  pub there : element_header_read live s e.place.at ≡ Ok e
 
 -- The whole payload of an element is in the recording.
 abbrev pub Whole : List ℕ → Headed → Type 0
@@ -51,9 +44,9 @@ pub record Holds (live : Bool) (s : List ℕ) (depth parent : ℕ) (e : Headed) 
   pub inside : Whole s e
 
 -- What `skim_body` answers: the body and what it holds, or the element's refusal.
-pub record Skimmed (live : Bool) (s : List ℕ) (depth parent : ℕ) (e : Headed) (r : SkimRead) : Type 0 where
-  pub refusal : (x : Refusal) → r ≡ SkimRefused x → element_at live s depth parent e.place.at ≡ refused x
-  pub body : (b : Body) → r ≡ Skim b → Holds live s depth parent e b
+pub record Skimmed (live : Bool) (s : List ℕ) (depth parent : ℕ) (e : Headed) (r : Result Body Refusal) : Type 0 where
+  pub refusal : (x : Refusal) → r ≡ Err x → element_at live s depth parent e.place.at ≡ refused x
+  pub body : (b : Body) → r ≡ Ok b → Holds live s depth parent e b
 
 -- ---- how the readers tell
 
@@ -63,13 +56,13 @@ told read stop make (done f) = read (make f)
 told read stop make (refused e) = stop e
 
 -- A Seek with one more member: `seek_member`.
-abbrev pub member_told : (live : Bool) → List ℕ → Seek → Headed → SeekRead
+abbrev pub member_told : (live : Bool) → List ℕ → Seek → Headed → Result Seek Refusal
 member_told live s seek e =
-    told SeekIs SeekRefused (λ f. with_members s e.place.at f seek) (element_at live s 1 seek_id e.place.at)
+    told Ok Err (λ f. with_members s e.place.at f seek) (element_at live s 1 seek_id e.place.at)
 
 -- A Seek with all its members: `seek_body`.
-abbrev pub seek_told : (live : Bool) → List ℕ → Headed → SeekRead
-seek_told live s e = told SeekIs SeekRefused (λ f. with_members s e.payload.at f no_seek) (seek_body live s e)
+abbrev pub seek_told : (live : Bool) → List ℕ → Headed → Result Seek Refusal
+seek_told live s e = told Ok Err (λ f. with_members s e.payload.at f no_seek) (seek_body live s e)
 
 -- A table with more entries, and with those of the elements that begin at an address.
 abbrev pub inserted : Wanted → Seektable → List Seek → Seektable
@@ -80,16 +73,16 @@ unfoldable pub with_entries : List ℕ → Wanted → ℕ → Forest → Seektab
 with_entries s wanted at f table = inserted wanted table (entries s at f)
 
 -- A table with one more child of a head: `head_child`.
-abbrev pub child_told : (live : Bool) → List ℕ → Wanted → Seektable → Headed → HeadRead
+abbrev pub child_told : (live : Bool) → List ℕ → Wanted → Seektable → Headed → Result Seektable Refusal
 child_told live s wanted table e =
-    told HeadIs HeadRefused (λ f. with_entries s wanted e.place.at f table)
+    told Ok Err (λ f. with_entries s wanted e.place.at f table)
     (element_at live s 0 segment_id e.place.at)
 
 -- Before a head was read, with the positions by those before.
 abbrev pub fresh : Positions → Seektable
-fresh parts = record { parts = parts; head = Nowhere }
+fresh parts = record { parts = parts; head = None }
 
 -- The positions with those of a head, and the link to a further one: `head_body`.
-abbrev pub head_told : (live : Bool) → List ℕ → Wanted → Positions → Headed → HeadRead
+abbrev pub head_told : (live : Bool) → List ℕ → Wanted → Positions → Headed → Result Seektable Refusal
 head_told live s wanted parts e =
-    told HeadIs HeadRefused (λ f. with_entries s wanted e.payload.at f (fresh parts)) (head_of live s e)
+    told Ok Err (λ f. with_entries s wanted e.payload.at f (fresh parts)) (head_of live s e)

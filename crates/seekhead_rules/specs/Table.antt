@@ -1,26 +1,25 @@
 -- The table of a search: the latest position of each wanted id (document 01, Seek tables and the search).
 use Rattle.std.specs.Prelude.{ℕ, List, [], ◌∷◌, cond, eqb}
 use Rattle.seekhead_rules.specs.declared.seek.Seek.{Seek}
-use Rattle.seekhead_rules.specs.declared.head.Latest.{Latest}
-use Rattle.seekhead_rules.specs.declared.head.Latest.TheVariants.{Nowhere, At}
 use Rattle.seekhead_rules.specs.declared.head.Wanted.{Wanted}
 use Rattle.seekhead_rules.specs.declared.head.Positions.{Positions}
+use Rattle.std.specs.Prelude.{Option, Some, None}
 
-abbrev pub on_latest : {A : Type 0} → Latest → A → (ℕ → A) → A
-on_latest Nowhere none some = none
-on_latest (At position) none some = some position
+abbrev pub on_latest : {A : Type 0} → Option ℕ → A → (ℕ → A) → A
+on_latest None none some = none
+on_latest (Some position) none some = some position
 
 -- After one more entry: the last Seek of an id wins.
-unfoldable pub later : ℕ → Latest → Seek → Latest
-later id old seek = cond (eqb seek.id id) (At seek.position) old
+unfoldable pub later : ℕ → Option ℕ → Seek → Option ℕ
+later id old seek = cond (eqb seek.id id) (Some seek.position) old
 
 -- After more entries.
-unfoldable pub latest_from : ℕ → Latest → List Seek → Latest
+unfoldable pub latest_from : ℕ → Option ℕ → List Seek → Option ℕ
 latest_from id old [] = old
 latest_from id old (seek ∷ seeks) = latest_from id (later id old seek) seeks
 
-abbrev pub latest : ℕ → List Seek → Latest
-latest id seeks = latest_from id Nowhere seeks
+abbrev pub latest : ℕ → List Seek → Option ℕ
+latest id seeks = latest_from id None seeks
 
 -- ---- a set of ids
 
@@ -39,7 +38,7 @@ positions_from wanted old seeks = record {
 }
 
 abbrev pub no_positions : Positions
-no_positions = record { first = Nowhere; second = Nowhere; third = Nowhere; fourth = Nowhere; fifth = Nowhere }
+no_positions = record { first = None; second = None; third = None; fourth = None; fifth = None }
 
 -- The latest position of each wanted id.
 abbrev pub positions : Wanted → List Seek → Positions

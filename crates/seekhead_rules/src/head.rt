@@ -11,33 +11,19 @@ pub struct Wanted {
     pub fifth: u32,
 }
 
-// The latest position of an id, if there is one.
-#[derive(Clone, Copy)]
-pub enum Latest {
-    Nowhere,
-    At(u64),
-}
-
 // The latest position of each wanted id.
 #[derive(Clone, Copy)]
 pub struct Positions {
-    pub first: Latest,
-    pub second: Latest,
-    pub third: Latest,
-    pub fourth: Latest,
-    pub fifth: Latest,
+    pub first: Option<u64>,
+    pub second: Option<u64>,
+    pub third: Option<u64>,
+    pub fourth: Option<u64>,
+    pub fifth: Option<u64>,
 }
 
 // The positions of the wanted ids over all heads so far, and that of a further seek head by this head's own entries.
 #[derive(Clone, Copy)]
 pub struct Seektable {
     pub parts: Positions,
-    pub head: Latest,
-}
-
-// The table with a head's entries, or a refusal.
-#[derive(Clone, Copy)]
-pub enum HeadRead {
-    Read(Seektable),
-    Refused(Refusal),
+    pub head: Option<u64>,
 }

@@ -5,6 +5,5 @@ mod head;
 mod seek;
 mod skim;
 
-pub use head::{HeadRead, Latest, Positions, Seektable, Wanted};
-pub use seek::{Seek, SeekRead};
-pub use skim::SkimRead;
+pub use head::{Positions, Seektable, Wanted};
+pub use seek::Seek;

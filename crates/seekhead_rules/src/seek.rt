@@ -8,10 +8,3 @@ pub struct Seek {
     pub position: u64,
     pub id: u32,
 }
-
-// A Seek, or a refusal.
-#[derive(Clone, Copy)]
-pub enum SeekRead {
-    Read(Seek),
-    Refused(Refusal),
-}

@@ -12,10 +12,15 @@ use refusals::{Cause, Refusal};
 use segments_rules::{Aim, Met};
 use sizes::is_unknown;
 use walks::{child_at, pass_over};
-use walks_rules::{ChildRead, Passed, Stretch};
+use walks_rules::Stretch;
 
 // The place behind a child that is passed over, by what its segment holds; 3 where it overruns a segment of known size.
-pub fn past_child(recording: &[u8], live: bool, stretch: Stretch, child: Headed) -> Passed
+pub fn past_child(
+    recording: &[u8],
+    live: bool,
+    stretch: Stretch,
+    child: Headed,
+) -> Result<u64, Refusal>
     requires { Readable recording.now child }
     ensures { PastIn live recording.now stretch child result }
 {
@@ -26,14 +31,14 @@ pub fn past_child(recording: &[u8], live: bool, stretch: Stretch, child: Headed)
     match stretch {
         Stretch::Sized(end) => {
             if end < next {
-                return Passed::Refused(Refusal {
+                return Err(Refusal {
                     address: child.place.at,
                     cause: Cause::Overrun,
                 });
             }
-            Passed::At(next)
+            Ok(next)
         }
-        Stretch::Endless { id: _, end: _ } => Passed::At(next),
+        Stretch::Endless { id: _, end: _ } => Ok(next),
     }
 }
 
@@ -63,7 +68,13 @@ fn aims_at(aim: Aim, id: u32) -> bool
 
 // The first child from an address on that is a seek head or is looked for. The bytes of a child that is passed over
 // need not exist.
-pub fn meet(recording: &[u8], live: bool, aim: Aim, segment: Headed, from: u64) -> Met
+pub fn meet(
+    recording: &[u8],
+    live: bool,
+    aim: Aim,
+    segment: Headed,
+    from: u64,
+) -> Result<Met, Refusal>
     requires { Readable recording.now segment }
     ensures { result ≡ met_from live recording.now aim segment from }
 {
@@ -72,25 +83,25 @@ pub fn meet(recording: &[u8], live: bool, aim: Aim, segment: Headed, from: u64) 
     loop {
         let place = Cursor { at };
         match child_at(recording, live, place, stretch) {
-            ChildRead::Refused(refusal) => {
-                return Met::Refused(refusal);
+            Err(refusal) => {
+                return Err(refusal);
             }
-            ChildRead::End => {
-                return Met::End;
+            Ok(None) => {
+                return Ok(Met::End);
             }
-            ChildRead::Child(child) => {
+            Ok(Some(child)) => {
                 let id = child.header.id;
                 if id == ids::SEEKHEAD {
-                    return Met::Head(child);
+                    return Ok(Met::Head(child));
                 }
                 if aims_at(aim, id) {
-                    return Met::Part(child);
+                    return Ok(Met::Part(child));
                 }
                 match past_child(recording, live, stretch, child) {
-                    Passed::Refused(refusal) => {
-                        return Met::Refused(refusal);
+                    Err(refusal) => {
+                        return Err(refusal);
                     }
-                    Passed::At(next) => {
+                    Ok(next) => {
                         at = next;
                     }
                 }

@@ -3,14 +3,14 @@ ghost use Rattle.std.specs.Prelude.{◌≡◌, ◌≤◌, length};
 ghost use Rattle.header.specs.Promise.{most_bytes};
 ghost use Rattle.segments_rules.specs.Segment.{segment_of};
 
-use header::{Cursor, HeaderRead};
+use header::{Cursor, Headed};
 use kinds::ids;
 use refusals::{Cause, Refusal};
 use walks::{child_at, pass_over};
-use walks_rules::{ChildRead, Passed, Stretch};
+use walks_rules::Stretch;
 
 // The segment. Elements before it are passed over: by size, or in live mode a Cluster of unknown size by its ending.
-pub fn segment_of(recording: &[u8], live: bool) -> HeaderRead
+pub fn segment_of(recording: &[u8], live: bool) -> Result<Headed, Refusal>
     requires { length recording.now ≤ most_bytes }
     ensures { result ≡ segment_of live recording.now }
 {
@@ -20,24 +20,24 @@ pub fn segment_of(recording: &[u8], live: bool) -> HeaderRead
     loop {
         let place = Cursor { at };
         match child_at(recording, live, place, stretch) {
-            ChildRead::Refused(refusal) => {
-                return HeaderRead::Refused(refusal);
+            Err(refusal) => {
+                return Err(refusal);
             }
-            ChildRead::End => {
-                return HeaderRead::Refused(Refusal {
+            Ok(None) => {
+                return Err(Refusal {
                     address: at,
                     cause: Cause::PastEnd,
                 });
             }
-            ChildRead::Child(element) => {
+            Ok(Some(element)) => {
                 if element.header.id == ids::SEGMENT {
-                    return HeaderRead::Read(element);
+                    return Ok(element);
                 }
                 match pass_over(recording, live, end, element) {
-                    Passed::Refused(refusal) => {
-                        return HeaderRead::Refused(refusal);
+                    Err(refusal) => {
+                        return Err(refusal);
                     }
-                    Passed::At(next) => {
+                    Ok(next) => {
                         at = next;
                     }
                 }

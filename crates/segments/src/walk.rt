@@ -9,15 +9,14 @@ ghost use Rattle.segments_rules.specs.Segment.{segment_children, lookup_of};
 ghost use Rattle.segments_rules.specs.Contract.{visit_told};
 
 use crate::segment::segment_of;
-use header::{Cursor, Headed, HeaderRead};
+use header::{Cursor, Headed};
 use kinds::ids;
 use refusals::{Cause, Refusal};
 use seekchain::by_heads;
-use seekchain_rules::PartPlace;
 use segments_rules::Visit;
 use sizes::is_unknown;
 use walks::{child_at, pass_over};
-use walks_rules::{ChildRead, Passed, Stretch};
+use walks_rules::Stretch;
 
 // What a segment holds: up to the end that its size names, or in live mode, where that is unknown, up to its ending.
 pub fn stretch_of(recording: &[u8], live: bool, segment: Headed) -> Stretch
@@ -68,17 +67,19 @@ fn visit_child(recording: &[u8], live: bool, wanted: u32, segment: Headed, child
         return Visit::Ends(by_heads(recording, live, wanted, segment.payload.at, child));
     }
     if id == wanted {
-        return Visit::Ends(PartPlace::Found {
-            part: child,
-            heads: 0,
-        });
+        return Visit::Ends(Ok((Some(child), 0)));
     }
     Visit::Over
 }
 
 // The children of a segment whose header was read, in turn. The bytes of a child that is passed over need not exist; 3
 // if it was larger than what was left.
-fn walk(recording: &[u8], live: bool, wanted: u32, segment: Headed) -> PartPlace
+fn walk(
+    recording: &[u8],
+    live: bool,
+    wanted: u32,
+    segment: Headed,
+) -> Result<(Option<Headed>, u64), Refusal>
     requires { Readable recording.now segment }
     ensures { result ≡ place_told (segment_children live recording.now wanted segment) }
 {
@@ -88,28 +89,28 @@ fn walk(recording: &[u8], live: bool, wanted: u32, segment: Headed) -> PartPlace
     loop {
         let place = Cursor { at };
         match child_at(recording, live, place, stretch) {
-            ChildRead::Refused(refusal) => {
-                return PartPlace::Refused(refusal);
+            Err(refusal) => {
+                return Err(refusal);
             }
-            ChildRead::End => {
-                return PartPlace::Absent { heads: 0 };
+            Ok(None) => {
+                return Ok((None, 0));
             }
-            ChildRead::Child(child) => match visit_child(recording, live, wanted, segment, child) {
+            Ok(Some(child)) => match visit_child(recording, live, wanted, segment, child) {
                 Visit::Ends(found) => {
                     return found;
                 }
                 Visit::Over => {
                     if overruns(recording, live, segment, child) {
-                        return PartPlace::Refused(Refusal {
+                        return Err(Refusal {
                             address: child.place.at,
                             cause: Cause::Overrun,
                         });
                     }
                     match pass_over(recording, live, end, child) {
-                        Passed::Refused(refusal) => {
-                            return PartPlace::Refused(refusal);
+                        Err(refusal) => {
+                            return Err(refusal);
                         }
-                        Passed::At(next) => {
+                        Ok(next) => {
                             at = next;
                         }
                     }
@@ -120,12 +121,12 @@ fn walk(recording: &[u8], live: bool, wanted: u32, segment: Headed) -> PartPlace
 }
 
 // Where the wanted part is.
-pub fn look_up(recording: &[u8], live: bool, wanted: u32) -> PartPlace
+pub fn look_up(recording: &[u8], live: bool, wanted: u32) -> Result<(Option<Headed>, u64), Refusal>
     requires { length recording.now ≤ most_bytes }
     ensures { result ≡ place_told (lookup_of live recording.now wanted) }
 {
     match segment_of(recording, live) {
-        HeaderRead::Refused(refusal) => PartPlace::Refused(refusal),
-        HeaderRead::Read(segment) => walk(recording, live, wanted, segment),
+        Err(refusal) => Err(refusal),
+        Ok(segment) => walk(recording, live, wanted, segment),
     }
 }

@@ -16,10 +16,6 @@ use Rattle.walks_rules.specs.Step.{child_at, on_child}
 use Rattle.walks_rules.specs.Walk.{Visit, ends, over, on_visit, on_passed, Walk}
 use Rattle.walks_rules.specs.Endings.{pass_over, end_of, room_of, walk_from}
 use Rattle.walks_rules.specs.declared.step.Stretch.{Stretch}
-use Rattle.walks_rules.specs.declared.step.ChildRead.{ChildRead}
-use Rattle.walks_rules.specs.declared.step.ChildRead.TheVariants.{Child, End as Ended, Refused}
-use Rattle.walks_rules.specs.declared.pass.Passed.{Passed}
-use Rattle.walks_rules.specs.declared.pass.Passed.TheVariants.{At, Refused as Lost}
 use Rattle.walks_rules.proofs.Bounds.{holds, Ended as HoldsEnded}
 use Rattle.walks_rules.proofs.Steps.{Stepped, stepped_on, less_room}
 use Rattle.walks_rules.proofs.Endings.{pass_onward}
@@ -31,15 +27,16 @@ use Rattle.segments_rules.specs.Segment.{meets, meeting, met_from, visit, search
 use Rattle.segments_rules.specs.Theorems.{after_met, SearchMeets}
 use Rattle.segments_rules.specs.declared.walk.Aim.{Aim}
 use Rattle.segments_rules.specs.declared.walk.Aim.TheVariants.{One}
+use Rattle.segments_rules.specs.declared.walk.Met.TheVariants.{Head, Part, End}
+use Rattle.std.proofs.Common.{Result, Option, Ok, Err, Some, None}
 use Rattle.segments_rules.specs.declared.walk.Met.{Met}
-use Rattle.segments_rules.specs.declared.walk.Met.TheVariants.{Head, Part, End, Refused as Unmet}
 
 module _ (live : Bool) (s : List ℕ) (segment : Headed) where
   abbrev stretch : Stretch
   stretch = stretch_of live s segment
 
   -- The place behind a child of the segment.
-  abbrev pub passed : Headed → Passed
+  abbrev pub passed : Headed → Result ℕ Refusal
   passed e = past_child live s segment e
 
   module _ {A B : Type 0} (w : Walk A B) where
@@ -63,7 +60,7 @@ module _ (live : Bool) (s : List ℕ) (segment : Headed) where
         by : (t : Bool)
             → on_visit {A = A} (cond t (ends (w.stop (overrun e.place.at))) (over more)) (λ b. b)
             (λ x. on_passed (pass_over live s (end_of stretch) e) w.stop (λ next. along next x))
-            ≡ on_passed (cond t (Lost (overrun e.place.at)) (pass_over live s (end_of stretch) e)) w.stop
+            ≡ on_passed (cond t (Err (overrun e.place.at)) (pass_over live s (end_of stretch) e)) w.stop
             (λ next. along next more)
         by true = refl
         by false = refl
@@ -74,22 +71,22 @@ module _ (live : Bool) (s : List ℕ) (segment : Headed) where
     along_unfolds at a =
         walk_unfolds A B live s stretch (within_segment live segment w) at a ∙ by (child_at live s stretch at)
       where
-        by : (x : ChildRead)
+        by : (x : Result (Option Headed) Refusal)
             → on_child x (w.ended at a) w.stop (λ e.
             on_visit ((within_segment live segment w).visit a e) (λ b. b) (λ more.
             on_passed (pass_over live s (end_of stretch) e) w.stop (λ next. along next more)))
             ≡ on_child x (w.ended at a) w.stop (λ e. visited e (w.visit a e))
-        by (Child e) = as_visited e (w.visit a e)
-        by Ended = refl
-        by (Refused r) = refl
+        by (Ok (Some e)) = as_visited e (w.visit a e)
+        by (Ok None) = refl
+        by (Err r) = refl
 
   -- A child that is passed over leaves less room.
-  pub less : (at : ℕ) (e : Headed) (next : ℕ) → child_at live s stretch at ≡ Child e → passed e ≡ At next
+  pub less : (at : ℕ) (e : Headed) (next : ℕ) → child_at live s stretch at ≡ Ok (Some e) → passed e ≡ Ok next
       → room_of s stretch next < room_of s stretch at
   unfolding past_child
   less at e next q p = by (overruns live segment e) p
     where
-      by : (t : Bool) → cond t (Lost (overrun e.place.at)) (pass_over live s (end_of stretch) e) ≡ At next
+      by : (t : Bool) → cond t (Err (overrun e.place.at)) (pass_over live s (end_of stretch) e) ≡ Ok next
           → room_of s stretch next < room_of s stretch at
       by true p = let z : ◌≡◌ {A = ℕ} 0 1 = cc in absurd (omega arith)
       by false p =
@@ -103,46 +100,46 @@ module _ (live : Bool) (s : List ℕ) (segment : Headed) (aim : Aim) {A B : Type
     (skips :
     (e : Headed) → eqb e.header.id seek_head_id ≡ false → aims_at aim e.header.id ≡ false → w.visit a e ≡ over a)
   where
-    abbrev pub after : Met → B
-    after (Head e) = visited live s segment w e (w.visit a e)
-    after (Part e) = visited live s segment w e (w.visit a e)
-    after End = z
-    after (Unmet r) = w.stop r
+    abbrev pub after : Result Met Refusal → B
+    after (Ok (Head e)) = visited live s segment w e (w.visit a e)
+    after (Ok (Part e)) = visited live s segment w e (w.visit a e)
+    after (Ok End) = z
+    after (Err r) = w.stop r
 
     abbrev Meets : ℕ → Type 0
     Meets at = along live s segment w at a ≡ after (met_from live s aim segment at)
 
     by_turn : (at : ℕ)
-        → ((e : Headed) (next : ℕ) → child_at live s (stretch_of live s segment) at ≡ Child e
-        → passed live s segment e ≡ At next → Meets next)
+        → ((e : Headed) (next : ℕ) → child_at live s (stretch_of live s segment) at ≡ Ok (Some e)
+        → passed live s segment e ≡ Ok next → Meets next)
         → Meets at
     unfolding meets
     by_turn at more =
         along_unfolds live s segment w at a ∙ by (child_at live s (stretch_of live s segment) at) refl
         ∙ sym (ap after (along_unfolds live s segment (meeting aim) at tt))
       where
-        by_pass : (e : Headed) → child_at live s (stretch_of live s segment) at ≡ Child e
-            → (y : Passed) → passed live s segment e ≡ y
+        by_pass : (e : Headed) → child_at live s (stretch_of live s segment) at ≡ Ok (Some e)
+            → (y : Result ℕ Refusal) → passed live s segment e ≡ y
             → on_passed y w.stop (λ next. along live s segment w next a)
-            ≡ after (on_passed y Unmet (λ next. met_from live s aim segment next))
-        by_pass e q (At next) p = more e next q p
-        by_pass e q (Lost r) p = refl
+            ≡ after (on_passed y Err (λ next. met_from live s aim segment next))
+        by_pass e q (Ok next) p = more e next q p
+        by_pass e q (Err r) p = refl
 
-        by_id : (e : Headed) → child_at live s (stretch_of live s segment) at ≡ Child e
+        by_id : (e : Headed) → child_at live s (stretch_of live s segment) at ≡ Ok (Some e)
             → (b : Bool) → eqb e.header.id seek_head_id ≡ b → (c : Bool) → aims_at aim e.header.id ≡ c
             → visited live s segment w e (w.visit a e)
-            ≡ after (visited live s segment (meeting aim) e (cond b (ends (Head e)) (cond c (ends (Part e)) (over tt))))
+            ≡ after (visited live s segment (meeting aim) e (cond b (ends (Ok (Head e))) (cond c (ends (Ok (Part e))) (over tt))))
         by_id e q true p c o = refl
         by_id e q false p true o = refl
         by_id e q false p false o =
             ap (visited live s segment w e) (skips e p o) ∙ by_pass e q (passed live s segment e) refl
 
-        by : (x : ChildRead) → child_at live s (stretch_of live s segment) at ≡ x
+        by : (x : Result (Option Headed) Refusal) → child_at live s (stretch_of live s segment) at ≡ x
             → on_child x (w.ended at a) w.stop (λ e. visited live s segment w e (w.visit a e))
-            ≡ after (on_child x End Unmet (λ e. visited live s segment (meeting aim) e (meets aim e)))
-        by (Child e) q = by_id e q (eqb e.header.id seek_head_id) refl (aims_at aim e.header.id) refl
-        by Ended q = at_end at
-        by (Refused r) q = refl
+            ≡ after (on_child x (Ok End) Err (λ e. visited live s segment (meeting aim) e (meets aim e)))
+        by (Ok (Some e)) q = by_id e q (eqb e.header.id seek_head_id) refl (aims_at aim e.header.id) refl
+        by (Ok None) q = at_end at
+        by (Err r) q = refl
 
     within_room : (n at : ℕ) → room_of s (stretch_of live s segment) at ≤ n → Meets at
     within_room zero at k =
@@ -160,22 +157,22 @@ module _ (live : Bool) (s : List ℕ) (segment : Headed) (aim : Aim) {A B : Type
 
 -- A child that the walk comes to from a place on.
 pub record Reached (live : Bool) (s : List ℕ) (segment : Headed) (from : ℕ) (e : Headed) : Type 0 where
-  pub child : child_at live s (stretch_of live s segment) e.place.at ≡ Child e
+  pub child : child_at live s (stretch_of live s segment) e.place.at ≡ Ok (Some e)
   pub stepped : Stepped live s (stretch_of live s segment) e.place.at e
   pub room : room_of s (stretch_of live s segment) e.place.at ≤ room_of s (stretch_of live s segment) from
 
 module _ (live : Bool) (s : List ℕ) (segment : Headed) (aim : Aim) (from : ℕ) where
-  abbrev pub IsMet : Met → Type 0
-  IsMet (Head e) = Reached live s segment from e × (eqb e.header.id seek_head_id ≡ true)
-  IsMet (Part e) =
+  abbrev pub IsMet : Result Met Refusal → Type 0
+  IsMet (Ok (Head e)) = Reached live s segment from e × (eqb e.header.id seek_head_id ≡ true)
+  IsMet (Ok (Part e)) =
       Reached live s segment from e × (eqb e.header.id seek_head_id ≡ false) × (aims_at aim e.header.id ≡ true)
-  IsMet End = Unit
-  IsMet (Unmet r) = Unit
+  IsMet (Ok End) = Unit
+  IsMet (Err r) = Unit
 
   abbrev stretch' : Stretch
   stretch' = stretch_of live s segment
 
-  reached : (at : ℕ) (e : Headed) → room_of s stretch' at ≤ room_of s stretch' from → child_at live s stretch' at ≡ Child e
+  reached : (at : ℕ) (e : Headed) → room_of s stretch' at ≤ room_of s stretch' from → child_at live s stretch' at ≡ Ok (Some e)
       → Reached live s segment from e
   reached at e k q =
       let t = stepped_on live s stretch' at e q in
@@ -199,28 +196,28 @@ module _ (live : Bool) (s : List ℕ) (segment : Headed) (aim : Aim) (from : ℕ
       (room_of s stretch' from) from tt (omega arith)
     where
       by_over : (e : Headed) (t : Bool)
-          → HoldsEnded {A = Unit} IsMet (cond t (ends (Unmet (overrun e.place.at))) (over tt))
+          → HoldsEnded {A = Unit} IsMet (cond t (ends (Err (overrun e.place.at))) (over tt))
       by_over e true = tt
       by_over e false = tt
 
       by_id : (e : Headed) → Reached live s segment from e
           → (b : Bool) → eqb e.header.id seek_head_id ≡ b → (c : Bool) → aims_at aim e.header.id ≡ c
           → HoldsEnded {A = Unit} IsMet
-          (on_visit (cond b (ends (Head e)) (cond c (ends (Part e)) (over tt))) ends (λ more.
-          cond (overruns live segment e) (ends (Unmet (overrun e.place.at))) (over more)))
+          (on_visit (cond b (ends (Ok (Head e))) (cond c (ends (Ok (Part e))) (over tt))) ends (λ more.
+          cond (overruns live segment e) (ends (Err (overrun e.place.at))) (over more)))
       by_id e r true p c o = (r, p)
       by_id e r false p true o = (r, p, o)
       by_id e r false p false o = by_over e (overruns live segment e)
 
 -- What an element that is met is.
 pub head_met : (live : Bool) (s : List ℕ) (segment : Headed) (aim : Aim) (from : ℕ) (e : Headed)
-    → met_from live s aim segment from ≡ Head e
+    → met_from live s aim segment from ≡ Ok (Head e)
     → Reached live s segment from e × (eqb e.header.id seek_head_id ≡ true)
 head_met live s segment aim from e q =
     subst (IsMet live s segment aim from) q (is_met live s segment aim from)
 
 pub part_met : (live : Bool) (s : List ℕ) (segment : Headed) (aim : Aim) (from : ℕ) (e : Headed)
-    → met_from live s aim segment from ≡ Part e
+    → met_from live s aim segment from ≡ Ok (Part e)
     → Reached live s segment from e × (eqb e.header.id seek_head_id ≡ false) × (aims_at aim e.header.id ≡ true)
 part_met live s segment aim from e q =
     subst (IsMet live s segment aim from) q (is_met live s segment aim from)
@@ -241,17 +238,17 @@ search_meets live s wanted segment at =
     (λ e p o. rw (p, o) refl) at
     ∙ by (met_from live s (One wanted) segment at) (is_met live s segment (One wanted) at)
   where
-    by : (m : Met) → IsMet live s segment (One wanted) at m
+    by : (m : Result Met Refusal) → IsMet live s segment (One wanted) at m
         → after live s segment (One wanted) (searching live s wanted segment) tt (absent []) (λ place. refl)
         (λ e p o. rw (p, o) refl) m
         ≡ after_met live s wanted segment m
-    by (Head e) (r, p) = rw p refl
-    by (Part e) (r, p, o) = rw (p, o) refl
-    by End m = refl
-    by (Unmet r) m = refl
+    by (Ok (Head e)) (r, p) = rw p refl
+    by (Ok (Part e)) (r, p, o) = rw (p, o) refl
+    by (Ok End) m = refl
+    by (Err r) m = refl
 
 -- The search in a segment, by what is met from its start on.
-pub search_as : (live : Bool) (s : List ℕ) (wanted : ℕ) (segment : Headed) (m : Met)
+pub search_as : (live : Bool) (s : List ℕ) (wanted : ℕ) (segment : Headed) (m : Result Met Refusal)
     → met_from live s (One wanted) segment segment.payload.at ≡ m
     → segment_children live s wanted segment ≡ after_met live s wanted segment m
 unfolding segment_children

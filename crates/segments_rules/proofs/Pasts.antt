@@ -13,11 +13,11 @@ use Rattle.sizes.specs.Unknown.{unknown}
 use Rattle.walks_rules.specs.Endings.{pass_over, end_of}
 use Rattle.walks_rules.specs.declared.step.Stretch.{Stretch}
 use Rattle.walks_rules.specs.declared.step.Stretch.TheVariants.{Sized, Endless}
-use Rattle.walks_rules.specs.declared.pass.Passed.{Passed}
-use Rattle.walks_rules.specs.declared.pass.Passed.TheVariants.{At, Refused as Lost}
 use Rattle.seekhead_rules.specs.Seeks.{segment_id}
 use Rattle.segments_rules.specs.Segment.{stretch_of, overruns, past_child}
 use Rattle.segments_rules.specs.Contract.{PastIn}
+use Rattle.std.proofs.Common.{Result, Ok, Err}
+use Rattle.refusals.specs.declared.refusal.Refusal.{Refusal}
 
 -- What a segment holds tells whether its size is known, and its end.
 sized_known : (live : Bool) (s : List ℕ) (segment : Headed) (end : ℕ) → Sized end ≡ stretch_of live s segment
@@ -45,35 +45,35 @@ endless_unknown live s segment id end q = by (live && unknown segment.header) re
 module _ (live : Bool) (s : List ℕ) (e : Headed) where
   -- A child of unknown size ends where it ends.
   pub past_unknown : (live && unknown e.header) ≡ true → (stretch : Stretch) (end : ℕ) → end ≡ end_of stretch
-      → (r : Passed) → r ≡ pass_over live s end e → PastIn live s stretch e r
+      → (r : Result ℕ Refusal) → r ≡ pass_over live s end e → PastIn live s stretch e r
   unfolding past_child overruns
   past_unknown u stretch end j r w segment q =
       w ∙ ap (λ (x : ℕ). pass_over live s x e) (j ∙ ap end_of q) ∙ rw u (by (live && unknown segment.header))
     where
       by : (b : Bool)
           → pass_over live s (end_of (stretch_of live s segment)) e
-          ≡ cond (cond b false false) (Lost (overrun e.place.at))
+          ≡ cond (cond b false false) (Err (overrun e.place.at))
           (pass_over live s (end_of (stretch_of live s segment)) e)
       by true = refl
       by false = refl
 
   module _ (k : (live && unknown e.header) ≡ false) where
     pub past_larger : (end : ℕ) → ltb end (behind e) ≡ true
-        → PastIn live s (Sized end) e (Lost (overrun e.place.at))
+        → PastIn live s (Sized end) e (Err (overrun e.place.at))
     unfolding past_child overruns
     past_larger end l segment q =
         let (u, i) = sized_known live s segment end q in
         let m : ltb (behind segment) (behind e) ≡ true = ap (λ (x : ℕ). ltb x (behind e)) (sym i) ∙ l in
         rw (u, k, m) refl
 
-    pub past_within : (end : ℕ) → ltb end (behind e) ≡ false → PastIn live s (Sized end) e (At (behind e))
+    pub past_within : (end : ℕ) → ltb end (behind e) ≡ false → PastIn live s (Sized end) e (Ok (behind e))
     unfolding past_child overruns pass_over
     past_within end l segment q =
         let (u, i) = sized_known live s segment end q in
         let m : ltb (behind segment) (behind e) ≡ false = ap (λ (x : ℕ). ltb x (behind e)) (sym i) ∙ l in
         rw (u, k, m) refl
 
-    pub past_endless : (id end : ℕ) → PastIn live s (Endless id end) e (At (behind e))
+    pub past_endless : (id end : ℕ) → PastIn live s (Endless id end) e (Ok (behind e))
     unfolding past_child overruns pass_over
     past_endless id end segment q =
         let u = endless_unknown live s segment id end q in

@@ -11,52 +11,46 @@ use Rattle.refusals.specs.Refusals.{past_end, overrun}
 use Rattle.refusals.specs.declared.refusal.Refusal.{Refusal}
 use Rattle.header.specs.Reads.{header_at}
 use Rattle.header.specs.declared.cursor.Headed.{Headed}
-use Rattle.header.specs.declared.cursor.HeaderRead.{HeaderRead}
-use Rattle.header.specs.declared.cursor.HeaderRead.TheVariants.{Read, Refused as HeaderRefused}
 use Rattle.walks_rules.specs.Step.{child_at, on_child}
 use Rattle.walks_rules.specs.Walk.{Visit, ends, over, on_visit, on_passed}
 use Rattle.walks_rules.specs.Endings.{pass_over, end_of, walk_from}
 use Rattle.walks_rules.specs.declared.step.Stretch.TheVariants.{Sized}
-use Rattle.walks_rules.specs.declared.step.ChildRead.{ChildRead}
-use Rattle.walks_rules.specs.declared.step.ChildRead.TheVariants.{Child, End, Refused}
-use Rattle.walks_rules.specs.declared.pass.Passed.{Passed}
-use Rattle.walks_rules.specs.declared.pass.Passed.TheVariants.{At}
 use Rattle.walks_rules.proofs.Bounds.{Ended}
 use Rattle.walks_rules.proofs.Steps.{Stepped}
 use Rattle.walks_rules.proofs.Walks.{walk_unfolds, walk_holds}
 use Rattle.seekhead_rules.specs.Seeks.{segment_id, seek_head_id}
 use Rattle.seekchain_rules.specs.Lookup.{Lookup, found, absent, stopped, by_heads}
 use Rattle.seekchain_rules.specs.Contract.{place_told}
-use Rattle.seekchain_rules.specs.declared.lookup.PartPlace.{PartPlace}
 use Rattle.segments_rules.specs.Segment.{seeking, segment_from, segment_of, stretch_of, overruns, within_segment}
 use Rattle.segments_rules.specs.Segment.{visit, searching, segment_children_from}
 use Rattle.segments_rules.specs.Theorems.{SegmentUnfolds, ChildrenUnfold}
 use Rattle.segments_rules.specs.Contract.{visit_told}
 use Rattle.segments_rules.specs.declared.walk.Visit.TheVariants.{Ends, Over}
+use Rattle.std.proofs.Common.{Result, Option, Ok, Err, Some, None}
 
 pub segment_unfolds : SegmentUnfolds
 segment_unfolds live s at =
-    walk_unfolds Unit HeaderRead live s (Sized (length s)) seeking at tt
+    walk_unfolds Unit (Result Headed Refusal) live s (Sized (length s)) seeking at tt
     ∙ by (child_at live s (Sized (length s)) at)
   where
-    by_id : (b : Bool) (x y : HeaderRead)
+    by_id : (b : Bool) (x y : Result Headed Refusal)
         → on_visit {A = Unit} (cond b (ends x) (over tt)) (λ r. r) (λ known. y) ≡ cond b x y
     by_id true x y = refl
     by_id false x y = refl
 
-    by : (x : ChildRead)
-        → on_child x (HeaderRefused (past_end at)) HeaderRefused (λ e.
+    by : (x : Result (Option Headed) Refusal)
+        → on_child x (Err (past_end at)) Err (λ e.
         on_visit (seeking.visit tt e) (λ r. r) (λ more.
-        on_passed (pass_over live s (length s) e) HeaderRefused (λ next.
+        on_passed (pass_over live s (length s) e) Err (λ next.
         walk_from live s (Sized (length s)) seeking next more)))
-        ≡ on_child x (HeaderRefused (past_end at)) HeaderRefused (λ e.
-        cond (eqb e.header.id segment_id) (Read e)
-        (on_passed (pass_over live s (length s) e) HeaderRefused (segment_from live s)))
-    by (Child e) =
-        by_id (eqb e.header.id segment_id) (Read e)
-        (on_passed (pass_over live s (length s) e) HeaderRefused (segment_from live s))
-    by End = refl
-    by (Refused r) = refl
+        ≡ on_child x (Err (past_end at)) Err (λ e.
+        cond (eqb e.header.id segment_id) (Ok e)
+        (on_passed (pass_over live s (length s) e) Err (segment_from live s)))
+    by (Ok (Some e)) =
+        by_id (eqb e.header.id segment_id) (Ok e)
+        (on_passed (pass_over live s (length s) e) Err (segment_from live s))
+    by (Ok None) = refl
+    by (Err r) = refl
 
 module _ (live : Bool) (s : List ℕ) (wanted : ℕ) (segment : Headed) where
   -- What stands behind a child that is passed over.
@@ -100,26 +94,26 @@ children_unfold live s wanted segment at =
     by_tests e false false true x y z o = refl
     by_tests e false false false x y z o = refl
 
-    by : (x : ChildRead)
+    by : (x : Result (Option Headed) Refusal)
         → on_child x (absent []) stopped (λ e. seen_as live s wanted segment e (visit live s wanted segment e))
         ≡ on_child x (absent []) stopped (λ e.
         cond (eqb e.header.id seek_head_id) (by_heads live s wanted segment.payload.at e)
         (cond (eqb e.header.id wanted) (found e [])
         (cond (overruns live segment e) (stopped (overrun e.place.at)) (rest_behind live s wanted segment e))))
-    by (Child e) =
+    by (Ok (Some e)) =
         by_tests e (eqb e.header.id seek_head_id) (eqb e.header.id wanted) (overruns live segment e) _ _ _ _
-    by End = refl
-    by (Refused r) = refl
+    by (Ok None) = refl
+    by (Err r) = refl
 
 -- ---- a child that was visited
 
 module _ (live : Bool) (s : List ℕ) (wanted : ℕ) (segment : Headed) (at : ℕ) (e : Headed)
-    (q : child_at live s (stretch_of live s segment) at ≡ Child e) where
+    (q : child_at live s (stretch_of live s segment) at ≡ Ok (Some e)) where
   visited : segment_children_from live s wanted segment at
       ≡ seen_as live s wanted segment e (visit live s wanted segment e)
   visited = turned live s wanted segment at ∙ rw q refl
 
-  pub child_ends : (p : PartPlace) → Ends p ≡ visit_told (visit live s wanted segment e)
+  pub child_ends : (p : Result (Option Headed × ℕ) Refusal) → Ends p ≡ visit_told (visit live s wanted segment e)
       → p ≡ place_told (segment_children_from live s wanted segment at)
   child_ends p w = go (visit live s wanted segment e) w ∙ sym (ap place_told visited)
     where
@@ -141,18 +135,18 @@ module _ (live : Bool) (s : List ℕ) (wanted : ℕ) (segment : Headed) (at : �
 -- ---- the segment
 
 -- It is an element that was read.
-abbrev WasRead : List ℕ → HeaderRead → Type 0
-WasRead s (Read e) = header_at s e.place.at ≡ Read e
-WasRead s (HeaderRefused r) = Unit
+abbrev WasRead : List ℕ → Result Headed Refusal → Type 0
+WasRead s (Ok e) = header_at s e.place.at ≡ Ok e
+WasRead s (Err r) = Unit
 
-pub segment_there : (live : Bool) (s : List ℕ) (e : Headed) → segment_of live s ≡ Read e
-    → header_at s e.place.at ≡ Read e
+pub segment_there : (live : Bool) (s : List ℕ) (e : Headed) → segment_of live s ≡ Ok e
+    → header_at s e.place.at ≡ Ok e
 unfolding segment_of
 segment_there live s e q =
     subst (WasRead s) q (walk_holds live s (Sized (length s)) seeking (WasRead s) (λ at a. tt) (λ r. tt)
     (λ a at x t. by x t (eqb x.header.id segment_id)) 0 tt)
   where
     by : (x : Headed) {at : ℕ} → Stepped live s (Sized (length s)) at x → (b : Bool)
-        → Ended {A = Unit} (WasRead s) (cond b (ends (Read x)) (over tt))
+        → Ended {A = Unit} (WasRead s) (cond b (ends (Ok x)) (over tt))
     by x t true = t.there
     by x t false = tt

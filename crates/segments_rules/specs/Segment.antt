@@ -4,8 +4,6 @@ use Rattle.std.specs.Prelude.{ℕ, List, [], ◌∷◌, Bool, false, cond, ◌&&
 use Rattle.refusals.specs.Refusals.{past_end, overrun}
 use Rattle.header.specs.Reads.{behind}
 use Rattle.header.specs.declared.cursor.Headed.{Headed}
-use Rattle.header.specs.declared.cursor.HeaderRead.{HeaderRead}
-use Rattle.header.specs.declared.cursor.HeaderRead.TheVariants.{Read, Refused}
 use Rattle.sizes.specs.Unknown.{unknown}
 use Rattle.kinds.specs.Kinds.{member}
 use Rattle.walks_rules.specs.Answers.{on_header}
@@ -13,32 +11,31 @@ use Rattle.walks_rules.specs.Walk.{Visit, ends, over, on_visit, Walk}
 use Rattle.walks_rules.specs.Endings.{pass_over, end_of, walk_from}
 use Rattle.walks_rules.specs.declared.step.Stretch.{Stretch}
 use Rattle.walks_rules.specs.declared.step.Stretch.TheVariants.{Sized, Endless}
-use Rattle.walks_rules.specs.declared.pass.Passed.{Passed}
-use Rattle.walks_rules.specs.declared.pass.Passed.TheVariants.{Refused as Lost}
 use Rattle.seekhead_rules.specs.Seeks.{segment_id, seek_head_id}
 use Rattle.seekchain_rules.specs.Lookup.{Lookup, found, absent, stopped, by_heads}
 use Rattle.segments_rules.specs.declared.walk.Aim.{Aim}
 use Rattle.segments_rules.specs.declared.walk.Aim.TheVariants.{One, Every}
-use Rattle.segments_rules.specs.declared.walk.Met.{Met}
 use Rattle.segments_rules.specs.declared.walk.Met.TheVariants.{Head, Part, End}
-use Rattle.segments_rules.specs.declared.walk.Met.TheVariants.{Refused as Unmet}
+use Rattle.std.specs.Prelude.{Result, Ok, Err}
+use Rattle.segments_rules.specs.declared.walk.Met.{Met}
+use Rattle.refusals.specs.declared.refusal.Refusal.{Refusal}
 
 -- ---- before the segment
 
 -- The segment ends the walk over the file's elements; others are passed over. Past the recording's end there is no
 -- header: 1 where it would begin.
-abbrev pub seeking : Walk Unit HeaderRead
+abbrev pub seeking : Walk Unit (Result Headed Refusal)
 seeking = record {
-  visit = λ known e. cond (eqb e.header.id segment_id) (ends (Read e)) (over known);
-  ended = λ at known. Refused (past_end at);
-  stop = Refused;
+  visit = λ known e. cond (eqb e.header.id segment_id) (ends (Ok e)) (over known);
+  ended = λ at known. Err (past_end at);
+  stop = Err;
 }
 
 -- The segment from an address on.
-abbrev pub segment_from : (live : Bool) → List ℕ → ℕ → HeaderRead
+abbrev pub segment_from : (live : Bool) → List ℕ → ℕ → Result Headed Refusal
 segment_from live s at = walk_from live s (Sized (length s)) seeking at tt
 
-unfoldable pub segment_of : (live : Bool) → List ℕ → HeaderRead
+unfoldable pub segment_of : (live : Bool) → List ℕ → Result Headed Refusal
 segment_of live s = segment_from live s 0
 
 -- ---- the segment's children
@@ -67,9 +64,9 @@ within_segment live segment w = record {
 }
 
 -- The place behind a child that is passed over: 3 where it overruns the segment.
-unfoldable pub past_child : (live : Bool) → List ℕ → (segment e : Headed) → Passed
+unfoldable pub past_child : (live : Bool) → List ℕ → (segment e : Headed) → Result ℕ Refusal
 past_child live s segment e =
-    cond (overruns live segment e) (Lost (overrun e.place.at))
+    cond (overruns live segment e) (Err (overrun e.place.at))
     (pass_over live s (end_of (stretch_of live s segment)) e)
 
 -- ---- what a walk meets
@@ -84,16 +81,16 @@ aims_at (One part) id = eqb id part
 aims_at Every id = member id part_ids
 
 -- A seek head ends the walk, and a part that is looked for; anything else is passed over.
-unfoldable pub meets : Aim → Headed → Visit Unit Met
+unfoldable pub meets : Aim → Headed → Visit Unit (Result Met Refusal)
 meets aim e =
-    cond (eqb e.header.id seek_head_id) (ends (Head e))
-    (cond (aims_at aim e.header.id) (ends (Part e)) (over tt))
+    cond (eqb e.header.id seek_head_id) (ends (Ok (Head e)))
+    (cond (aims_at aim e.header.id) (ends (Ok (Part e))) (over tt))
 
-abbrev pub meeting : Aim → Walk Unit Met
-meeting aim = record { visit = λ known e. meets aim e; ended = λ at known. End; stop = Unmet }
+abbrev pub meeting : Aim → Walk Unit (Result Met Refusal)
+meeting aim = record { visit = λ known e. meets aim e; ended = λ at known. (Ok End); stop = Err }
 
 -- What is met first from an address on.
-abbrev pub met_from : (live : Bool) → List ℕ → Aim → (segment : Headed) (at : ℕ) → Met
+abbrev pub met_from : (live : Bool) → List ℕ → Aim → (segment : Headed) (at : ℕ) → Result Met Refusal
 met_from live s aim segment at =
     walk_from live s (stretch_of live s segment) (within_segment live segment (meeting aim)) at tt
 

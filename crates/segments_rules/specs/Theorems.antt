@@ -3,7 +3,6 @@
 use Rattle.std.specs.Prelude.{ℕ, ◌≡◌, List, [], Bool, cond, length, eqb}
 use Rattle.refusals.specs.Refusals.{past_end, overrun}
 use Rattle.header.specs.declared.cursor.Headed.{Headed}
-use Rattle.header.specs.declared.cursor.HeaderRead.TheVariants.{Read, Refused}
 use Rattle.walks_rules.specs.Step.{child_at, on_child}
 use Rattle.walks_rules.specs.Walk.{on_passed}
 use Rattle.walks_rules.specs.Endings.{pass_over, end_of}
@@ -12,18 +11,19 @@ use Rattle.seekhead_rules.specs.Seeks.{segment_id, seek_head_id}
 use Rattle.seekchain_rules.specs.Lookup.{Lookup, found, absent, stopped, by_heads}
 use Rattle.segments_rules.specs.Segment.{segment_from, stretch_of, overruns, met_from, segment_children_from}
 use Rattle.segments_rules.specs.declared.walk.Aim.TheVariants.{One}
-use Rattle.segments_rules.specs.declared.walk.Met.{Met}
 use Rattle.segments_rules.specs.declared.walk.Met.TheVariants.{Head, Part, End}
-use Rattle.segments_rules.specs.declared.walk.Met.TheVariants.{Refused as Unmet}
+use Rattle.std.specs.Prelude.{Result, Ok, Err}
+use Rattle.segments_rules.specs.declared.walk.Met.{Met}
+use Rattle.refusals.specs.declared.refusal.Refusal.{Refusal}
 
 -- The way to the segment goes from element to element.
 abbrev pub SegmentUnfolds : Type 0
 SegmentUnfolds =
     (live : Bool) (s : List ℕ) (at : ℕ)
     → segment_from live s at
-    ≡ on_child (child_at live s (Sized (length s)) at) (Refused (past_end at)) Refused (λ e.
-    cond (eqb e.header.id segment_id) (Read e)
-    (on_passed (pass_over live s (length s) e) Refused (segment_from live s)))
+    ≡ on_child (child_at live s (Sized (length s)) at) (Err (past_end at)) Err (λ e.
+    cond (eqb e.header.id segment_id) (Ok e)
+    (on_passed (pass_over live s (length s) e) Err (segment_from live s)))
 
 -- The walk over the segment's children goes from child to child.
 abbrev pub ChildrenUnfold : Type 0
@@ -38,11 +38,11 @@ ChildrenUnfold =
     (segment_children_from live s wanted segment)))))
 
 -- What the search does with what is met first.
-abbrev pub after_met : (live : Bool) → List ℕ → (wanted : ℕ) (segment : Headed) → Met → Lookup
-after_met live s wanted segment (Head e) = by_heads live s wanted segment.payload.at e
-after_met live s wanted segment (Part e) = found e []
-after_met live s wanted segment End = absent []
-after_met live s wanted segment (Unmet e) = stopped e
+abbrev pub after_met : (live : Bool) → List ℕ → (wanted : ℕ) (segment : Headed) → Result Met Refusal → Lookup
+after_met live s wanted segment (Ok (Head e)) = by_heads live s wanted segment.payload.at e
+after_met live s wanted segment (Ok (Part e)) = found e []
+after_met live s wanted segment (Ok End) = absent []
+after_met live s wanted segment (Err e) = stopped e
 
 -- The search for a part is by the first child that the walk meets which every search and `open` share. It shuts out a
 -- second walk of the search's own that takes another child.

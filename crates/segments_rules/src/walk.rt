@@ -1,12 +1,11 @@
 // What becomes of a child of the segment, what a walk over the children looks for, and what it meets.
 use header::Headed;
 use refusals::Refusal;
-use seekchain_rules::PartPlace;
 
 // What a child of the segment does to the search: it ends it, or is passed over.
 #[derive(Clone, Copy)]
 pub enum Visit {
-    Ends(PartPlace),
+    Ends(Result<(Option<Headed>, u64), Refusal>),
     Over,
 }
 
@@ -23,5 +22,4 @@ pub enum Met {
     Head(Headed),
     Part(Headed),
     End,
-    Refused(Refusal),
 }

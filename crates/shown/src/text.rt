@@ -7,7 +7,6 @@ ghost use Rattle.shown_rules.specs.Promise.{TextPromise, ShownPromise};
 use crate::part::shown_part;
 use bodies_rules::Range;
 use payloads::{payload_range, row_payload};
-use places_rules::RangeReply;
 use refusals::{Cause, Refusal};
 use rowstore::row_at;
 
@@ -27,21 +26,21 @@ fn is_text(kind: u64) -> bool
 }
 
 // The range of a text row's shown text. 14: as `payload_range` has it, or the row is no text row.
-pub fn text_range(recording: &[u8], table: &[u64], row: u64) -> RangeReply
+pub fn text_range(recording: &[u8], table: &[u64], row: u64) -> Result<Range, Refusal>
     ensures { TextPromise recording.now table.now row result }
 {
     match payload_range(recording, table, row) {
-        RangeReply::Refused(refusal) => RangeReply::Refused(refusal),
-        RangeReply::Range(range) => {
+        Err(refusal) => Err(refusal),
+        Ok(range) => {
             let found = row_at(table, row as usize);
             if !is_text(found.kind) {
-                return RangeReply::Refused(Refusal {
+                return Err(Refusal {
                     address: 0,
                     cause: Cause::BadArgument,
                 });
             }
             let text = shown_part(row_payload(recording, table, row));
-            RangeReply::Range(Range {
+            Ok(Range {
                 at: range.at,
                 length: text.len() as u64,
             })
@@ -54,8 +53,8 @@ pub fn shown_text<'a>(recording: &'a [u8], table: &[u64], row: u64) -> &'a [u8]
     ensures { ShownPromise recording.now table.now row result.now }
 {
     match text_range(recording, table, row) {
-        RangeReply::Refused(_) => &recording[..0],
-        RangeReply::Range(range) => {
+        Err(_) => &recording[..0],
+        Ok(range) => {
             let at = range.at;
             let end = at + range.length;
             let first = at as usize;

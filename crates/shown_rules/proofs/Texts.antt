@@ -16,14 +16,13 @@ use Rattle.elements_rules.specs.Rows.{width, row_at}
 use Rattle.elements_rules.specs.declared.row.Row.{Row}
 use Rattle.places_rules.specs.Payload.{PayloadRange, range, refused, payload_range, bytes_of}
 use Rattle.places_rules.specs.Promise.{values_of, RangePromise, PayloadPromise}
-use Rattle.places_rules.specs.declared.payload.RangeReply.{RangeReply}
-use Rattle.places_rules.specs.declared.payload.RangeReply.TheVariants.{Range as RangeIs, Refused}
 use Rattle.places_rules.proofs.Unique.{range_of, range_back}
 use Rattle.places_rules.proofs.Ranges.{Inside, told_range, told_none, place_inside, place_refused, place_row}
 use Rattle.shown_rules.specs.Shown.{shown, is_text, shown_in, text_range}
 use Rattle.shown_rules.specs.Promise.{TextPromise, ShownPromise}
 use Rattle.shown_rules.specs.Theorems.{ShownBeforeZero, TailUnseen, TextInPayload, NoTextRefused}
 use Rattle.shown_rules.proofs.Zeros.{before_zero, tail_cut, shown_fits, shown_taken}
+use Rattle.std.proofs.Common.{Result, Ok, Err}
 
 -- ---- the two kinds of text
 
@@ -59,14 +58,14 @@ module _ (s t : List ℕ) (k : ℕ) where
   unfolding text_range
   text_of b e = rw e
 
-  module _ {q : RangeReply} (p : RangePromise s t k q) where
+  module _ {q : (Result Range Refusal)} (p : RangePromise s t k q) where
     -- The row that has a range is one of the table's.
-    pub row_there : {g : Range} → q ≡ RangeIs g → k < length t / width
+    pub row_there : {g : Range} → q ≡ Ok g → k < length t / width
     row_there {g} e =
         place_row s t k g.at g.length (told_range (payload_range s t k) g (rw e at p).reply)
 
     -- Without a range there is no text either: both are 14.
-    pub no_range : {e : Refusal} → q ≡ Refused e → TextPromise s t k (Refused e)
+    pub no_range : {e : Refusal} → q ≡ Err e → TextPromise s t k (Err e)
     no_range {e} f =
         record { reply = go (is_text (row_at t k).kind) refl (payload_range s t k) refl (rw f at p).reply }
       where
@@ -81,8 +80,8 @@ module _ (s t : List ℕ) (k : ℕ) where
       by_row = sym (o ∙ ap (λ (x : Row). is_text x.kind) w)
 
       -- So many octets of the payload are shown, from its first on.
-      pub is_shown : {g : Range} → q ≡ RangeIs g → b ≡ true → {payload : List ℕ} → PayloadPromise s t k payload
-          → (n : ℕ) → n ≡ length (shown payload) → TextPromise s t k (RangeIs (record { at = g.at; length = n }))
+      pub is_shown : {g : Range} → q ≡ Ok g → b ≡ true → {payload : List ℕ} → PayloadPromise s t k payload
+          → (n : ℕ) → n ≡ length (shown payload) → TextPromise s t k (Ok (record { at = g.at; length = n }))
       is_shown {g} e y {payload} whole n l =
           let place = told_range (payload_range s t k) g (rw e at p).reply in
           let octets = whole.reply ∙ ap (bytes_of s) place in
@@ -92,7 +91,7 @@ module _ (s t : List ℕ) (k : ℕ) where
                 ∙ sym (ap values_of (text_of true (by_row ∙ y) ∙ ap (shown_in s) place));
           }
 
-      pub no_text : b ≡ false → TextPromise s t k (Refused bad_argument)
+      pub no_text : b ≡ false → TextPromise s t k (Err bad_argument)
       no_text y = record { reply = sym (ap values_of (text_of false (by_row ∙ y))) }
 
   -- ---- the part that is handed back
@@ -121,8 +120,8 @@ module _ (s t : List ℕ) (k : ℕ) where
           let z : ◌≡◌ {A = ℕ} 0 1 = cc (text_of true d ∙ ap (shown_in s) w) in absurd (omega arith)
       go false d x w = let z : ◌≡◌ {A = ℕ} 0 1 = cc (text_of false d) in absurd (omega arith)
 
-  module _ {q : RangeReply} (p : TextPromise s t k q) where
-    module _ {g : Range} (e : q ≡ RangeIs g) where
+  module _ {q : (Result Range Refusal)} (p : TextPromise s t k q) where
+    module _ {g : Range} (e : q ≡ Ok g) where
       shown_at : text_range s t k ≡ range g.at g.length
       shown_at = told_range (text_range s t k) g (rw e at p).reply
 
@@ -139,7 +138,7 @@ module _ (s t : List ℕ) (k : ℕ) where
           let n : g.at + g.length - g.at ≡ g.length = omega arith in
           record { reply = rw n (sym (ap (bytes_of s) shown_at)) }
 
-    pub shown_none : {e : Refusal} → q ≡ Refused e → ShownPromise s t k []
+    pub shown_none : {e : Refusal} → q ≡ Err e → ShownPromise s t k []
     shown_none {e} f = record { reply = told_none s (text_range s t k) e (rw f at p).reply }
 
   -- ---- the theorems

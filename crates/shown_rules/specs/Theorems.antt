@@ -8,16 +8,14 @@ use Rattle.utf8.specs.Utf8.{utf8}
 use Rattle.bodies_rules.specs.declared.body.Range.{Range}
 use Rattle.elements_rules.specs.Rows.{row_at, payload_of}
 use Rattle.elements_rules.specs.Promise.{ReadPromise}
-use Rattle.elements_rules.specs.declared.reply.ReadReply.TheVariants.{Rows}
 use Rattle.places_rules.specs.Promise.{RangePromise, PayloadPromise}
-use Rattle.places_rules.specs.declared.payload.RangeReply.{RangeReply}
-use Rattle.places_rules.specs.declared.payload.RangeReply.TheVariants.{Range as RangeIs, Refused}
 use Rattle.shown_rules.specs.Shown.{is_text}
 use Rattle.shown_rules.specs.Promise.{TextPromise, ShownPromise}
+use Rattle.std.specs.Prelude.{Result, Ok, Err}
 
 -- Any two replies that a promise permits to one question are equal (document 01, Strength of the promises).
 abbrev pub OneText : Type 0
-OneText = (s t : List ℕ) (row : ℕ) (r r' : RangeReply) → TextPromise s t row r → TextPromise s t row r' → r ≡ r'
+OneText = (s t : List ℕ) (row : ℕ) (r r' : Result Range Refusal) → TextPromise s t row r → TextPromise s t row r' → r ≡ r'
 
 abbrev pub OneShown : Type 0
 OneShown =
@@ -26,11 +24,11 @@ OneShown =
 
 -- A refusal among the replies that the promise permits is one of document 01's list.
 abbrev pub TextRefusesListed : Type 0
-TextRefusesListed = (s t : List ℕ) (row : ℕ) (e : Refusal) → TextPromise s t row (Refused e) → Listed e
+TextRefusesListed = (s t : List ℕ) (row : ℕ) (e : Refusal) → TextPromise s t row (Err e) → Listed e
 
 -- Where it broke: a text's range is refused with 14 alone, at 0.
 abbrev pub TextHonest : Type 0
-TextHonest = (s t : List ℕ) (row : ℕ) (e : Refusal) → TextPromise s t row (Refused e) → e ≡ bad_argument
+TextHonest = (s t : List ℕ) (row : ℕ) (e : Refusal) → TextPromise s t row (Err e) → e ≡ bad_argument
 
 -- ---- up to the first zero octet
 
@@ -67,9 +65,9 @@ TailUnseen =
     → ShownPromise s t row part → ShownPromise s' t' row' part' → part ≡ part'
 
 -- What is shown of a range of the recording: a range within it that begins at the same address.
-pub record ShownRange (s : List ℕ) (payload : Range) (r : RangeReply) : Type 0 where
+pub record ShownRange (s : List ℕ) (payload : Range) (r : Result Range Refusal) : Type 0 where
   pub text : Range
-  pub told : r ≡ RangeIs text
+  pub told : r ≡ Ok text
   pub address : text.at ≡ payload.at
   pub within : text.length ≤ payload.length
   pub part : BeforeZero (take payload.length (drop payload.at s)) (take text.length (drop text.at s))
@@ -77,14 +75,14 @@ pub record ShownRange (s : List ℕ) (payload : Range) (r : RangeReply) : Type 0
 -- A text row whose payload is in the recording is not refused.
 abbrev pub TextInPayload : Type 0
 TextInPayload =
-    (s t : List ℕ) (row : ℕ) (payload : Range) (r : RangeReply) → is_text (row_at t row).kind ≡ true
-    → RangePromise s t row (RangeIs payload) → TextPromise s t row r → ShownRange s payload r
+    (s t : List ℕ) (row : ℕ) (payload : Range) (r : Result Range Refusal) → is_text (row_at t row).kind ≡ true
+    → RangePromise s t row (Ok payload) → TextPromise s t row r → ShownRange s payload r
 
 -- A row that is no text row is refused.
 abbrev pub NoTextRefused : Type 0
 NoTextRefused =
-    (s t : List ℕ) (row : ℕ) (r : RangeReply) → is_text (row_at t row).kind ≡ false
-    → TextPromise s t row r → r ≡ Refused bad_argument
+    (s t : List ℕ) (row : ℕ) (r : Result Range Refusal) → is_text (row_at t row).kind ≡ false
+    → TextPromise s t row r → r ≡ Err bad_argument
 
 -- ---- shown text is UTF-8
 
@@ -103,6 +101,6 @@ pub record Shows (payload part : List ℕ) : Type 0 where
 abbrev pub AcceptedShown : Type 0
 AcceptedShown =
     (live : Bool) (s : List ℕ) (start size parent : ℕ) (t : List ℕ) (n : ℕ) (t' : List ℕ)
-    → ReadPromise live s start size parent t (Rows n) t'
+    → ReadPromise live s start size parent t (Ok n) t'
     → (k : ℕ) → k < n → is_text (row_at t' k).kind ≡ true
     → (part : List ℕ) → ShownPromise s t' k part → Shows (payload_of s (row_at t' k)) part

@@ -10,8 +10,9 @@ use fields::{content_field, flag_field, language_field, value_field};
 use fields_rules::Below;
 use kinds::{Kind, ids};
 use locate::locate;
-use locate_rules::{Located, Step, Way};
-use tags_rules::{SimpleReply, SimpleTag};
+use locate_rules::{Step, Way};
+use refusals::Refusal;
+use tags_rules::SimpleTag;
 
 // The simple tag, by the rows below its master.
 pub fn simple_tag_in(recording: &[u8], table: &[u64], master: Below) -> SimpleTag
@@ -42,7 +43,7 @@ pub fn simple_tag_at(
     k: u64,
     i: u64,
     table: &mut [u64],
-) -> SimpleReply
+) -> Result<(SimpleTag, u64), Refusal>
     ensures { SimplePromise live recording.now start size k i
         table.old result table.new }
 {
@@ -57,10 +58,7 @@ pub fn simple_tag_at(
         third: Step::Here,
     };
     match locate(recording, live, start, size, ids::TAG, way, table) {
-        Located::Refused(refusal) => SimpleReply::Refused(refusal),
-        Located::At { master, rows } => SimpleReply::Simple {
-            tag: simple_tag_in(recording, table, master),
-            rows: rows as u64,
-        },
+        Err(refusal) => Err(refusal),
+        Ok((master, rows)) => Ok((simple_tag_in(recording, table, master), rows as u64)),
     }
 }

@@ -10,11 +10,12 @@ ghost use Rattle.tags_rules.specs.Promise.{TagPromise};
 
 use children::{count_children, last_child, rows_below};
 use fields::{content_field, number_field};
-use fields_rules::{Below, Child};
+use fields_rules::Below;
 use kinds::{Kind, ids};
 use locate::locate;
-use locate_rules::{Located, Step, Way};
-use tags_rules::{Tag, TagReply, Target, Targets};
+use locate_rules::{Step, Way};
+use refusals::Refusal;
+use tags_rules::{Tag, Target};
 
 // What a tag applies to, by the rows below its Targets.
 pub fn target_in(recording: &[u8], table: &[u64], master: Below) -> Target
@@ -33,16 +34,16 @@ pub fn target_in(recording: &[u8], table: &[u64], master: Below) -> Target
 }
 
 // The last Targets alone counts.
-pub fn targets_in(recording: &[u8], table: &[u64], rows: usize, master: Below) -> Targets
+pub fn targets_in(recording: &[u8], table: &[u64], rows: usize, master: Below) -> Option<Target>
     requires { Stands recording.now table.now rows master }
     ensures { targets_values result ≡ targets_of recording.now (rows_of
         table.now rows) master.parent }
 {
     match last_child(table, master, ids::TARGETS, Kind::Master) {
-        Child::Absent => Targets::Unset,
-        Child::At { number, row: _ } => {
+        None => None,
+        Some((number, _)) => {
             let inner = rows_below(table, rows, number + 1);
-            Targets::Set(target_in(recording, table, inner))
+            Some(target_in(recording, table, inner))
         }
     }
 }
@@ -67,7 +68,7 @@ pub fn tag_at(
     size: u64,
     k: u64,
     table: &mut [u64],
-) -> TagReply
+) -> Result<(Tag, u64), Refusal>
     ensures { TagPromise live recording.now start size k
         table.old result table.new }
 {
@@ -78,10 +79,7 @@ pub fn tag_at(
         third: Step::Here,
     };
     match locate(recording, live, start, size, ids::TAG, way, table) {
-        Located::Refused(refusal) => TagReply::Refused(refusal),
-        Located::At { master, rows } => TagReply::Tag {
-            tag: tag_in(recording, table, rows, master),
-            rows: rows as u64,
-        },
+        Err(refusal) => Err(refusal),
+        Ok((master, rows)) => Ok((tag_in(recording, table, rows, master), rows as u64)),
     }
 }

@@ -8,13 +8,13 @@ ghost use Rattle.tags_rules.specs.Promise.{UidPromise};
 
 use children::nth_child;
 use fields::uint_in;
-use fields_rules::{Below, Child, Number};
+use fields_rules::Below;
 use kinds::{Kind, ids};
 use locate::locate;
-use locate_rules::{Located, Step, Way};
+use locate_rules::{Step, Way};
 use refusals::{Cause, Refusal};
 use rowstore::clear;
-use tags_rules::{UidList, UidReply};
+use tags_rules::UidList;
 
 // The id of a list's members.
 fn member_id(list: UidList) -> u32
@@ -29,13 +29,13 @@ fn member_id(list: UidList) -> u32
 }
 
 // Member i of a uid list of the Targets `targets`; unset where there is none.
-pub fn uid_in(recording: &[u8], table: &[u64], targets: Below, list: UidList, i: u64) -> Number
+pub fn uid_in(recording: &[u8], table: &[u64], targets: Below, list: UidList, i: u64) -> Option<u64>
     requires { Readable recording.now table.now targets }
     ensures { number_told result ≡ number_in recording.now (member_in table.now targets list i) }
 {
     match nth_child(table, targets, member_id(list), Kind::Uint, i) {
-        Child::Absent => Number::Unset,
-        Child::At { number: _, row } => Number::Is(uint_in(recording, row)),
+        None => None,
+        Some((_, row)) => Some(uint_in(recording, row)),
     }
 }
 
@@ -50,7 +50,7 @@ pub fn uid_at(
     list: UidList,
     i: u64,
     table: &mut [u64],
-) -> UidReply
+) -> Result<(u64, u64), Refusal>
     ensures { UidPromise live recording.now start size k list i
         table.old result table.new }
 {
@@ -62,19 +62,16 @@ pub fn uid_at(
         third: Step::Here,
     };
     match locate(recording, live, start, size, ids::TAG, way, table) {
-        Located::Refused(refusal) => UidReply::Refused(refusal),
-        Located::At { master, rows } => match uid_in(recording, table, master, list, i) {
-            Number::Unset => {
+        Err(refusal) => Err(refusal),
+        Ok((master, rows)) => match uid_in(recording, table, master, list, i) {
+            None => {
                 clear(table);
-                UidReply::Refused(Refusal {
+                Err(Refusal {
                     address: 0,
                     cause: Cause::Outside,
                 })
             }
-            Number::Is(uid) => UidReply::Uid {
-                uid,
-                rows: rows as u64,
-            },
+            Some(uid) => Ok((uid, rows as u64)),
         },
     }
 }

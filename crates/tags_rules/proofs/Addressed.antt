@@ -8,14 +8,13 @@ use Rattle.elements_rules.specs.declared.row.Row.{Row}
 use Rattle.fields_rules.specs.Children.{subtree, children, last_of}
 use Rattle.fields_rules.specs.Values.{FieldValue}
 use Rattle.fields_rules.specs.Fields.{count_of}
-use Rattle.fields_rules.specs.declared.child.Child.{Child}
-use Rattle.fields_rules.specs.declared.child.Child.TheVariants.{At as ChildAt, Absent as NoChild}
 use Rattle.locate_rules.specs.Theorems.{AllPlaced}
 use Rattle.locate_rules.proofs.Ways.{last_known}
 use Rattle.locate_rules.proofs.Addressed.{numbers, flags, parts, languages, values, counts, number_placed}
 use Rattle.locate_rules.proofs.Addressed.{asked_addressed, listed_addressed}
 use Rattle.tags_rules.specs.Records.{target_of, targets_in, targets_of, tag_of, member_of, uid_of, simple_of}
 use Rattle.tags_rules.specs.Theorems.{TagsAddressed}
+use Rattle.std.proofs.Common.{Option, Some, None}
 
 module _ (s : List ℕ) (rs : List Row) (parent : ℕ) (l : parent ≤ length rs) where
   simple_placed : AllPlaced rs (simple_of s parent (subtree rs parent))
@@ -38,10 +37,10 @@ module _ (s : List ℕ) (rs : List Row) (parent : ℕ) (l : parent ≤ length rs
   unfolding tag_of targets_of AllPlaced
   tag_placed = go (last_of (children parent 0x63C0 Master (subtree rs parent))) refl
     where
-      go : (c : Child) → last_of (children parent 0x63C0 Master (subtree rs parent)) ≡ c
+      go : (c : Option (ℕ × Row)) → last_of (children parent 0x63C0 Master (subtree rs parent)) ≡ c
           → AllPlaced rs (targets_in s rs parent c ++ (count_of s parent (subtree rs parent) 0x67C8 Master ∷ []))
-      go NoChild e = (tt, (counts s rs parent l _ _, tt))
-      go (ChildAt n r) e = (
+      go None e = (tt, (counts s rs parent l _ _, tt))
+      go (Some (n, r)) e = (
         tt,
         target_placed s rs (suc n) (last_known rs parent 0x63C0 Master l n r (sym e)) _
             (counts s rs parent l _ _, tt),

@@ -18,34 +18,29 @@ use Rattle.fields_rules.specs.Values.{FieldValue, unset, number, flag, count, ui
 use Rattle.fields_rules.specs.Fields.{count_of}
 use Rattle.fields_rules.specs.Told.{number_told}
 use Rattle.fields_rules.specs.declared.child.Below.{Below}
-use Rattle.fields_rules.specs.declared.child.Child.{Child}
-use Rattle.fields_rules.specs.declared.child.Child.TheVariants.{At as ChildAt, Absent as NoChild}
-use Rattle.fields_rules.specs.declared.field.Number.{Number}
-use Rattle.fields_rules.specs.declared.field.Number.TheVariants.{Unset, Is}
 use Rattle.locate_rules.specs.Asked.{Asked, found, refusing, has_member, listed, table_after}
 use Rattle.locate_rules.specs.Told.{fields, refusal}
 use Rattle.locate_rules.specs.Contract.{Stands, LocateMet}
 use Rattle.locate_rules.specs.Promise.{answer_of, RecordPromise}
-use Rattle.locate_rules.specs.declared.steps.Located.{Located}
-use Rattle.locate_rules.specs.declared.steps.Located.TheVariants.{At, Refused}
 use Rattle.locate_rules.proofs.Inner.{last_inner, inner_is, inner_fields}
 use Rattle.locate_rules.proofs.Told.{stands_at}
 use Rattle.tags_rules.specs.Records.{target_of, targets_in, targets_of, tag_of, member_id, member_in, member_of, uid_of}
 use Rattle.tags_rules.specs.declared.uid.UidList.{UidList}
+use Rattle.std.proofs.Common.{Result, Option, Ok, Err, Some, None}
 
 module _ {s t : List ℕ} {rows : ℕ} {b : Below} (h : Stands s t rows b) where
   -- ---- the last Targets
 
-  module _ {c : Child} (e : c ≡ last_inner t b 0x63C0) where
+  module _ {c : (Option (ℕ × Row))} (e : c ≡ last_inner t b 0x63C0) where
     targets_by : targets_in s (rows_of t rows) b.parent c ≡ targets_of s (rows_of t rows) b.parent
     unfolding targets_of
     targets_by = ap (targets_in s (rows_of t rows) b.parent) (inner_is h 0x63C0 e)
 
-    pub no_targets : c ≡ NoChild → flag false ∷ [] ≡ targets_of s (rows_of t rows) b.parent
+    pub no_targets : c ≡ None → flag false ∷ [] ≡ targets_of s (rows_of t rows) b.parent
     no_targets a = ap (targets_in s (rows_of t rows) b.parent) (sym a) ∙ targets_by
 
     pub are_targets :
-        {n : ℕ} {r : Row} {inner : Below} {vs : List FieldValue} → c ≡ ChildAt n r → BelowIs t rows (n + 1) inner
+        {n : ℕ} {r : Row} {inner : Below} {vs : List FieldValue} → c ≡ Some (n, r) → BelowIs t rows (n + 1) inner
         → vs ≡ target_of s inner.parent (rows_in t inner)
         → flag true ∷ vs ≡ targets_of s (rows_of t rows) b.parent
     are_targets {n} a m q =
@@ -65,33 +60,33 @@ module _ {s t : List ℕ} {rows : ℕ} {b : Below} (h : Stands s t rows b) where
 -- ---- the members of a uid list
 
 -- As it is looked up.
-module _ (s t : List ℕ) (b : Below) (list : UidList) (i : ℕ) {c : Child} {id : ℕ} (k : id ≡ member_id list)
+module _ (s t : List ℕ) (b : Below) (list : UidList) (i : ℕ) {c : (Option (ℕ × Row))} {id : ℕ} (k : id ≡ member_id list)
     (e : c ≡ nth_of i (children b.parent id Uint (rows_in t b))) where
   looked_up : c ≡ member_in t b list i
   looked_up = e ∙ ap (λ (x : ℕ). nth_of i (children b.parent x Uint (rows_in t b))) k
 
-  pub member_unset : c ≡ NoChild → unset ≡ number_in s (member_in t b list i)
+  pub member_unset : c ≡ None → unset ≡ number_in s (member_in t b list i)
   member_unset a = ap (number_in s) (sym a ∙ looked_up)
 
-  pub member_is : {n v : ℕ} {r : Row} → c ≡ ChildAt n r → v ≡ uint_in s r → number v ≡ number_in s (member_in t b list i)
+  pub member_is : {n v : ℕ} {r : Row} → c ≡ Some (n, r) → v ≡ uint_in s r → number v ≡ number_in s (member_in t b list i)
   member_is a q = ap number q ∙ ap (number_in s) (sym a ∙ looked_up)
 
 -- As it is asked for.
 module _ (s : List ℕ) (x : Asked) where
-  no_member : (c : Child) → unset ≡ number_in s c → has_member x c ≡ refusing no_record
-  no_member NoChild q = refl
-  no_member (ChildAt n r) q = cc
+  no_member : (c : Option (ℕ × Row)) → unset ≡ number_in s c → has_member x c ≡ refusing no_record
+  no_member None q = refl
+  no_member (Some (n, r)) q = cc
 
-  a_member : (c : Child) (v : ℕ) → number v ≡ number_in s c → has_member x c ≡ x
-  a_member NoChild v q = cc
-  a_member (ChildAt n r) v q = refl
+  a_member : (c : Option (ℕ × Row)) (v : ℕ) → number v ≡ number_in s c → has_member x c ≡ x
+  a_member None v q = cc
+  a_member (Some (n, r)) v q = refl
 
-module _ (s : List ℕ) {a : Asked} {numbers : ℕ} {r : Located} {t₁ : List ℕ} (p : LocateMet s a numbers r t₁)
+module _ (s : List ℕ) {a : Asked} {numbers : ℕ} {r : (Result (Below × ℕ) Refusal)} {t₁ : List ℕ} (p : LocateMet s a numbers r t₁)
     (list : UidList) (i : ℕ) where
   abbrev question : Asked
   question = listed a (member_of list i)
 
-  pub uid_refused : {e : Refusal} → r ≡ Refused e
+  pub uid_refused : {e : Refusal} → r ≡ Err e
       → RecordPromise (uid_of s list i) question numbers (refusal e) t₁
   uid_refused {e} q =
       let w : a ≡ refusing e = (rw q at p).reply in
@@ -101,9 +96,9 @@ module _ (s : List ℕ) {a : Asked} {numbers : ℕ} {r : Located} {t₁ : List �
         table = p.table ∙ ap (table_after numbers) (w ∙ sym d);
       }
 
-  module _ {b : Below} {n : ℕ} (q : r ≡ At b n) (m : Number)
+  module _ {b : Below} {n : ℕ} (q : r ≡ Ok (b, n)) (m : Option ℕ)
       (e : number_told m ≡ number_in s (member_in t₁ b list i)) where
-    abbrev member : Child
+    abbrev member : Option (ℕ × Row)
     member = member_of list i (rows_of t₁ n) b.parent
 
     told : number_told m ≡ number_in s member
@@ -115,7 +110,7 @@ module _ (s : List ℕ) {a : Asked} {numbers : ℕ} {r : Located} {t₁ : List �
     asks : question ≡ has_member (found (rows_of t₁ n) b.parent) member
     asks = ap (λ (x : Asked). listed x (member_of list i)) (rw q at p).reply.0
 
-    pub uid_none : {f : Refusal} {t' : List ℕ} → m ≡ Unset → f ≡ no_record → length t₁ ≡ numbers
+    pub uid_none : {f : Refusal} {t' : List ℕ} → m ≡ None → f ≡ no_record → length t₁ ≡ numbers
         → t' ≡ zeros (length t₁) → RecordPromise (uid_of s list i) question numbers (refusal f) t'
     uid_none {f} u w l z =
         let d : question ≡ refusing f = asks ∙ no_member s _ member (rw u at told) ∙ ap refusing (sym w) in
@@ -124,7 +119,7 @@ module _ (s : List ℕ) {a : Asked} {numbers : ℕ} {r : Located} {t₁ : List �
           table = z ∙ zeros_as l ∙ sym (ap (table_after numbers) d);
         }
 
-    pub uid_found : {v : ℕ} → m ≡ Is v → RecordPromise (uid_of s list i) question numbers (fields (number v ∷ []) n) t₁
+    pub uid_found : {v : ℕ} → m ≡ Some v → RecordPromise (uid_of s list i) question numbers (fields (number v ∷ []) n) t₁
     unfolding uid_of
     uid_found {v} u =
         let w : number v ≡ number_in s member = rw u at told in

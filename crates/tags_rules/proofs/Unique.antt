@@ -14,16 +14,10 @@ use Rattle.tags_rules.specs.Told.{tag_told, uid_told, simple_told}
 use Rattle.tags_rules.specs.Promise.{tag_asked, uid_asked, simple_asked}
 use Rattle.tags_rules.specs.Theorems.{OneTag, OneUid, OneSimple, TagsRefuseListed, TagsHonest, TagsLive}
 use Rattle.tags_rules.specs.declared.simple.SimpleTag.{SimpleTag}
-use Rattle.tags_rules.specs.declared.simple.SimpleReply.{SimpleReply}
-use Rattle.tags_rules.specs.declared.simple.SimpleReply.TheVariants.{Simple as IsSimple, Refused as NoSimple}
 use Rattle.tags_rules.specs.declared.tag.Target.{Target}
-use Rattle.tags_rules.specs.declared.tag.Targets.{Targets}
-use Rattle.tags_rules.specs.declared.tag.Targets.TheVariants.{Unset, Set}
 use Rattle.tags_rules.specs.declared.tag.Tag.{Tag}
-use Rattle.tags_rules.specs.declared.tag.TagReply.{TagReply}
-use Rattle.tags_rules.specs.declared.tag.TagReply.TheVariants.{Tag as IsTag, Refused as NoTag}
-use Rattle.tags_rules.specs.declared.uid.UidReply.{UidReply}
-use Rattle.tags_rules.specs.declared.uid.UidReply.TheVariants.{Uid, Refused as NoUid}
+use Rattle.std.proofs.Common.{Result, Option, Ok, Err, Some, None}
+use Rattle.refusals.specs.declared.refusal.Refusal.{Refusal}
 
 -- ---- the fields tell the record
 
@@ -47,12 +41,12 @@ target_once a b q i =
       attachments = count_once a.attachments b.attachments (cc) i;
     }
 
-targets_once : (x y : Targets) (n m : ℕ) → targets_values x ++ (count n ∷ []) ≡ targets_values y ++ (count m ∷ [])
+targets_once : (x y : Option Target) (n m : ℕ) → targets_values x ++ (count n ∷ []) ≡ targets_values y ++ (count m ∷ [])
     → (x ≡ y) × (n ≡ m)
-targets_once Unset Unset n m q = (refl, cc)
-targets_once Unset (Set y) n m q = (cc, cc)
-targets_once (Set x) Unset n m q = (cc, cc)
-targets_once (Set x) (Set y) n m q = (ap Set (target_once x y (cc)), cc)
+targets_once None None n m q = (refl, cc)
+targets_once None (Some y) n m q = (cc, cc)
+targets_once (Some x) None n m q = (cc, cc)
+targets_once (Some x) (Some y) n m q = (ap Some (target_once x y (cc)), cc)
 
 tag_once : (a b : Tag) → tag_values a ≡ tag_values b → a ≡ b
 tag_once a b q i =
@@ -61,23 +55,23 @@ tag_once a b q i =
 
 -- ---- document 01's values tell the reply
 
-simple_told_law : (r r' : SimpleReply) → simple_told r ≡ simple_told r' → r ≡ r'
-simple_told_law (IsSimple a n) (IsSimple b m) q = cc (simple_once a b (cc))
-simple_told_law (IsSimple a n) (NoSimple e) q = cc
-simple_told_law (NoSimple e) (IsSimple b m) q = cc
-simple_told_law (NoSimple e) (NoSimple f) q = cc
+simple_told_law : (r r' : Result (SimpleTag × ℕ) Refusal) → simple_told r ≡ simple_told r' → r ≡ r'
+simple_told_law (Ok (a, n)) (Ok (b, m)) q = cc (simple_once a b (cc))
+simple_told_law (Ok (a, n)) (Err e) q = cc
+simple_told_law (Err e) (Ok (b, m)) q = cc
+simple_told_law (Err e) (Err f) q = cc
 
-tag_told_law : (r r' : TagReply) → tag_told r ≡ tag_told r' → r ≡ r'
-tag_told_law (IsTag a n) (IsTag b m) q = cc (tag_once a b (cc))
-tag_told_law (IsTag a n) (NoTag e) q = cc
-tag_told_law (NoTag e) (IsTag b m) q = cc
-tag_told_law (NoTag e) (NoTag f) q = cc
+tag_told_law : (r r' : Result (Tag × ℕ) Refusal) → tag_told r ≡ tag_told r' → r ≡ r'
+tag_told_law (Ok (a, n)) (Ok (b, m)) q = cc (tag_once a b (cc))
+tag_told_law (Ok (a, n)) (Err e) q = cc
+tag_told_law (Err e) (Ok (b, m)) q = cc
+tag_told_law (Err e) (Err f) q = cc
 
-uid_told_law : (r r' : UidReply) → uid_told r ≡ uid_told r' → r ≡ r'
-uid_told_law (Uid a n) (Uid b m) q = cc
-uid_told_law (Uid a n) (NoUid e) q = cc
-uid_told_law (NoUid e) (Uid b m) q = cc
-uid_told_law (NoUid e) (NoUid f) q = cc
+uid_told_law : (r r' : Result (ℕ × ℕ) Refusal) → uid_told r ≡ uid_told r' → r ≡ r'
+uid_told_law (Ok (a, n)) (Ok (b, m)) q = cc
+uid_told_law (Ok (a, n)) (Err e) q = cc
+uid_told_law (Err e) (Ok (b, m)) q = cc
+uid_told_law (Err e) (Err f) q = cc
 
 -- ---- the theorems
 
@@ -107,7 +101,7 @@ tags_honest = record {
 
 pub tags_live : TagsLive
 tags_live = record {
-  tag = λ s start size k. record_modes tag_told NoTag tag_told_law (λ e. refl) _ s start size _ _;
-  uid = λ s start size k list i. member_modes uid_told NoUid uid_told_law (λ e. refl) _ s start size _ _ _;
-  simple = λ s start size k i. record_modes simple_told NoSimple simple_told_law (λ e. refl) _ s start size _ _;
+  tag = λ s start size k. record_modes tag_told Err tag_told_law (λ e. refl) _ s start size _ _;
+  uid = λ s start size k list i. member_modes uid_told Err uid_told_law (λ e. refl) _ s start size _ _ _;
+  simple = λ s start size k i. record_modes simple_told Err simple_told_law (λ e. refl) _ s start size _ _;
 }

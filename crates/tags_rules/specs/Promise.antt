@@ -6,10 +6,11 @@ use Rattle.locate_rules.specs.Promise.{RecordPromise, of_below}
 use Rattle.locate_rules.specs.declared.steps.Step.TheVariants.{Here, Nth, Last}
 use Rattle.tags_rules.specs.Records.{tag_of, uid_of, member_of, simple_of}
 use Rattle.tags_rules.specs.Told.{tag_told, uid_told, simple_told}
-use Rattle.tags_rules.specs.declared.tag.TagReply.{TagReply}
 use Rattle.tags_rules.specs.declared.uid.UidList.{UidList}
-use Rattle.tags_rules.specs.declared.uid.UidReply.{UidReply}
-use Rattle.tags_rules.specs.declared.simple.SimpleReply.{SimpleReply}
+use Rattle.std.specs.Prelude.{Result}
+use Rattle.refusals.specs.declared.refusal.Refusal.{Refusal}
+use Rattle.tags_rules.specs.declared.simple.SimpleTag.{SimpleTag}
+use Rattle.tags_rules.specs.declared.tag.Tag.{Tag}
 
 -- ---- the questions, with a table of so many numbers
 
@@ -29,17 +30,17 @@ module _ (live : Bool) (s : List ℕ) (start size k : ℕ) where
 
 -- ---- the promises
 
-abbrev pub TagPromise : (live : Bool) (s : List ℕ) (start size k : ℕ) (t : List ℕ) (r : TagReply) (t' : List ℕ) → Type 0
+abbrev pub TagPromise : (live : Bool) (s : List ℕ) (start size k : ℕ) (t : List ℕ) (r : Result (Tag × ℕ) Refusal) (t' : List ℕ) → Type 0
 TagPromise live s start size k t r t' =
     RecordPromise (tag_of s) (tag_asked live s start size k (length t)) (length t) (tag_told r) t'
 
 abbrev pub UidPromise :
-    (live : Bool) (s : List ℕ) (start size k : ℕ) (list : UidList) (i : ℕ) (t : List ℕ) (r : UidReply) (t' : List ℕ)
+    (live : Bool) (s : List ℕ) (start size k : ℕ) (list : UidList) (i : ℕ) (t : List ℕ) (r : Result (ℕ × ℕ) Refusal) (t' : List ℕ)
     → Type 0
 UidPromise live s start size k list i t r t' =
     RecordPromise (uid_of s list i) (uid_asked live s start size k list i (length t)) (length t) (uid_told r) t'
 
 abbrev pub SimplePromise :
-    (live : Bool) (s : List ℕ) (start size k i : ℕ) (t : List ℕ) (r : SimpleReply) (t' : List ℕ) → Type 0
+    (live : Bool) (s : List ℕ) (start size k i : ℕ) (t : List ℕ) (r : Result (SimpleTag × ℕ) Refusal) (t' : List ℕ) → Type 0
 SimplePromise live s start size k i t r t' =
     RecordPromise (of_below (simple_of s)) (simple_asked live s start size k i (length t)) (length t) (simple_told r) t'

@@ -7,10 +7,9 @@ use Rattle.fields_rules.specs.Children.{subtree, children, nth_of, rows_in}
 use Rattle.fields_rules.specs.Values.{FieldValue, flag, number_in}
 use Rattle.fields_rules.specs.Fields.{last_child, number_of, flag_of, content_of, language_of, value_of, count_of}
 use Rattle.fields_rules.specs.declared.child.Below.{Below}
-use Rattle.fields_rules.specs.declared.child.Child.{Child}
-use Rattle.fields_rules.specs.declared.child.Child.TheVariants.{At as ChildAt, Absent as NoChild}
 use Rattle.tags_rules.specs.declared.uid.UidList.{UidList}
 use Rattle.tags_rules.specs.declared.uid.UidList.TheVariants.{Track, Edition, Chapter, Attachment}
+use Rattle.std.specs.Prelude.{Option, Some, None}
 
 -- Of a master in a recording, with the rows below it.
 module _ (s : List ℕ) (parent : ℕ) (below : List Row) where
@@ -35,9 +34,9 @@ module _ (s : List ℕ) (parent : ℕ) (below : List Row) where
 
 -- Of a master among the rows that were read: Targets is a master of its own, and the last one counts.
 module _ (s : List ℕ) (rs : List Row) (parent : ℕ) where
-  abbrev pub targets_in : Child → List FieldValue
-  targets_in NoChild = flag false ∷ []
-  targets_in (ChildAt n r) = flag true ∷ target_of s (suc n) (subtree rs (suc n))
+  abbrev pub targets_in : Option (ℕ × Row) → List FieldValue
+  targets_in None = flag false ∷ []
+  targets_in (Some (n, r)) = flag true ∷ target_of s (suc n) (subtree rs (suc n))
 
   unfoldable pub targets_of : List FieldValue
   targets_of = targets_in (last_child s parent (subtree rs parent) 0x63C0 Master)
@@ -56,10 +55,10 @@ member_id Chapter = 0x63C4
 member_id Attachment = 0x63C6
 
 -- The i-th member of a uid list below the master; and of a master's rows in a table.
-abbrev pub member_of : UidList → ℕ → List Row → ℕ → Child
+abbrev pub member_of : UidList → ℕ → List Row → ℕ → Option (ℕ × Row)
 member_of list i rs parent = nth_of i (children parent (member_id list) Uint (subtree rs parent))
 
-abbrev pub member_in : List ℕ → Below → UidList → ℕ → Child
+abbrev pub member_in : List ℕ → Below → UidList → ℕ → Option (ℕ × Row)
 member_in t b list i = nth_of i (children b.parent (member_id list) Uint (rows_in t b))
 
 unfoldable pub uid_of : List ℕ → UidList → ℕ → List Row → ℕ → List FieldValue

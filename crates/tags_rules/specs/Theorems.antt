@@ -7,9 +7,7 @@ use Rattle.tags_rules.specs.Records.{tag_of, uid_of, simple_of}
 use Rattle.tags_rules.specs.Promise.{tag_asked, uid_asked, simple_asked}
 use Rattle.tags_rules.specs.Promise.{TagPromise, UidPromise, SimplePromise}
 use Rattle.tags_rules.specs.declared.uid.UidList.{UidList}
-use Rattle.tags_rules.specs.declared.tag.TagReply.TheVariants.{Refused as NoTag}
-use Rattle.tags_rules.specs.declared.uid.UidReply.TheVariants.{Refused as NoUid}
-use Rattle.tags_rules.specs.declared.simple.SimpleReply.TheVariants.{Refused as NoSimple}
+use Rattle.std.specs.Prelude.{Err}
 
 -- Any two replies and tables that a promise permits to one question are equal (document 01, Strength of the promises).
 -- The numbers that stood in the lent table do not matter, only how many there are.
@@ -26,24 +24,24 @@ OneSimple = (live : Bool) (s : List ℕ) (start size k i : ℕ) → OneReply (Si
 
 -- A refusal among the replies that a promise permits is one of the list (`Listed`).
 pub record TagsRefuseListed : Type 0 where
-  pub tag : (live : Bool) (s : List ℕ) (start size k : ℕ) → OnlyListed NoTag (TagPromise live s start size k)
+  pub tag : (live : Bool) (s : List ℕ) (start size k : ℕ) → OnlyListed Err (TagPromise live s start size k)
   pub uid :
       (live : Bool) (s : List ℕ) (start size k : ℕ) (list : UidList) (i : ℕ)
-      → OnlyListed NoUid (UidPromise live s start size k list i)
+      → OnlyListed Err (UidPromise live s start size k list i)
   pub simple :
-      (live : Bool) (s : List ℕ) (start size k i : ℕ) → OnlyListed NoSimple (SimplePromise live s start size k i)
+      (live : Bool) (s : List ℕ) (start size k i : ℕ) → OnlyListed Err (SimplePromise live s start size k i)
 
 -- Where it broke: the payload's refusals are honest, and 14 and 15 have address 0.
 pub record TagsHonest : Type 0 where
   pub tag :
       (live : Bool) (s : List ℕ) (start size k : ℕ)
-      → OnlyHonest live s start size 0x7373 NoTag (TagPromise live s start size k)
+      → OnlyHonest live s start size 0x7373 Err (TagPromise live s start size k)
   pub uid :
       (live : Bool) (s : List ℕ) (start size k : ℕ) (list : UidList) (i : ℕ)
-      → OnlyHonest live s start size 0x7373 NoUid (UidPromise live s start size k list i)
+      → OnlyHonest live s start size 0x7373 Err (UidPromise live s start size k list i)
   pub simple :
       (live : Bool) (s : List ℕ) (start size k i : ℕ)
-      → OnlyHonest live s start size 0x7373 NoSimple (SimplePromise live s start size k i)
+      → OnlyHonest live s start size 0x7373 Err (SimplePromise live s start size k i)
 
 -- Every address in a record that is told is the payload's place of one of the rows that the table holds at exit.
 pub record TagsAddressed : Type 0 where
@@ -60,10 +58,10 @@ pub record TagsAddressed : Type 0 where
 pub record TagsLive : Type 0 where
   pub tag :
       (s : List ℕ) (start size k : ℕ)
-      → BothModes s start size 0x7373 NoTag (λ (live : Bool). TagPromise live s start size k)
+      → BothModes s start size 0x7373 Err (λ (live : Bool). TagPromise live s start size k)
   pub uid :
       (s : List ℕ) (start size k : ℕ) (list : UidList) (i : ℕ)
-      → BothModes s start size 0x7373 NoUid (λ (live : Bool). UidPromise live s start size k list i)
+      → BothModes s start size 0x7373 Err (λ (live : Bool). UidPromise live s start size k list i)
   pub simple :
       (s : List ℕ) (start size k i : ℕ)
-      → BothModes s start size 0x7373 NoSimple (λ (live : Bool). SimplePromise live s start size k i)
+      → BothModes s start size 0x7373 Err (λ (live : Bool). SimplePromise live s start size k i)

@@ -4,16 +4,11 @@ use Rattle.fields_rules.specs.Values.{FieldValue, number, flag, count}
 use Rattle.fields_rules.specs.Told.{number_told, flag_told, content_told, language_told, value_told}
 use Rattle.locate_rules.specs.Told.{Answer, fields, refusal}
 use Rattle.tags_rules.specs.declared.tag.Target.{Target}
-use Rattle.tags_rules.specs.declared.tag.Targets.{Targets}
-use Rattle.tags_rules.specs.declared.tag.Targets.TheVariants.{Unset, Set}
 use Rattle.tags_rules.specs.declared.tag.Tag.{Tag}
-use Rattle.tags_rules.specs.declared.tag.TagReply.{TagReply}
-use Rattle.tags_rules.specs.declared.tag.TagReply.TheVariants.{Tag as IsTag, Refused as NoTag}
-use Rattle.tags_rules.specs.declared.uid.UidReply.{UidReply}
-use Rattle.tags_rules.specs.declared.uid.UidReply.TheVariants.{Uid, Refused as NoUid}
 use Rattle.tags_rules.specs.declared.simple.SimpleTag.{SimpleTag}
-use Rattle.tags_rules.specs.declared.simple.SimpleReply.{SimpleReply}
-use Rattle.tags_rules.specs.declared.simple.SimpleReply.TheVariants.{Simple as IsSimple, Refused as NoSimple}
+use Rattle.std.specs.Prelude.{Result, Option, Ok, Err, Some, None}
+use Rattle.refusals.specs.declared.refusal.Refusal.{Refusal}
+use Rattle.std.specs.Prelude.{ℕ}
 
 -- ---- the fields of a record
 
@@ -31,23 +26,23 @@ target_values t =
     ∷ count t.attachments
     ∷ []
 
-abbrev pub targets_values : Targets → List FieldValue
-targets_values Unset = flag false ∷ []
-targets_values (Set t) = flag true ∷ target_values t
+abbrev pub targets_values : Option Target → List FieldValue
+targets_values None = flag false ∷ []
+targets_values (Some t) = flag true ∷ target_values t
 
 abbrev pub tag_values : Tag → List FieldValue
 tag_values t = targets_values t.targets ++ (count t.simple ∷ [])
 
 -- ---- the replies
 
-abbrev pub tag_told : TagReply → Answer
-tag_told (IsTag a rows) = fields (tag_values a) rows
-tag_told (NoTag e) = refusal e
+abbrev pub tag_told : Result (Tag × ℕ) Refusal → Answer
+tag_told (Ok (a, rows)) = fields (tag_values a) rows
+tag_told (Err e) = refusal e
 
-abbrev pub uid_told : UidReply → Answer
-uid_told (Uid uid rows) = fields (number uid ∷ []) rows
-uid_told (NoUid e) = refusal e
+abbrev pub uid_told : Result (ℕ × ℕ) Refusal → Answer
+uid_told (Ok (uid, rows)) = fields (number uid ∷ []) rows
+uid_told (Err e) = refusal e
 
-abbrev pub simple_told : SimpleReply → Answer
-simple_told (IsSimple a rows) = fields (simple_values a) rows
-simple_told (NoSimple e) = refusal e
+abbrev pub simple_told : Result (SimpleTag × ℕ) Refusal → Answer
+simple_told (Ok (a, rows)) = fields (simple_values a) rows
+simple_told (Err e) = refusal e

@@ -5,6 +5,6 @@ mod simple;
 mod tag;
 mod uid;
 
-pub use simple::{SimpleReply, SimpleTag};
-pub use tag::{Tag, TagReply, Target, Targets};
-pub use uid::{UidList, UidReply};
+pub use simple::SimpleTag;
+pub use tag::{Tag, Target};
+pub use uid::UidList;

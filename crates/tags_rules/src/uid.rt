@@ -8,10 +8,3 @@ pub enum UidList {
     Chapter,
     Attachment,
 }
-
-// The uid with how many rows the table holds, or a refusal.
-#[derive(Clone, Copy)]
-pub enum UidReply {
-    Uid { uid: u64, rows: u64 },
-    Refused(Refusal),
-}

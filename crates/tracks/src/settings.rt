@@ -6,41 +6,36 @@ ghost use Rattle.tracks_rules.specs.Settings.{decided, settings_of};
 ghost use Rattle.tracks_rules.specs.Told.{settings_values};
 
 use children::{last_child, rows_below};
-use fields_rules::{Below, Child};
+use elements_rules::Row;
+use fields_rules::Below;
 use kinds::{Kind, ids};
 use media::{audio_in, video_in};
 use media_rules::{Audio, Video};
 use tracks_rules::{Deciding, Settings};
 
 // The later of the last Video and the last Audio.
-fn later(video: Child, audio: Child) -> Deciding
+fn later(video: Option<(usize, Row)>, audio: Option<(usize, Row)>) -> Option<Deciding>
     ensures { result ≡ decided video audio }
 {
     match video {
-        Child::Absent => match audio {
-            Child::Absent => Deciding::None,
-            Child::At { number, row: _ } => Deciding::Audio(number),
+        None => match audio {
+            None => None,
+            Some((number, _)) => Some(Deciding::Audio(number)),
         },
-        Child::At {
-            number: first,
-            row: _,
-        } => match audio {
-            Child::Absent => Deciding::Video(first),
-            Child::At {
-                number: second,
-                row: _,
-            } => {
+        Some((first, _)) => match audio {
+            None => Some(Deciding::Video(first)),
+            Some((second, _)) => {
                 if first < second {
-                    return Deciding::Audio(second);
+                    return Some(Deciding::Audio(second));
                 }
-                Deciding::Video(first)
+                Some(Deciding::Video(first))
             }
         },
     }
 }
 
 // The last settings of a track, whichever they are.
-pub fn settings_in(recording: &[u8], table: &[u64], rows: usize, master: Below) -> Settings
+pub fn settings_in(recording: &[u8], table: &[u64], rows: usize, master: Below) -> Option<Settings>
     requires { Stands recording.now table.now rows master }
     ensures { settings_values result ≡ settings_of recording.now (rows_of
         table.now rows) master.parent }
@@ -48,14 +43,14 @@ pub fn settings_in(recording: &[u8], table: &[u64], rows: usize, master: Below) 
     let video = last_child(table, master, ids::VIDEO, Kind::Master);
     let audio = last_child(table, master, ids::AUDIO, Kind::Master);
     match later(video, audio) {
-        Deciding::None => Settings::None,
-        Deciding::Video(number) => {
+        None => None,
+        Some(Deciding::Video(number)) => {
             let inner = rows_below(table, rows, number + 1);
-            Settings::Video(video_in(recording, table, inner))
+            Some(Settings::Video(video_in(recording, table, inner)))
         }
-        Deciding::Audio(number) => {
+        Some(Deciding::Audio(number)) => {
             let inner = rows_below(table, rows, number + 1);
-            Settings::Audio(audio_in(recording, table, inner))
+            Some(Settings::Audio(audio_in(recording, table, inner)))
         }
     }
 }

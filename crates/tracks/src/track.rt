@@ -9,11 +9,12 @@ ghost use Rattle.tracks_rules.specs.Promise.{TrackPromise};
 use crate::settings::settings_in;
 use crate::typed::typed_of;
 use fields::{content_field, flag_field, language_field, number_field};
-use fields_rules::{Below, Flag};
+use fields_rules::Below;
 use kinds::{Kind, ids};
 use locate::locate;
-use locate_rules::{Located, Step, Way};
-use tracks_rules::{Track, TrackReply};
+use locate_rules::{Step, Way};
+use refusals::Refusal;
+use tracks_rules::Track;
 
 // The track, by the rows below its master and those below its last settings.
 pub fn track_in(recording: &[u8], table: &[u64], rows: usize, master: Below) -> Track
@@ -28,11 +29,11 @@ pub fn track_in(recording: &[u8], table: &[u64], rows: usize, master: Below) -> 
         enabled: flag_field(recording, table, master, ids::FLAGENABLED),
         default: flag_field(recording, table, master, ids::FLAGDEFAULT),
         forced: flag_field(recording, table, master, ids::FLAGFORCED),
-        hearing_impaired: Flag::Unset,
-        visual_impaired: Flag::Unset,
-        text_descriptions: Flag::Unset,
-        original: Flag::Unset,
-        commentary: Flag::Unset,
+        hearing_impaired: None,
+        visual_impaired: None,
+        text_descriptions: None,
+        original: None,
+        commentary: None,
         lacing: flag_field(recording, table, master, ids::FLAGLACING),
         default_duration: number_field(recording, table, master, ids::DEFAULTDURATION),
         name: content_field(recording, table, master, ids::NAME, Kind::Utf8),
@@ -53,7 +54,7 @@ pub fn track_at(
     size: u64,
     k: u64,
     table: &mut [u64],
-) -> TrackReply
+) -> Result<(Track, u64), Refusal>
     ensures { TrackPromise live recording.now start size k
         table.old result table.new }
 {
@@ -67,10 +68,7 @@ pub fn track_at(
         third: Step::Here,
     };
     match locate(recording, live, start, size, ids::TRACKENTRY, way, table) {
-        Located::Refused(refusal) => TrackReply::Refused(refusal),
-        Located::At { master, rows } => TrackReply::Track {
-            track: track_in(recording, table, rows, master),
-            rows: rows as u64,
-        },
+        Err(refusal) => Err(refusal),
+        Ok((master, rows)) => Ok((track_in(recording, table, rows, master), rows as u64)),
     }
 }

@@ -5,15 +5,13 @@ ghost use Rattle.tracks_rules.specs.Typed.{typed};
 ghost use Rattle.tracks_rules.specs.Told.{typed_told};
 
 use codes::Tracktype;
-use fields_rules::Number;
-use tracks_rules::Typed;
 
 // What a number that may be unset says of the type.
-pub fn typed_of(number: Number) -> Typed
+pub fn typed_of(number: Option<u64>) -> Option<Tracktype>
     ensures { typed_told result ≡ said typed number }
 {
     match number {
-        Number::Unset => Typed::Unset,
-        Number::Is(n) => Typed::Is(Tracktype::new(n)),
+        None => None,
+        Some(n) => Some(Tracktype::new(n)),
     }
 }

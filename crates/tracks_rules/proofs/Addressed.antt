@@ -15,9 +15,10 @@ use Rattle.tracks_rules.specs.Typed.{typed}
 use Rattle.tracks_rules.specs.Settings.{last_master, decided, settings_in, settings_of}
 use Rattle.tracks_rules.specs.Records.{entry_of, track_of}
 use Rattle.tracks_rules.specs.Theorems.{TrackAddressed}
-use Rattle.tracks_rules.specs.declared.settings.Deciding.{Deciding}
-use Rattle.tracks_rules.specs.declared.settings.Deciding.TheVariants.{None, Video, Audio}
+use Rattle.tracks_rules.specs.declared.settings.Deciding.TheVariants.{Video, Audio}
 use Rattle.tracks_rules.proofs.Decided.{video_is, audio_is}
+use Rattle.std.proofs.Common.{Option, Some, None}
+use Rattle.tracks_rules.specs.declared.settings.Deciding.{Deciding}
 
 typed_placed : (rs : List Row) (n : ℕ) → Placed rs (typed n)
 unfolding typed
@@ -28,16 +29,16 @@ module _ (s : List ℕ) (rs : List Row) (parent : ℕ) (l : parent ≤ length rs
   unfolding settings_of AllPlaced
   settings_placed = go (decided (last_master s rs parent 0xE0) (last_master s rs parent 0xE1)) refl
     where
-      go : (d : Deciding) → decided (last_master s rs parent 0xE0) (last_master s rs parent 0xE1) ≡ d
+      go : (d : Option Deciding) → decided (last_master s rs parent 0xE0) (last_master s rs parent 0xE1) ≡ d
           → AllPlaced rs (settings_in s rs parent d)
       go None e = (tt, tt)
-      go (Video n) e = (
+      go (Some (Video n)) e = (
         tt,
         video_placed s rs (suc n)
             (video_is (λ m. suc m ≤ length rs) (last_master s rs parent 0xE0) (last_master s rs parent 0xE1) n
             (λ m r q. last_known rs parent 0xE0 Master l m r q) (sym e)),
       )
-      go (Audio n) e = (
+      go (Some (Audio n)) e = (
         tt,
         audio_placed s rs (suc n)
             (audio_is (λ m. suc m ≤ length rs) (last_master s rs parent 0xE0) (last_master s rs parent 0xE1) n

@@ -12,32 +12,32 @@ use Rattle.media_rules.proofs.Unique.{audio_once, video_once}
 use Rattle.tracks_rules.specs.Told.{typed_told, settings_values, track_values, track_told}
 use Rattle.tracks_rules.specs.Promise.{track_asked}
 use Rattle.tracks_rules.specs.Theorems.{OneTrack, TracksRefuseListed, TracksHonest, TracksLive}
-use Rattle.tracks_rules.specs.declared.typed.Typed.{Typed}
-use Rattle.tracks_rules.specs.declared.typed.Typed.TheVariants.{Unset, Is}
-use Rattle.tracks_rules.specs.declared.settings.Settings.{Settings}
-use Rattle.tracks_rules.specs.declared.settings.Settings.TheVariants.{None, Video, Audio}
+use Rattle.tracks_rules.specs.declared.settings.Settings.TheVariants.{Video, Audio}
 use Rattle.tracks_rules.specs.declared.track.Track.{Track}
-use Rattle.tracks_rules.specs.declared.track.TrackReply.{TrackReply}
-use Rattle.tracks_rules.specs.declared.track.TrackReply.TheVariants.{Track as IsTrack, Refused as NoTrack}
+use Rattle.std.proofs.Common.{Result, Option, Ok, Err, Some, None}
+use Rattle.refusals.specs.declared.refusal.Refusal.{Refusal}
+use Rattle.tracks_rules.specs.declared.settings.Settings.{Settings}
+use Rattle.codes.specs.declared.tracktype.Tracktype.{Tracktype}
+use Prim.Native.Nat.{ℕ}
 
 -- ---- the fields tell the record
 
-typed_once : (x y : Typed) → typed_told x ≡ typed_told y → x ≡ y
-typed_once Unset Unset q = refl
-typed_once Unset (Is t) q = cc
-typed_once (Is t) Unset q = cc
-typed_once (Is t) (Is u) q = cc (type_once t u (cc))
+typed_once : (x y : Option Tracktype) → typed_told x ≡ typed_told y → x ≡ y
+typed_once None None q = refl
+typed_once None (Some t) q = cc
+typed_once (Some t) None q = cc
+typed_once (Some t) (Some u) q = cc (type_once t u (cc))
 
-settings_once : (x y : Settings) → settings_values x ≡ settings_values y → x ≡ y
+settings_once : (x y : Option Settings) → settings_values x ≡ settings_values y → x ≡ y
 settings_once None None q = refl
-settings_once None (Video w) q = cc
-settings_once None (Audio b) q = cc
-settings_once (Video v) None q = cc
-settings_once (Video v) (Video w) q = cc (video_once v w (cc))
-settings_once (Video v) (Audio b) q = cc
-settings_once (Audio a) None q = cc
-settings_once (Audio a) (Video w) q = cc
-settings_once (Audio a) (Audio b) q = cc (audio_once a b (cc))
+settings_once None (Some (Video w)) q = cc
+settings_once None (Some (Audio b)) q = cc
+settings_once (Some (Video v)) None q = cc
+settings_once (Some (Video v)) (Some (Video w)) q = cc (video_once v w (cc))
+settings_once (Some (Video v)) (Some (Audio b)) q = cc
+settings_once (Some (Audio a)) None q = cc
+settings_once (Some (Audio a)) (Some (Video w)) q = cc
+settings_once (Some (Audio a)) (Some (Audio b)) q = cc (audio_once a b (cc))
 
 track_once : (a b : Track) → track_values a ≡ track_values b → a ≡ b
 track_once a b q i =
@@ -65,11 +65,11 @@ track_once a b q i =
 
 -- ---- document 01's values tell the reply
 
-track_told_law : (r r' : TrackReply) → track_told r ≡ track_told r' → r ≡ r'
-track_told_law (IsTrack a n) (IsTrack b m) q = cc (track_once a b (cc))
-track_told_law (IsTrack a n) (NoTrack e) q = cc
-track_told_law (NoTrack e) (IsTrack b m) q = cc
-track_told_law (NoTrack e) (NoTrack f) q = cc
+track_told_law : (r r' : Result (Track × ℕ) Refusal) → track_told r ≡ track_told r' → r ≡ r'
+track_told_law (Ok (a, n)) (Ok (b, m)) q = cc (track_once a b (cc))
+track_told_law (Ok (a, n)) (Err e) q = cc
+track_told_law (Err e) (Ok (b, m)) q = cc
+track_told_law (Err e) (Err f) q = cc
 
 -- ---- the theorems
 
@@ -86,5 +86,5 @@ tracks_honest = record {
 
 pub tracks_live : TracksLive
 tracks_live = record {
-  track = λ s start size k. record_modes track_told NoTrack track_told_law (λ e. refl) _ s start size _ _;
+  track = λ s start size k. record_modes track_told Err track_told_law (λ e. refl) _ s start size _ _;
 }

@@ -6,7 +6,9 @@ use Rattle.locate_rules.specs.Promise.{RecordPromise}
 use Rattle.locate_rules.specs.declared.steps.Step.TheVariants.{Here, Nth}
 use Rattle.tracks_rules.specs.Records.{track_of}
 use Rattle.tracks_rules.specs.Told.{track_told}
-use Rattle.tracks_rules.specs.declared.track.TrackReply.{TrackReply}
+use Rattle.std.specs.Prelude.{Result}
+use Rattle.refusals.specs.declared.refusal.Refusal.{Refusal}
+use Rattle.tracks_rules.specs.declared.track.Track.{Track}
 
 -- ---- the question, with a table of so many numbers
 
@@ -18,6 +20,6 @@ track_asked live s start size k numbers = asked live s start size 0xAE numbers (
 -- ---- the promise
 
 abbrev pub TrackPromise :
-    (live : Bool) (s : List ℕ) (start size k : ℕ) (t : List ℕ) (r : TrackReply) (t' : List ℕ) → Type 0
+    (live : Bool) (s : List ℕ) (start size k : ℕ) (t : List ℕ) (r : Result (Track × ℕ) Refusal) (t' : List ℕ) → Type 0
 TrackPromise live s start size k t r t' =
     RecordPromise (track_of s) (track_asked live s start size k (length t)) (length t) (track_told r) t'

@@ -9,9 +9,9 @@ use Rattle.locate_rules.specs.Live.{BothModes}
 use Rattle.tracks_rules.specs.Settings.{decided}
 use Rattle.tracks_rules.specs.Records.{track_of}
 use Rattle.tracks_rules.specs.Promise.{track_asked, TrackPromise}
+use Rattle.tracks_rules.specs.declared.settings.Deciding.TheVariants.{Video, Audio}
+use Rattle.std.specs.Prelude.{Option, Err, Some, None}
 use Rattle.tracks_rules.specs.declared.settings.Deciding.{Deciding}
-use Rattle.tracks_rules.specs.declared.settings.Deciding.TheVariants.{None, Video, Audio}
-use Rattle.tracks_rules.specs.declared.track.TrackReply.TheVariants.{Refused as NoTrack}
 
 -- Any two replies and tables that the promise permits to one question are equal (document 01, Strength of the
 -- promises). The numbers that stood in the lent table do not matter, only how many there are.
@@ -20,13 +20,13 @@ OneTrack = (live : Bool) (s : List ℕ) (start size k : ℕ) → OneReply (Track
 
 -- A refusal among the replies that the promise permits is one of the list (`Listed`).
 pub record TracksRefuseListed : Type 0 where
-  pub track : (live : Bool) (s : List ℕ) (start size k : ℕ) → OnlyListed NoTrack (TrackPromise live s start size k)
+  pub track : (live : Bool) (s : List ℕ) (start size k : ℕ) → OnlyListed Err (TrackPromise live s start size k)
 
 -- Where it broke: the payload's refusals are honest, and 14 and 15 have address 0.
 pub record TracksHonest : Type 0 where
   pub track :
       (live : Bool) (s : List ℕ) (start size k : ℕ)
-      → OnlyHonest live s start size 0xAE NoTrack (TrackPromise live s start size k)
+      → OnlyHonest live s start size 0xAE Err (TrackPromise live s start size k)
 
 -- Every address in a record that is told is the payload's place of one of the rows that the table holds at exit.
 abbrev pub TrackAddressed : Type 0
@@ -37,7 +37,7 @@ TrackAddressed = (live : Bool) (s : List ℕ) (start size k : ℕ) → Addressed
 pub record TracksLive : Type 0 where
   pub track :
       (s : List ℕ) (start size k : ℕ)
-      → BothModes s start size 0xAE NoTrack (λ (live : Bool). TrackPromise live s start size k)
+      → BothModes s start size 0xAE Err (λ (live : Bool). TrackPromise live s start size k)
 
 -- ---- the last Video or Audio decides
 
@@ -54,13 +54,13 @@ NoneFrom parent below k =
     (m : ℕ) → k < m + 1 → m < length below
     → (fits parent 0xE0 Master (nth below m) ≡ false) × (fits parent 0xE1 Master (nth below m) ≡ false)
 
-pub data Decides (parent : ℕ) (below : List Row) (d : Deciding) : Type 0 where
+pub data Decides (parent : ℕ) (below : List Row) (d : Option Deciding) : Type 0 where
   none : d ≡ None → NoneFrom parent below 0 → Decides parent below d
   video :
-      (k : ℕ) → k < length below → IsVideo parent below k → d ≡ Video (parent + k)
+      (k : ℕ) → k < length below → IsVideo parent below k → d ≡ Some (Video (parent + k))
       → NoneFrom parent below (k + 1) → Decides parent below d
   audio :
-      (k : ℕ) → k < length below → IsAudio parent below k → d ≡ Audio (parent + k)
+      (k : ℕ) → k < length below → IsAudio parent below k → d ≡ Some (Audio (parent + k))
       → NoneFrom parent below (k + 1) → Decides parent below d
 
 abbrev pub LastDecides : Type 0

@@ -5,24 +5,24 @@ use Rattle.fields_rules.specs.Told.{number_told, flag_told, content_told, langua
 use Rattle.locate_rules.specs.Told.{Answer, fields, refusal}
 use Rattle.codes.specs.Tracktypes.{type_number}
 use Rattle.media_rules.specs.Told.{audio_values, video_values}
-use Rattle.tracks_rules.specs.declared.typed.Typed.{Typed}
-use Rattle.tracks_rules.specs.declared.typed.Typed.TheVariants.{Unset, Is}
-use Rattle.tracks_rules.specs.declared.settings.Settings.{Settings}
-use Rattle.tracks_rules.specs.declared.settings.Settings.TheVariants.{None, Video, Audio}
+use Rattle.tracks_rules.specs.declared.settings.Settings.TheVariants.{Video, Audio}
 use Rattle.tracks_rules.specs.declared.track.Track.{Track}
-use Rattle.tracks_rules.specs.declared.track.TrackReply.{TrackReply}
-use Rattle.tracks_rules.specs.declared.track.TrackReply.TheVariants.{Track as IsTrack, Refused as NoTrack}
+use Rattle.std.specs.Prelude.{Result, Option, Ok, Err, Some, None}
+use Rattle.refusals.specs.declared.refusal.Refusal.{Refusal}
+use Rattle.tracks_rules.specs.declared.settings.Settings.{Settings}
+use Rattle.codes.specs.declared.tracktype.Tracktype.{Tracktype}
+use Rattle.std.specs.Prelude.{ℕ}
 
 -- ---- the fields of a record
 
-abbrev pub typed_told : Typed → FieldValue
-typed_told Unset = unset
-typed_told (Is type) = number (type_number type)
+abbrev pub typed_told : Option Tracktype → FieldValue
+typed_told None = unset
+typed_told (Some type) = number (type_number type)
 
-abbrev pub settings_values : Settings → List FieldValue
+abbrev pub settings_values : Option Settings → List FieldValue
 settings_values None = unset ∷ []
-settings_values (Video v) = number 1 ∷ video_values v
-settings_values (Audio a) = number 2 ∷ audio_values a
+settings_values (Some (Video v)) = number 1 ∷ video_values v
+settings_values (Some (Audio a)) = number 2 ∷ audio_values a
 
 abbrev pub track_values : Track → List FieldValue
 track_values t =
@@ -48,6 +48,6 @@ track_values t =
 
 -- ---- the reply
 
-abbrev pub track_told : TrackReply → Answer
-track_told (IsTrack a rows) = fields (track_values a) rows
-track_told (NoTrack e) = refusal e
+abbrev pub track_told : Result (Track × ℕ) Refusal → Answer
+track_told (Ok (a, rows)) = fields (track_values a) rows
+track_told (Err e) = refusal e

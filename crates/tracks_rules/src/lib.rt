@@ -6,5 +6,4 @@ mod track;
 mod typed;
 
 pub use settings::{Deciding, Settings};
-pub use track::{Track, TrackReply};
-pub use typed::Typed;
+pub use track::Track;

@@ -3,7 +3,6 @@ use media_rules::{Audio, Video};
 
 #[derive(Clone, Copy)]
 pub enum Settings {
-    None,
     Video(Video),
     Audio(Audio),
 }
@@ -11,7 +10,6 @@ pub enum Settings {
 // The master that decides, by its row's number.
 #[derive(Clone, Copy)]
 pub enum Deciding {
-    None,
     Video(usize),
     Audio(usize),
 }

@@ -1,38 +1,32 @@
 // A track, and the reply of `track_at`.
 use crate::settings::Settings;
-use crate::typed::Typed;
-use fields_rules::{Content, Flag, Language, Number};
+use bodies_rules::Range;
+use codes::Tracktype;
+use fields_rules::Language;
 use refusals::Refusal;
 
 #[derive(Clone, Copy)]
 pub struct Track {
-    pub number: Number,
-    pub uid: Number,
-    pub tracktype: Typed,
-    pub enabled: Flag,
-    pub default: Flag,
-    pub forced: Flag,
+    pub number: Option<u64>,
+    pub uid: Option<u64>,
+    pub tracktype: Option<Tracktype>,
+    pub enabled: Option<bool>,
+    pub default: Option<bool>,
+    pub forced: Option<bool>,
     // The five flags 55AB to 55AF stay unset (document 02, C-11); their rows are in the table.
-    pub hearing_impaired: Flag,
-    pub visual_impaired: Flag,
-    pub text_descriptions: Flag,
-    pub original: Flag,
-    pub commentary: Flag,
+    pub hearing_impaired: Option<bool>,
+    pub visual_impaired: Option<bool>,
+    pub text_descriptions: Option<bool>,
+    pub original: Option<bool>,
+    pub commentary: Option<bool>,
     // The crate calls it `interlaced`.
-    pub lacing: Flag,
+    pub lacing: Option<bool>,
     // In nanoseconds, of a frame.
-    pub default_duration: Number,
-    pub name: Content,
-    pub language: Language,
-    pub codec_id: Content,
-    pub codec_private: Content,
-    pub codec_name: Content,
-    pub settings: Settings,
-}
-
-// The record with how many rows the table holds, or a refusal.
-#[derive(Clone, Copy)]
-pub enum TrackReply {
-    Track { track: Track, rows: u64 },
-    Refused(Refusal),
+    pub default_duration: Option<u64>,
+    pub name: Option<Range>,
+    pub language: Option<Language>,
+    pub codec_id: Option<Range>,
+    pub codec_private: Option<Range>,
+    pub codec_name: Option<Range>,
+    pub settings: Option<Settings>,
 }

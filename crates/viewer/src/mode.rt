@@ -2,17 +2,15 @@
 ghost use Rattle.std.specs.Prelude.{◌≡◌};
 ghost use Rattle.viewer_rules.specs.Modes.{chosen_mode};
 
-use viewer_rules::Chosen;
-
 // 0 is old mode, 1 is live mode, and no other number is one.
-pub fn chosen_mode(mode: u32) -> Chosen
+pub fn chosen_mode(mode: u32) -> Option<bool>
     ensures { result ≡ chosen_mode mode }
 {
     if mode == 0 {
-        return Chosen::Mode(false);
+        return Some(false);
     }
     if mode == 1 {
-        return Chosen::Mode(true);
+        return Some(true);
     }
-    Chosen::NoMode
+    None
 }

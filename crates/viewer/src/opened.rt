@@ -6,10 +6,10 @@ ghost use Rattle.viewer_rules.specs.Promise.{UzOpenPromise};
 
 use crate::mode::chosen_mode;
 use open::open;
-use open_rules::{OpenReply, Part};
+use open_rules::{Part, Parts};
 use refusals::{Cause, Refusal};
 use rowstore::clear;
-use viewer_rules::{Chosen, UzFound, UzOpened};
+use viewer_rules::{UzFound, UzOpened};
 
 // How one of the parts crosses to C.
 fn found_face(part: Part) -> UzFound
@@ -32,11 +32,11 @@ fn found_face(part: Part) -> UzFound
 }
 
 // How the reply crosses to C.
-fn opened_face(reply: OpenReply) -> UzOpened
+fn opened_face(reply: Result<(Parts, u64), Refusal>) -> UzOpened
     ensures { result ≡ opened_face reply }
 {
     match reply {
-        OpenReply::Read { parts, heads } => {
+        Ok((parts, heads)) => {
             // A field that is an enum is handed on by a variable of its own.
             let of_info = parts.info;
             let of_tracks = parts.tracks;
@@ -60,7 +60,7 @@ fn opened_face(reply: OpenReply) -> UzOpened
                 tags,
             }
         }
-        OpenReply::Refused(refusal) => {
+        Err(refusal) => {
             let cause = refusal.cause;
             let number = cause.number();
             let id = cause.id() as u64;
@@ -96,22 +96,14 @@ pub fn uz_open(
         tags.new) }
 {
     match chosen_mode(mode) {
-        Chosen::Mode(live) => opened_face(open(
-            recording,
-            live,
-            info,
-            tracks,
-            attachments,
-            chapters,
-            tags,
-        )),
-        Chosen::NoMode => {
+        Some(live) => opened_face(open(recording, live, info, tracks, attachments, chapters, tags)),
+        None => {
             clear(info);
             clear(tracks);
             clear(attachments);
             clear(chapters);
             clear(tags);
-            opened_face(OpenReply::Refused(Refusal {
+            opened_face(Err(Refusal {
                 address: 0,
                 cause: Cause::BadArgument,
             }))

@@ -1,37 +1,36 @@
 // `uz_owner` and `uz_owner_chain`: the element that holds an address of a payload, by headers alone.
-ghost use Rattle.std.specs.Prelude.{◌≡◌};
+ghost use Rattle.std.specs.Prelude.{Err, ◌≡◌};
 ghost use Rattle.refusals.specs.Refusals.{bad_argument};
-ghost use Rattle.owner_rules.specs.declared.owner.OwnerReply.TheVariants.{Refused as NoOwner};
 ghost use Rattle.viewer_rules.specs.Faces.{owned_face};
 ghost use Rattle.viewer_rules.specs.Promise.{UzOwnerPromise, UzChainPromise};
 
 use crate::mode::chosen_mode;
 use owner::{owner, owner_chain};
-use owner_rules::OwnerReply;
+use owner_rules::Owner;
 use refusals::{Cause, Refusal};
 use rowstore::clear;
-use viewer_rules::{Chosen, UzOwned};
+use viewer_rules::UzOwned;
 
 // How the reply crosses to C.
-fn owned_face(reply: OwnerReply) -> UzOwned
+fn owned_face(reply: Result<Owner, Refusal>) -> UzOwned
     ensures { result ≡ owned_face reply }
 {
     match reply {
-        OwnerReply::Header { address, depth } => UzOwned {
+        Ok(Owner::Header { address, depth }) => UzOwned {
             refused: 0,
             refused_at: 0,
             at: address,
             in_payload: 0,
             depth,
         },
-        OwnerReply::Payload { address, depth } => UzOwned {
+        Ok(Owner::Payload { address, depth }) => UzOwned {
             refused: 0,
             refused_at: 0,
             at: address,
             in_payload: 1,
             depth,
         },
-        OwnerReply::Refused(refusal) => {
+        Err(refusal) => {
             let cause = refusal.cause;
             let number = cause.number();
             UzOwned {
@@ -46,10 +45,10 @@ fn owned_face(reply: OwnerReply) -> UzOwned
 }
 
 // What is told where no mode is named.
-fn no_mode() -> OwnerReply
-    ensures { result ≡ NoOwner bad_argument }
+fn no_mode() -> Result<Owner, Refusal>
+    ensures { result ≡ Err bad_argument }
 {
-    OwnerReply::Refused(Refusal {
+    Err(Refusal {
         address: 0,
         cause: Cause::BadArgument,
     })
@@ -66,8 +65,8 @@ pub fn uz_owner(
     ensures { UzOwnerPromise mode recording.now start size parent address result }
 {
     match chosen_mode(mode) {
-        Chosen::Mode(live) => owned_face(owner(recording, live, start, size, parent, address)),
-        Chosen::NoMode => owned_face(no_mode()),
+        Some(live) => owned_face(owner(recording, live, start, size, parent, address)),
+        None => owned_face(no_mode()),
     }
 }
 
@@ -84,10 +83,8 @@ pub fn uz_owner_chain(
         chain.old result chain.new }
 {
     match chosen_mode(mode) {
-        Chosen::Mode(live) => owned_face(owner_chain(
-            recording, live, start, size, parent, address, chain,
-        )),
-        Chosen::NoMode => {
+        Some(live) => owned_face(owner_chain(recording, live, start, size, parent, address, chain)),
+        None => {
             clear(chain);
             owned_face(no_mode())
         }

@@ -9,7 +9,7 @@ use refusals::{Cause, Refusal};
 use rowstore::clear;
 use search::find_part;
 use search_rules::PartReply;
-use viewer_rules::{Chosen, UzPart};
+use viewer_rules::UzPart;
 
 // How the reply crosses to C.
 fn part_face(reply: PartReply) -> UzPart
@@ -64,8 +64,8 @@ pub fn uz_find_part(recording: &[u8], part: u32, table: &mut [u64], mode: u32) -
         table.old result table.new }
 {
     match chosen_mode(mode) {
-        Chosen::Mode(live) => part_face(find_part(recording, live, part, table)),
-        Chosen::NoMode => {
+        Some(live) => part_face(find_part(recording, live, part, table)),
+        None => {
             clear(table);
             part_face(PartReply::Refused(Refusal {
                 address: 0,

@@ -3,19 +3,20 @@ ghost use Rattle.std.specs.Prelude.{◌≡◌};
 ghost use Rattle.places_rules.specs.Promise.{range_told};
 ghost use Rattle.viewer_rules.specs.Faces.{range_face};
 
-use places_rules::RangeReply;
+use bodies_rules::Range;
+use refusals::Refusal;
 use viewer_rules::UzRange;
 
-pub fn range_face(reply: RangeReply) -> UzRange
+pub fn range_face(reply: Result<Range, Refusal>) -> UzRange
     ensures { result ≡ range_face (range_told reply) }
 {
     match reply {
-        RangeReply::Range(range) => UzRange {
+        Ok(range) => UzRange {
             refused: 0,
             at: range.at,
             length: range.length,
         },
-        RangeReply::Refused(refusal) => {
+        Err(refusal) => {
             let cause = refusal.cause;
             let number = cause.number();
             UzRange {

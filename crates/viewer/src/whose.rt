@@ -6,31 +6,31 @@ ghost use Rattle.viewer_rules.specs.Promise.{UzPlacePromise};
 
 use crate::mode::chosen_mode;
 use places::whose_byte;
-use places_rules::WhoseReply;
+use places_rules::WhoseRow;
 use refusals::{Cause, Refusal};
 use rowstore::clear;
-use viewer_rules::{Chosen, UzPlace};
+use viewer_rules::UzPlace;
 
 // How the reply crosses to C.
-fn place_face(reply: WhoseReply) -> UzPlace
+fn place_face(reply: Result<WhoseRow, Refusal>) -> UzPlace
     ensures { result ≡ place_face (whose_told reply) }
 {
     match reply {
-        WhoseReply::Header { row, rows } => UzPlace {
+        Ok(WhoseRow::Header { row, rows }) => UzPlace {
             refused: 0,
             refused_at: 0,
             row,
             in_payload: 0,
             rows,
         },
-        WhoseReply::Payload { row, rows } => UzPlace {
+        Ok(WhoseRow::Payload { row, rows }) => UzPlace {
             refused: 0,
             refused_at: 0,
             row,
             in_payload: 1,
             rows,
         },
-        WhoseReply::Refused(refusal) => {
+        Err(refusal) => {
             let cause = refusal.cause;
             let number = cause.number();
             UzPlace {
@@ -57,12 +57,10 @@ pub fn uz_whose_byte(
         table.old result table.new }
 {
     match chosen_mode(mode) {
-        Chosen::Mode(live) => place_face(whose_byte(
-            recording, live, start, size, parent, address, table,
-        )),
-        Chosen::NoMode => {
+        Some(live) => place_face(whose_byte(recording, live, start, size, parent, address, table)),
+        None => {
             clear(table);
-            place_face(WhoseReply::Refused(Refusal {
+            place_face(Err(Refusal {
                 address: 0,
                 cause: Cause::BadArgument,
             }))

@@ -5,10 +5,7 @@ use mathlib.Core.Path.{◌≡◌, refl, ap, sym, ◌∙◌}
 use native.Mathlib.Omega.{arith}
 use borrow.Author.Tests.{ne_eqb}
 use Rattle.places_rules.specs.Promise.{range_told, whose_told}
-use Rattle.places_rules.specs.declared.payload.RangeReply.{RangeReply}
-use Rattle.places_rules.specs.declared.payload.RangeReply.TheVariants.{Range, Refused as NoRange}
-use Rattle.places_rules.specs.declared.whose.WhoseReply.{WhoseReply}
-use Rattle.places_rules.specs.declared.whose.WhoseReply.TheVariants.{Header, Payload, Refused as NoRow}
+use Rattle.places_rules.specs.declared.whose.WhoseRow.TheVariants.{Header, Payload}
 use Rattle.elements_rules.specs.Promise.{table_of as read_table}
 use Rattle.owner_rules.specs.Promise.{links_of}
 use Rattle.search_rules.specs.Part.{part_told}
@@ -17,27 +14,31 @@ use Rattle.search_rules.specs.declared.part.PartReply.{PartReply}
 use Rattle.search_rules.specs.declared.part.PartReply.TheVariants.{Found, Absent, Refused as NoPart}
 use Rattle.open_rules.specs.declared.parts.Part.{Part}
 use Rattle.open_rules.specs.declared.parts.Part.TheVariants.{Found as IsPart, Absent as NoSuch}
-use Rattle.open_rules.specs.declared.reply.OpenReply.{OpenReply}
-use Rattle.open_rules.specs.declared.reply.OpenReply.TheVariants.{Read, Refused as NoOpening}
 use Rattle.viewer_rules.specs.Modes.{chosen_mode}
 use Rattle.viewer_rules.specs.Faces.{part_face, range_face, place_face, owned_face, found_face, opened_face}
 use Rattle.viewer_rules.specs.Theorems.{part_named, range_named, place_named, PartNamed, RangeNamed, TextNamed}
 use Rattle.viewer_rules.specs.Theorems.{PlaceNamed, OwnerNamed, ChainNamed, NoModeRefused, OpenNoModeRefused, ModesNamed}
 use Rattle.viewer_rules.specs.Theorems.{found_named, open_named, OpenNamed}
+use Rattle.std.proofs.Common.{Result, Ok, Err}
+use Rattle.open_rules.specs.declared.parts.Parts.{Parts}
+use Rattle.bodies_rules.specs.declared.body.Range.{Range}
+use Rattle.refusals.specs.declared.refusal.Refusal.{Refusal}
+use Rattle.places_rules.specs.declared.whose.WhoseRow.{WhoseRow}
+use Prim.Native.Nat.{ℕ}
 
 part_face_law : (q : PartReply) → part_face (part_told q) ≡ part_named q
 part_face_law (Found at size rows heads) = refl
 part_face_law (Absent heads) = refl
 part_face_law (NoPart e) = refl
 
-range_face_law : (q : RangeReply) → range_face (range_told q) ≡ range_named q
-range_face_law (Range r) = refl
-range_face_law (NoRange e) = refl
+range_face_law : (q : Result Ok Refusal) → range_face (range_told q) ≡ range_named q
+range_face_law (Ok r) = refl
+range_face_law (Err e) = refl
 
-place_face_law : (q : WhoseReply) → place_face (whose_told q) ≡ place_named q
-place_face_law (Header row rows) = refl
-place_face_law (Payload row rows) = refl
-place_face_law (NoRow e) = refl
+place_face_law : (q : Result WhoseRow Refusal) → place_face (whose_told q) ≡ place_named q
+place_face_law (Ok (Header row rows)) = refl
+place_face_law (Ok (Payload row rows)) = refl
+place_face_law (Err e) = refl
 
 pub part_named_law : PartNamed
 part_named_law mode live s part t q r t' u' i p u =
@@ -64,9 +65,9 @@ found_face_law : (q : Part) → found_face q ≡ found_named q
 found_face_law NoSuch = refl
 found_face_law (IsPart at size rows) = refl
 
-open_face : (q : OpenReply) → opened_face q ≡ open_named q
-open_face (NoOpening e) = refl
-open_face (Read parts heads) =
+open_face : (q : Result (Parts × ℕ) Refusal) → opened_face q ≡ open_named q
+open_face (Err e) = refl
+open_face (Ok (parts, heads)) =
     rw (
       found_face_law parts.info,
       found_face_law parts.tracks,

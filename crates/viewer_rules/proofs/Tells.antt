@@ -17,8 +17,6 @@ use Rattle.owner_rules.specs.Promise.{owner_is, owner_reply}
 use Rattle.search_rules.specs.Part.{PartTold, found_part, absent_part, reply_of}
 use Rattle.open_rules.specs.Tables.{sizes_of}
 use Rattle.open_rules.specs.Promise.{reply_of as open_reply}
-use Rattle.open_rules.specs.declared.reply.OpenReply.{OpenReply}
-use Rattle.open_rules.specs.declared.reply.OpenReply.TheVariants.{Read, Refused as NoOpening}
 use Rattle.shown_rules.specs.Shown.{text_range}
 use Rattle.viewer_rules.specs.Modes.{search_in, asked_in, owner_in, chain_in, open_in}
 use Rattle.viewer_rules.specs.Faces.{part_face, range_face, place_face, owned_face, opened_face}
@@ -29,6 +27,9 @@ use Rattle.viewer_rules.specs.declared.owned.UzOwned.{UzOwned}
 use Rattle.viewer_rules.specs.declared.part.UzPart.{UzPart}
 use Rattle.viewer_rules.specs.declared.range.UzRange.{UzRange}
 use Rattle.viewer_rules.specs.declared.whose.UzPlace.{UzPlace}
+use Rattle.std.proofs.Common.{Result, Ok, Err}
+use Rattle.open_rules.specs.declared.parts.Parts.{Parts}
+use Rattle.refusals.specs.declared.refusal.Refusal.{Refusal}
 
 -- What crosses as `refused`, in each of the faces.
 abbrev crossed : {A : Type 0} → Reply A → ℕ
@@ -109,9 +110,9 @@ id_alone mode s part t r t' p some =
 
 -- ---- of all parts at once
 
-open_crossed : (reply : OpenReply) → crossed (open_told reply) ≡ (opened_face reply).refused
-open_crossed (Read parts heads) = refl
-open_crossed (NoOpening e) = refl
+open_crossed : (reply : Result (Parts × ℕ) Refusal) → crossed (open_told reply) ≡ (opened_face reply).refused
+open_crossed (Ok (parts, heads)) = refl
+open_crossed (Err e) = refl
 
 pub open_tells : OpenTells
 open_tells mode s t r t' p =
@@ -119,9 +120,9 @@ open_tells mode s t r t' p =
     subst (Tells (open_told reply)) (open_crossed reply ∙ ap (λ (x : UzOpened). x.refused) (sym p.reply))
     (tells (open_told reply))
 
-open_id : (reply : OpenReply) → ((opened_face reply).id ≡ 0 → ⊥) → (opened_face reply).refused ≡ 8
-open_id (Read parts heads) some = absurd (some refl)
-open_id (NoOpening e) some = (listed e).alone some
+open_id : (reply : Result (Parts × ℕ) Refusal) → ((opened_face reply).id ≡ 0 → ⊥) → (opened_face reply).refused ≡ 8
+open_id (Ok (parts, heads)) some = absurd (some refl)
+open_id (Err e) some = (listed e).alone some
 
 pub open_id_alone : OpenIdAlone
 open_id_alone mode s t r t' p some =

@@ -31,12 +31,8 @@ use Rattle.open_rules.specs.Opening.{refused as refused_opening}
 use Rattle.open_rules.specs.Promise.{open_of}
 use Rattle.open_rules.specs.Promise.{reply_of as open_reply}
 use Rattle.open_rules.specs.Faults.{OpenComes}
-use Rattle.open_rules.specs.declared.reply.OpenReply.{OpenReply}
-use Rattle.open_rules.specs.declared.reply.OpenReply.TheVariants.{Read, Refused as NoOpening}
 use Rattle.open_rules.proofs.Faults.{open_honest}
 use Rattle.viewer_rules.specs.Modes.{chosen_mode, in_mode}
-use Rattle.viewer_rules.specs.declared.mode.Chosen.{Chosen}
-use Rattle.viewer_rules.specs.declared.mode.Chosen.TheVariants.{Mode, NoMode}
 use Rattle.viewer_rules.specs.Faces.{part_face, place_face, owned_face, opened_face}
 use Rattle.viewer_rules.specs.Theorems.{TellsWhere, PartTellsWhere, PlaceTellsWhere, OwnerTellsWhere}
 use Rattle.viewer_rules.specs.Theorems.{ChainTellsWhere, OpenTellsWhere, ComesIn}
@@ -44,6 +40,8 @@ use Rattle.viewer_rules.specs.declared.opened.UzOpened.{UzOpened}
 use Rattle.viewer_rules.specs.declared.owned.UzOwned.{UzOwned}
 use Rattle.viewer_rules.specs.declared.part.UzPart.{UzPart}
 use Rattle.viewer_rules.specs.declared.whose.UzPlace.{UzPlace}
+use Rattle.std.proofs.Common.{Result, Option, Ok, Err, Some, None}
+use Rattle.open_rules.specs.declared.parts.Parts.{Parts}
 
 module _ (s : List ℕ) (Reached : ℕ → Errand → Type 0) where
   -- Without a refusal both are 0.
@@ -62,47 +60,47 @@ part_tells_where mode s part t r t' p =
     subst (λ (x : UzPart). TellsWhere s (There (chosen_mode mode)) x.refused x.refused_at) (sym p.reply)
     (by_mode (chosen_mode mode))
   where
-    There : Chosen → ℕ → Errand → Type 0
+    There : Option Bool → ℕ → Errand → Type 0
     There c = ComesIn c (λ live. SearchComes live s part (length t))
 
     by : (live : Bool) (x : Reply PartTold) → reply_of (search_of live s part (length t)) ≡ x
-        → TellsWhere s (There (Mode live)) (part_face x).refused (part_face x).refused_at
-    by live (accepted (found_part at size rows heads)) k = fine s (There (Mode live))
-    by live (accepted (absent_part heads)) k = fine s (There (Mode live))
+        → TellsWhere s (There (Some live)) (part_face x).refused (part_face x).refused_at
+    by live (accepted (found_part at size rows heads)) k = fine s (There (Some live))
+    by live (accepted (absent_part heads)) k = fine s (There (Some live))
     by live (refusal e) k =
-        broke s (There (Mode live)) e (search_honest live s part t e _ (record { reply = sym k; table = refl }))
+        broke s (There (Some live)) e (search_honest live s part t e _ (record { reply = sym k; table = refl }))
 
-    by_mode : (c : Chosen)
+    by_mode : (c : Option Bool)
         → TellsWhere s (There c)
         (part_face (reply_of (in_mode c (refused bad_argument) (λ live. search_of live s part (length t))))).refused
         (part_face (reply_of (in_mode c (refused bad_argument) (λ live. search_of live s part (length t))))).refused_at
-    by_mode (Mode live) = by live (reply_of (search_of live s part (length t))) refl
-    by_mode NoMode = broke s (There NoMode) bad_argument (callers (inl refl) refl)
+    by_mode (Some live) = by live (reply_of (search_of live s part (length t))) refl
+    by_mode None = broke s (There None) bad_argument (callers (inl refl) refl)
 
 pub place_tells_where : PlaceTellsWhere
 place_tells_where mode s start size parent x t r t' p =
     subst (λ (z : UzPlace). TellsWhere s (There (chosen_mode mode)) z.refused z.refused_at) (sym p.reply)
     (by_mode (chosen_mode mode))
   where
-    There : Chosen → ℕ → Errand → Type 0
+    There : Option Bool → ℕ → Errand → Type 0
     There c = ComesIn c (λ live. Comes s (keeping live) (length t / width) 0 parent start size 0)
 
     by : (live : Bool) (z : Reply Whose) → whose_of start x (asked_of live s start size parent x (length t)) ≡ z
-        → TellsWhere s (There (Mode live)) (place_face z).refused (place_face z).refused_at
-    by live (accepted (by_header row rows)) k = fine s (There (Mode live))
-    by live (accepted (by_payload row rows)) k = fine s (There (Mode live))
+        → TellsWhere s (There (Some live)) (place_face z).refused (place_face z).refused_at
+    by live (accepted (by_header row rows)) k = fine s (There (Some live))
+    by live (accepted (by_payload row rows)) k = fine s (There (Some live))
     by live (refusal e) k =
-        broke s (There (Mode live)) e
+        broke s (There (Some live)) e
         (places_honest.owner live s start size parent x t e _ (record { reply = sym k; table = refl }))
 
-    asked : Chosen → Outcome
+    asked : Option Bool → Outcome
     asked c = in_mode c (refused_reading bad_argument) (λ live. asked_of live s start size parent x (length t))
 
-    by_mode : (c : Chosen)
+    by_mode : (c : Option Bool)
         → TellsWhere s (There c) (place_face (whose_of start x (asked c))).refused
         (place_face (whose_of start x (asked c))).refused_at
-    by_mode (Mode live) = by live (whose_of start x (asked_of live s start size parent x (length t))) refl
-    by_mode NoMode = broke s (There NoMode) bad_argument (callers (inl refl) refl)
+    by_mode (Some live) = by live (whose_of start x (asked_of live s start size parent x (length t))) refl
+    by_mode None = broke s (There None) bad_argument (callers (inl refl) refl)
 
 -- Of an owner, with the chain or without: what is refused is honest.
 module _ (s : List ℕ) (Reached : ℕ → Errand → Type 0) (reply : Reply Owned)
@@ -124,15 +122,15 @@ module _ (s : List ℕ) (Reached : ℕ → Errand → Type 0) (reply : Reply Own
         by (refusal e) k = broke s Reached e (honest e k)
 
 module _ (s : List ℕ) (start size parent x : ℕ) where
-  abbrev There : Chosen → ℕ → Errand → Type 0
+  abbrev There : Option Bool → ℕ → Errand → Type 0
   There c = ComesIn c (λ live. OwnerComes live s start size parent x)
 
-  owned_in : (c : Chosen) (call : Bool → Reply Owned)
+  owned_in : (c : Option Bool) (call : Bool → Reply Owned)
       → ((live : Bool) (e : Refusal) → call live ≡ refusal e → HonestOwner live s start size parent x e)
       → TellsWhere s (There c) (owned_face (owner_reply (in_mode c (refusal bad_argument) call))).refused
       (owned_face (owner_reply (in_mode c (refusal bad_argument) call))).refused_at
-  owned_in (Mode live) call honest = owned_where s (There (Mode live)) (call live) (honest live)
-  owned_in NoMode call honest = broke s (There NoMode) bad_argument (callers (inl refl) refl)
+  owned_in (Some live) call honest = owned_where s (There (Some live)) (call live) (honest live)
+  owned_in None call honest = broke s (There None) bad_argument (callers (inl refl) refl)
 
 pub owner_tells_where : OwnerTellsWhere
 owner_tells_where mode s start size parent x r p =
@@ -153,18 +151,18 @@ open_tells_where mode s t r t' p =
     subst (λ (x : UzOpened). TellsWhere s (There (chosen_mode mode)) x.refused x.refused_at) (sym p.reply)
     (by_mode (chosen_mode mode))
   where
-    There : Chosen → ℕ → Errand → Type 0
+    There : Option Bool → ℕ → Errand → Type 0
     There c = ComesIn c (λ live. OpenComes live s (sizes_of t))
 
-    by : (live : Bool) (x : OpenReply) → open_reply (open_of live s (sizes_of t)) ≡ x
-        → TellsWhere s (There (Mode live)) (opened_face x).refused (opened_face x).refused_at
-    by live (Read parts heads) k = fine s (There (Mode live))
-    by live (NoOpening e) k =
-        broke s (There (Mode live)) e (open_honest live s t e _ (record { reply = sym k; tables = refl }))
+    by : (live : Bool) (x : Result (Parts × ℕ) Refusal) → open_reply (open_of live s (sizes_of t)) ≡ x
+        → TellsWhere s (There (Some live)) (opened_face x).refused (opened_face x).refused_at
+    by live (Ok (parts, heads)) k = fine s (There (Some live))
+    by live (Err e) k =
+        broke s (There (Some live)) e (open_honest live s t e _ (record { reply = sym k; tables = refl }))
 
-    by_mode : (c : Chosen)
+    by_mode : (c : Option Bool)
         → TellsWhere s (There c)
         (opened_face (open_reply (in_mode c (refused_opening bad_argument) (λ live. open_of live s (sizes_of t))))).refused
         (opened_face (open_reply (in_mode c (refused_opening bad_argument) (λ live. open_of live s (sizes_of t))))).refused_at
-    by_mode (Mode live) = by live (open_reply (open_of live s (sizes_of t))) refl
-    by_mode NoMode = broke s (There NoMode) bad_argument (callers (inl refl) refl)
+    by_mode (Some live) = by live (open_reply (open_of live s (sizes_of t))) refl
+    by_mode None = broke s (There None) bad_argument (callers (inl refl) refl)

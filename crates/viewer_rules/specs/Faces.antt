@@ -4,19 +4,21 @@ use Rattle.refusals.specs.Causes.{cause_number, cause_id}
 use Rattle.refusals.specs.Reply.{Reply, accepted, refusal}
 use Rattle.bodies_rules.specs.declared.body.Range.{Range}
 use Rattle.places_rules.specs.Whose.{Whose, by_header, by_payload}
-use Rattle.owner_rules.specs.declared.owner.OwnerReply.{OwnerReply}
-use Rattle.owner_rules.specs.declared.owner.OwnerReply.TheVariants.{Header, Payload, Refused}
+use Rattle.owner_rules.specs.declared.owner.Owner.TheVariants.{Header, Payload}
 use Rattle.search_rules.specs.Part.{PartTold, found_part, absent_part}
 use Rattle.open_rules.specs.declared.parts.Part.{Part}
 use Rattle.open_rules.specs.declared.parts.Part.TheVariants.{Absent, Found}
-use Rattle.open_rules.specs.declared.reply.OpenReply.{OpenReply}
-use Rattle.open_rules.specs.declared.reply.OpenReply.TheVariants.{Read, Refused as NoOpening}
 use Rattle.viewer_rules.specs.declared.opened.UzFound.{UzFound}
 use Rattle.viewer_rules.specs.declared.opened.UzOpened.{UzOpened}
 use Rattle.viewer_rules.specs.declared.owned.UzOwned.{UzOwned}
 use Rattle.viewer_rules.specs.declared.part.UzPart.{UzPart}
 use Rattle.viewer_rules.specs.declared.range.UzRange.{UzRange}
 use Rattle.viewer_rules.specs.declared.whose.UzPlace.{UzPlace}
+use Rattle.std.specs.Prelude.{Result, Ok, Err}
+use Rattle.owner_rules.specs.declared.owner.Owner.{Owner}
+use Rattle.open_rules.specs.declared.parts.Parts.{Parts}
+use Rattle.refusals.specs.declared.refusal.Refusal.{Refusal}
+use Rattle.std.specs.Prelude.{ℕ}
 
 abbrev pub part_face : Reply PartTold → UzPart
 part_face (accepted (found_part at size rows heads)) =
@@ -47,12 +49,12 @@ place_face (accepted (by_payload row rows)) =
 place_face (refusal e) =
     record { refused = cause_number e.cause; refused_at = e.address; row = 0; in_payload = 0; rows = 0 }
 
-abbrev pub owned_face : OwnerReply → UzOwned
-owned_face (Header address depth) =
+abbrev pub owned_face : Result Owner Refusal → UzOwned
+owned_face (Ok (Header address depth)) =
     record { refused = 0; refused_at = 0; at = address; in_payload = 0; depth = depth }
-owned_face (Payload address depth) =
+owned_face (Ok (Payload address depth)) =
     record { refused = 0; refused_at = 0; at = address; in_payload = 1; depth = depth }
-owned_face (Refused e) =
+owned_face (Err e) =
     record { refused = cause_number e.cause; refused_at = e.address; at = 0; in_payload = 0; depth = 0 }
 
 -- One of the five parts: an absent one is zeros.
@@ -60,8 +62,8 @@ abbrev pub found_face : Part → UzFound
 found_face Absent = record { found = 0; at = 0; size = 0; rows = 0 }
 found_face (Found at size rows) = record { found = 1; at = at; size = size; rows = rows }
 
-abbrev pub opened_face : OpenReply → UzOpened
-opened_face (Read parts heads) = record {
+abbrev pub opened_face : Result (Parts × ℕ) Refusal → UzOpened
+opened_face (Ok (parts, heads)) = record {
   refused = 0;
   id = 0;
   refused_at = 0;
@@ -72,7 +74,7 @@ opened_face (Read parts heads) = record {
   chapters = found_face parts.chapters;
   tags = found_face parts.tags;
 }
-opened_face (NoOpening e) = record {
+opened_face (Err e) = record {
   refused = cause_number e.cause;
   id = cause_id e.cause;
   refused_at = e.address;

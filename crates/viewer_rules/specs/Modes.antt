@@ -11,17 +11,16 @@ use Rattle.open_rules.specs.Tables.{Tables, Sizes, zeroed}
 use Rattle.open_rules.specs.Opening.{Opening}
 use Rattle.open_rules.specs.Opening.{refused as refused_opening}
 use Rattle.open_rules.specs.Promise.{open_of, tables_of}
-use Rattle.viewer_rules.specs.declared.mode.Chosen.{Chosen}
-use Rattle.viewer_rules.specs.declared.mode.Chosen.TheVariants.{Mode, NoMode}
+use Rattle.std.specs.Prelude.{Option, Some, None}
 
 -- UZ_PLAIN and UZ_LIVE of include/uzrafmed.h: 0 is old mode, 1 is live mode.
-unfoldable pub chosen_mode : (mode : ℕ) → Chosen
-chosen_mode mode = cond (eqb mode 0) (Mode false) (cond (eqb mode 1) (Mode true) NoMode)
+unfoldable pub chosen_mode : (mode : ℕ) → Option Bool
+chosen_mode mode = cond (eqb mode 0) (Some false) (cond (eqb mode 1) (Some true) None)
 
 -- A call in the mode that was chosen; any other number is 14.
-abbrev pub in_mode : {A : Type 0} → Chosen → (other : A) → (call : Bool → A) → A
-in_mode (Mode live) other call = call live
-in_mode NoMode other call = other
+abbrev pub in_mode : {A : Type 0} → Option Bool → (other : A) → (call : Bool → A) → A
+in_mode (Some live) other call = call live
+in_mode None other call = other
 
 abbrev pub search_in : (mode : ℕ) → List ℕ → (part numbers : ℕ) → Search
 search_in mode s part numbers =

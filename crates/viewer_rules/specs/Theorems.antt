@@ -10,14 +10,9 @@ use Rattle.elements_rules.specs.Faults.{Errand, Honest, Comes}
 use Rattle.places_rules.specs.Payload.{payload_range}
 use Rattle.places_rules.specs.Promise.{values_of, RangePromise, WhosePromise}
 use Rattle.places_rules.specs.Whose.{whose_of}
-use Rattle.places_rules.specs.declared.payload.RangeReply.{RangeReply}
-use Rattle.places_rules.specs.declared.payload.RangeReply.TheVariants.{Range, Refused as NoRange}
-use Rattle.places_rules.specs.declared.whose.WhoseReply.{WhoseReply}
-use Rattle.places_rules.specs.declared.whose.WhoseReply.TheVariants.{Header, Payload, Refused as NoRow}
+use Rattle.places_rules.specs.declared.whose.WhoseRow.TheVariants.{Header, Payload}
 use Rattle.owner_rules.specs.Promise.{OwnerPromise, ChainPromise}
 use Rattle.owner_rules.specs.Way.{OwnerComes}
-use Rattle.owner_rules.specs.declared.owner.OwnerReply.{OwnerReply}
-use Rattle.owner_rules.specs.declared.owner.OwnerReply.TheVariants.{Refused as NoOwner}
 use Rattle.search_rules.specs.Part.{reply_of, PartPromise}
 use Rattle.search_rules.specs.Faults.{SearchComes}
 use Rattle.search_rules.specs.declared.part.PartReply.{PartReply}
@@ -29,22 +24,22 @@ use Rattle.open_rules.specs.Promise.{reply_of as open_reply}
 use Rattle.open_rules.specs.declared.parts.Part.{Part}
 use Rattle.open_rules.specs.declared.parts.Part.TheVariants.{Found as IsPart, Absent as NoSuch}
 use Rattle.open_rules.specs.declared.parts.Parts.{Parts}
-use Rattle.open_rules.specs.declared.reply.OpenReply.{OpenReply}
-use Rattle.open_rules.specs.declared.reply.OpenReply.TheVariants.{Read, Refused as NoOpening}
 use Rattle.shown_rules.specs.Shown.{text_range}
 use Rattle.shown_rules.specs.Promise.{TextPromise}
 use Rattle.viewer_rules.specs.Modes.{chosen_mode, search_in, asked_in, owner_in, chain_in, open_in}
 use Rattle.viewer_rules.specs.Faces.{part_face, place_face, owned_face, opened_face}
 use Rattle.viewer_rules.specs.Promise.{UzPartPromise, UzRangePromise, UzTextPromise, UzPlacePromise}
 use Rattle.viewer_rules.specs.Promise.{UzOwnerPromise, UzChainPromise, UzOpenPromise}
-use Rattle.viewer_rules.specs.declared.mode.Chosen.{Chosen}
-use Rattle.viewer_rules.specs.declared.mode.Chosen.TheVariants.{Mode, NoMode}
 use Rattle.viewer_rules.specs.declared.opened.UzFound.{UzFound}
 use Rattle.viewer_rules.specs.declared.opened.UzOpened.{UzOpened}
 use Rattle.viewer_rules.specs.declared.owned.UzOwned.{UzOwned}
 use Rattle.viewer_rules.specs.declared.part.UzPart.{UzPart}
 use Rattle.viewer_rules.specs.declared.range.UzRange.{UzRange}
 use Rattle.viewer_rules.specs.declared.whose.UzPlace.{UzPlace}
+use Rattle.std.specs.Prelude.{Result, Option, Ok, Err, Some, None}
+use Rattle.owner_rules.specs.declared.owner.Owner.{Owner}
+use Rattle.bodies_rules.specs.declared.body.Range.{Range}
+use Rattle.places_rules.specs.declared.whose.WhoseRow.{WhoseRow}
 
 -- Any two answers and tables that a promise permits to one question are equal (document 01, Strength of the promises).
 -- The numbers that stood in the lent table do not matter, only how many there are.
@@ -132,9 +127,9 @@ ChainTells =
     → Tells (chain_in mode s start size parent x (length t)) r.refused
 
 -- The reply of `open` as one that accepts or refuses.
-abbrev pub open_told : OpenReply → Reply Parts
-open_told (Read parts heads) = accepted parts
-open_told (NoOpening e) = refusal e
+abbrev pub open_told : Result (Parts × ℕ) Refusal → Reply Parts
+open_told (Ok (parts, heads)) = accepted parts
+open_told (Err e) = refusal e
 
 abbrev pub OpenTells : Type 0
 OpenTells =
@@ -169,9 +164,9 @@ pub record TellsWhere (s : List ℕ) (Reached : ℕ → Errand → Type 0) (refu
   pub fine : refused ≡ 0 → at ≡ 0
 
 -- Where a call comes in the mode that was chosen: nowhere without one.
-abbrev pub ComesIn : Chosen → (Bool → ℕ → Errand → Type 0) → ℕ → Errand → Type 0
-ComesIn (Mode live) Comes a x = Comes live a x
-ComesIn NoMode Comes a x = ⊥
+abbrev pub ComesIn : Option Bool → (Bool → ℕ → Errand → Type 0) → ℕ → Errand → Type 0
+ComesIn (Some live) Comes a x = Comes live a x
+ComesIn None Comes a x = ⊥
 
 abbrev pub PartTellsWhere : Type 0
 PartTellsWhere =
@@ -227,50 +222,50 @@ part_named (NoPart e) =
       heads = 0;
     }
 
-abbrev pub range_named : RangeReply → UzRange
-range_named (Range r) = record { refused = 0; at = r.at; length = r.length }
-range_named (NoRange e) = record { refused = cause_number e.cause; at = 0; length = 0 }
+abbrev pub range_named : Result Ok Refusal → UzRange
+range_named (Ok r) = record { refused = 0; at = r.at; length = r.length }
+range_named (Err e) = record { refused = cause_number e.cause; at = 0; length = 0 }
 
-abbrev pub place_named : WhoseReply → UzPlace
-place_named (Header row rows) = record { refused = 0; refused_at = 0; row = row; in_payload = 0; rows = rows }
-place_named (Payload row rows) = record { refused = 0; refused_at = 0; row = row; in_payload = 1; rows = rows }
-place_named (NoRow e) =
+abbrev pub place_named : Result WhoseRow Refusal → UzPlace
+place_named (Ok (Header row rows)) = record { refused = 0; refused_at = 0; row = row; in_payload = 0; rows = rows }
+place_named (Ok (Payload row rows)) = record { refused = 0; refused_at = 0; row = row; in_payload = 1; rows = rows }
+place_named (Err e) =
     record { refused = cause_number e.cause; refused_at = e.address; row = 0; in_payload = 0; rows = 0 }
 
 abbrev pub PartNamed : Type 0
 PartNamed =
     (mode : ℕ) (live : Bool) (s : List ℕ) (part : ℕ) (t : List ℕ) (q : PartReply) (r : UzPart) (t' u' : List ℕ)
-    → chosen_mode mode ≡ Mode live → PartPromise live s part t q t' → UzPartPromise mode s part t r u' → r ≡ part_named q
+    → chosen_mode mode ≡ Some live → PartPromise live s part t q t' → UzPartPromise mode s part t r u' → r ≡ part_named q
 
 abbrev pub RangeNamed : Type 0
 RangeNamed =
-    (s t : List ℕ) (row : ℕ) (q : RangeReply) (r : UzRange)
+    (s t : List ℕ) (row : ℕ) (q : Result Ok Refusal) (r : UzRange)
     → RangePromise s t row q → UzRangePromise s t row r → r ≡ range_named q
 
 abbrev pub TextNamed : Type 0
 TextNamed =
-    (s t : List ℕ) (row : ℕ) (q : RangeReply) (r : UzRange)
+    (s t : List ℕ) (row : ℕ) (q : Result Ok Refusal) (r : UzRange)
     → TextPromise s t row q → UzTextPromise s t row r → r ≡ range_named q
 
 abbrev pub PlaceNamed : Type 0
 PlaceNamed =
-    (mode : ℕ) (live : Bool) (s : List ℕ) (start size parent x : ℕ) (t : List ℕ) (q : WhoseReply) (r : UzPlace)
+    (mode : ℕ) (live : Bool) (s : List ℕ) (start size parent x : ℕ) (t : List ℕ) (q : Result WhoseRow Refusal) (r : UzPlace)
     (t' u' : List ℕ)
-    → chosen_mode mode ≡ Mode live → WhosePromise live s start size parent x t q t'
+    → chosen_mode mode ≡ Some live → WhosePromise live s start size parent x t q t'
     → UzPlacePromise mode s start size parent x t r u' → r ≡ place_named q
 
 abbrev pub OwnerNamed : Type 0
 OwnerNamed =
-    (mode : ℕ) (live : Bool) (s : List ℕ) (start size parent x : ℕ) (q : OwnerReply) (r : UzOwned)
-    → chosen_mode mode ≡ Mode live → OwnerPromise live s start size parent x q
+    (mode : ℕ) (live : Bool) (s : List ℕ) (start size parent x : ℕ) (q : Result Owner Refusal) (r : UzOwned)
+    → chosen_mode mode ≡ Some live → OwnerPromise live s start size parent x q
     → UzOwnerPromise mode s start size parent x r → r ≡ owned_face q
 
 -- The chain is the very same too.
 abbrev pub ChainNamed : Type 0
 ChainNamed =
-    (mode : ℕ) (live : Bool) (s : List ℕ) (start size parent x : ℕ) (t : List ℕ) (q : OwnerReply) (r : UzOwned)
+    (mode : ℕ) (live : Bool) (s : List ℕ) (start size parent x : ℕ) (t : List ℕ) (q : Result Owner Refusal) (r : UzOwned)
     (t' u' : List ℕ)
-    → chosen_mode mode ≡ Mode live → ChainPromise live s start size parent x t q t'
+    → chosen_mode mode ≡ Some live → ChainPromise live s start size parent x t q t'
     → UzChainPromise mode s start size parent x t r u'
     → (r ≡ owned_face q) × (u' ≡ t')
 
@@ -279,8 +274,8 @@ abbrev pub found_named : Part → UzFound
 found_named NoSuch = record { found = 0; at = 0; size = 0; rows = 0 }
 found_named (IsPart at size rows) = record { found = 1; at = at; size = size; rows = rows }
 
-abbrev pub open_named : OpenReply → UzOpened
-open_named (Read parts heads) = record {
+abbrev pub open_named : Result (Parts × ℕ) Refusal → UzOpened
+open_named (Ok (parts, heads)) = record {
   refused = 0;
   id = 0;
   refused_at = 0;
@@ -291,7 +286,7 @@ open_named (Read parts heads) = record {
   chapters = found_named parts.chapters;
   tags = found_named parts.tags;
 }
-open_named (NoOpening e) = record {
+open_named (Err e) = record {
   refused = cause_number e.cause;
   id = cause_id e.cause;
   refused_at = e.address;
@@ -306,8 +301,8 @@ open_named (NoOpening e) = record {
 -- The five tables are the very same too.
 abbrev pub OpenNamed : Type 0
 OpenNamed =
-    (mode : ℕ) (live : Bool) (s : List ℕ) (t : Tables) (q : OpenReply) (r : UzOpened) (t' u' : Tables)
-    → chosen_mode mode ≡ Mode live → OpenPromise live s t q t' → UzOpenPromise mode s t r u'
+    (mode : ℕ) (live : Bool) (s : List ℕ) (t : Tables) (q : Result (Parts × ℕ) Refusal) (r : UzOpened) (t' u' : Tables)
+    → chosen_mode mode ≡ Some live → OpenPromise live s t q t' → UzOpenPromise mode s t r u'
     → (r ≡ open_named q) × (u' ≡ t')
 
 -- ---- a number that names no mode
@@ -316,27 +311,27 @@ OpenNamed =
 -- as live mode.
 pub record NoModeRefused : Type 0 where
   pub part :
-      (mode : ℕ) (s : List ℕ) (part : ℕ) (t : List ℕ) (r : UzPart) (t' : List ℕ) → chosen_mode mode ≡ NoMode
+      (mode : ℕ) (s : List ℕ) (part : ℕ) (t : List ℕ) (r : UzPart) (t' : List ℕ) → chosen_mode mode ≡ None
       → UzPartPromise mode s part t r t' → (r ≡ part_face (refusal bad_argument)) × (t' ≡ zeros (length t))
   pub place :
       (mode : ℕ) (s : List ℕ) (start size parent x : ℕ) (t : List ℕ) (r : UzPlace) (t' : List ℕ)
-      → chosen_mode mode ≡ NoMode → UzPlacePromise mode s start size parent x t r t'
+      → chosen_mode mode ≡ None → UzPlacePromise mode s start size parent x t r t'
       → (r ≡ place_face (refusal bad_argument)) × (t' ≡ zeros (length t))
   pub owner :
-      (mode : ℕ) (s : List ℕ) (start size parent x : ℕ) (r : UzOwned) → chosen_mode mode ≡ NoMode
-      → UzOwnerPromise mode s start size parent x r → r ≡ owned_face (NoOwner bad_argument)
+      (mode : ℕ) (s : List ℕ) (start size parent x : ℕ) (r : UzOwned) → chosen_mode mode ≡ None
+      → UzOwnerPromise mode s start size parent x r → r ≡ owned_face (Err bad_argument)
   pub chain :
       (mode : ℕ) (s : List ℕ) (start size parent x : ℕ) (t : List ℕ) (r : UzOwned) (t' : List ℕ)
-      → chosen_mode mode ≡ NoMode → UzChainPromise mode s start size parent x t r t'
-      → (r ≡ owned_face (NoOwner bad_argument)) × (t' ≡ zeros (length t))
+      → chosen_mode mode ≡ None → UzChainPromise mode s start size parent x t r t'
+      → (r ≡ owned_face (Err bad_argument)) × (t' ≡ zeros (length t))
 
 -- The same of `uz_open`, and of its five tables.
 abbrev pub OpenNoModeRefused : Type 0
 OpenNoModeRefused =
-    (mode : ℕ) (s : List ℕ) (t : Tables) (r : UzOpened) (t' : Tables) → chosen_mode mode ≡ NoMode
-    → UzOpenPromise mode s t r t' → (r ≡ opened_face (NoOpening bad_argument)) × (t' ≡ zeroed (sizes_of t))
+    (mode : ℕ) (s : List ℕ) (t : Tables) (r : UzOpened) (t' : Tables) → chosen_mode mode ≡ None
+    → UzOpenPromise mode s t r t' → (r ≡ opened_face (Err bad_argument)) × (t' ≡ zeroed (sizes_of t))
 
 -- 0 and 1 name the two modes, and no other number names one.
 abbrev pub ModesNamed : Type 0
 ModesNamed =
-    (chosen_mode 0 ≡ Mode false) × (chosen_mode 1 ≡ Mode true) × ((m : ℕ) → chosen_mode (m + 2) ≡ NoMode)
+    (chosen_mode 0 ≡ Some false) × (chosen_mode 1 ≡ Some true) × ((m : ℕ) → chosen_mode (m + 2) ≡ None)

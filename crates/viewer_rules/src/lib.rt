@@ -8,7 +8,6 @@ mod part;
 mod range;
 mod whose;
 
-pub use mode::Chosen;
 pub use opened::{UzFound, UzOpened};
 pub use owned::UzOwned;
 pub use part::UzPart;

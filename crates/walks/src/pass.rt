@@ -6,8 +6,9 @@ ghost use Rattle.walks_rules.specs.Contract.{Readable};
 
 use crate::step::child_at;
 use header::{Cursor, Headed};
+use refusals::Refusal;
 use sizes::is_unknown;
-use walks_rules::{ChildRead, Passed, Stretch};
+use walks_rules::Stretch;
 
 // Where an element of unknown size ends that is at its end at a place.
 fn ended_at(recording: &[u8], end: u64, at: u64) -> u64
@@ -35,7 +36,7 @@ fn within(recording: &[u8], element: Headed) -> u64
 }
 
 // The end of an element of that id and of unknown size, from a place among its children on; at the latest a known end.
-fn end_from(recording: &[u8], id: u32, end: u64, from: u64) -> Passed
+fn end_from(recording: &[u8], id: u32, end: u64, from: u64) -> Result<u64, Refusal>
     requires { length recording.now ≤ most_bytes }
     ensures { result ≡ end_from recording.now id end from }
 {
@@ -44,13 +45,13 @@ fn end_from(recording: &[u8], id: u32, end: u64, from: u64) -> Passed
     loop {
         let place = Cursor { at };
         match child_at(recording, true, place, stretch) {
-            ChildRead::Refused(refusal) => {
-                return Passed::Refused(refusal);
+            Err(refusal) => {
+                return Err(refusal);
             }
-            ChildRead::End => {
-                return Passed::At(ended_at(recording, end, at));
+            Ok(None) => {
+                return Ok(ended_at(recording, end, at));
             }
-            ChildRead::Child(child) => {
+            Ok(Some(child)) => {
                 at = within(recording, child);
             }
         }
@@ -59,7 +60,7 @@ fn end_from(recording: &[u8], id: u32, end: u64, from: u64) -> Passed
 
 // The place behind an element, where a known end bounds it: by its size, or of one of unknown size in live mode its
 // end.
-pub fn pass_over(recording: &[u8], live: bool, end: u64, element: Headed) -> Passed
+pub fn pass_over(recording: &[u8], live: bool, end: u64, element: Headed) -> Result<u64, Refusal>
     requires { Readable recording.now element }
     ensures { result ≡ pass_over live recording.now end element }
 {
@@ -67,5 +68,5 @@ pub fn pass_over(recording: &[u8], live: bool, end: u64, element: Headed) -> Pas
         return end_from(recording, element.header.id, end, element.payload.at);
     }
     let next = element.payload.at + element.header.size;
-    Passed::At(next)
+    Ok(next)
 }

@@ -3,10 +3,10 @@ ghost use Rattle.std.specs.Prelude.{◌≡◌};
 ghost use Rattle.walks_rules.specs.Step.{barred_step, child_at};
 
 use crate::ends::{is_ended_by, is_endless, is_past};
-use header::{Cursor, Headed, HeaderRead};
+use header::{Cursor, Headed};
 use refusals::{Cause, Refusal};
 use sizes::is_unknown;
-use walks_rules::{ChildRead, Stretch};
+use walks_rules::Stretch;
 
 // Whether the size of an element is unknown, and the element one that has to have a known size.
 fn is_barred(live: bool, element: Headed) -> bool
@@ -19,25 +19,30 @@ fn is_barred(live: bool, element: Headed) -> bool
 }
 
 // The element at a place of a stretch: the end, header, an id that ends it, 17.
-pub fn child_at(recording: &[u8], live: bool, place: Cursor, stretch: Stretch) -> ChildRead
+pub fn child_at(
+    recording: &[u8],
+    live: bool,
+    place: Cursor,
+    stretch: Stretch,
+) -> Result<Option<Headed>, Refusal>
     ensures { result ≡ child_at live recording.now stretch place.at }
 {
     if is_past(recording, stretch, place.at) {
-        return ChildRead::End;
+        return Ok(None);
     }
     match place.header(recording) {
-        HeaderRead::Refused(refusal) => ChildRead::Refused(refusal),
-        HeaderRead::Read(child) => {
+        Err(refusal) => Err(refusal),
+        Ok(child) => {
             if is_ended_by(stretch, child.header.id) {
-                return ChildRead::End;
+                return Ok(None);
             }
             if is_barred(live, child) {
-                return ChildRead::Refused(Refusal {
+                return Err(Refusal {
                     address: child.place.at,
                     cause: Cause::UnknownSize,
                 });
             }
-            ChildRead::Child(child)
+            Ok(Some(child))
         }
     }
 }

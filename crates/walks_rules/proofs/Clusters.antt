@@ -17,16 +17,14 @@ use Rattle.walks_rules.specs.Endings.{ended_at, within, ending, end_from, pass_o
 use Rattle.walks_rules.specs.Theorems.{ClustersPassed}
 use Rattle.walks_rules.specs.declared.step.Stretch.{Stretch}
 use Rattle.walks_rules.specs.declared.step.Stretch.TheVariants.{Endless}
-use Rattle.walks_rules.specs.declared.step.ChildRead.{ChildRead}
-use Rattle.walks_rules.specs.declared.step.ChildRead.TheVariants.{Child, End, Refused}
-use Rattle.walks_rules.specs.declared.pass.Passed.{Passed}
-use Rattle.walks_rules.specs.declared.pass.Passed.TheVariants.{At, Refused as Lost}
 use Rattle.walks_rules.proofs.Steps.{not_past, Stepped, stepped_on, less_room}
 use Rattle.walks_rules.proofs.Steps.{Goes, past, unread, ended, unsized, element, goes}
 use Rattle.walks_rules.proofs.Endings.{end_unfolds, pass_onward}
 use Rattle.walks_rules.proofs.Walks.{walk_unfolds}
 use Rattle.walks_rules.proofs.Told.{child_past, child_unread, child_unsized, child_is}
 use Rattle.walks_rules.proofs.Told.{end_refused, end_there, end_further, end_less}
+use Rattle.std.proofs.Common.{Result, Option, Ok, Err, Some, None}
+use Rattle.refusals.specs.declared.refusal.Refusal.{Refusal}
 
 abbrev segment_id : ℕ
 segment_id = 0x18538067
@@ -95,14 +93,14 @@ module _ (s : List ℕ) (end : ℕ) where
   -- ---- a Cluster's end is on the way to the Segment's
 
   -- The Segment's end from a place on, each Cluster gone into.
-  abbrev flat : ℕ → Passed
+  abbrev flat : ℕ → Result ℕ Refusal
   flat at = end_from s segment_id end at
 
-  abbrev go_on : Passed → Passed
-  go_on p = on_passed p Lost flat
+  abbrev go_on : Result ℕ Refusal → Result ℕ Refusal
+  go_on p = on_passed p Err flat
 
   -- The Cluster's end from a place on, and the Segment's from there.
-  abbrev joined : ℕ → Passed
+  abbrev joined : ℕ → Result ℕ Refusal
   joined at = go_on (end_from s cluster_id end at)
 
   over_past : (at : ℕ) → is_past s cluster at ≡ true → flat at ≡ flat (ended_at s end at)
@@ -118,16 +116,16 @@ module _ (s : List ℕ) (end : ℕ) where
   unfolding is_past
   joins_step at more = by (child_at true s cluster at) refl (goes true s cluster at)
     where
-      by : (x : ChildRead) → child_at true s cluster at ≡ x → Goes true s cluster at x → flat at ≡ joined at
-      by End q (past k) = over_past at k ∙ ap go_on (end_there s cluster_id end at _ q refl)
-      by End q (ended e k h o) = ap flat (sym (stays at k)) ∙ ap go_on (end_there s cluster_id end at _ q refl)
-      by (Refused r) q (unread _ k h) =
+      by : (x : Result (Option Headed) Refusal) → child_at true s cluster at ≡ x → Goes true s cluster at x → flat at ≡ joined at
+      by (Ok None) q (past k) = over_past at k ∙ ap go_on (end_there s cluster_id end at _ q refl)
+      by (Ok None) q (ended e k h o) = ap flat (sym (stays at k)) ∙ ap go_on (end_there s cluster_id end at _ q refl)
+      by (Err r) q (unread _ k h) =
           sym (end_refused s segment_id end at r (sym (child_unread true s segment at k r h)))
           ∙ ap go_on (end_refused s cluster_id end at r q)
-      by (Refused r) q (unsized e k h o b) =
+      by (Err r) q (unsized e k h o b) =
           let u = sym (child_unsized true s segment at k e h (held_too e.header.id o) b) in
           sym (end_refused s segment_id end at _ u) ∙ ap go_on (end_refused s cluster_id end at _ q)
-      by (Child e) q (element _ k h o b) =
+      by (Ok (Some e)) q (element _ k h o b) =
           let c = sym (child_is true s segment at k e h (held_too e.header.id o) b) in
           sym (end_further s segment_id end at e (within e) c refl)
           ∙ more (within e) (end_less s cluster_id end at e (within e) q refl)
@@ -140,7 +138,7 @@ module _ (s : List ℕ) (end : ℕ) where
   -- ---- the two ways
 
   -- The Segment's end from a place on, each Cluster passed over.
-  abbrev nested : ℕ → Passed
+  abbrev nested : ℕ → Result ℕ Refusal
   nested at = walk_from true s segment (ending s end) at tt
 
   -- It is one whether a child of the Segment is gone into or passed over.
@@ -150,7 +148,7 @@ module _ (s : List ℕ) (end : ℕ) where
     where
       by : (b : Bool) → unknown e.header ≡ b
           → flat (cond b e.payload.at (behind e))
-          ≡ go_on (cond (true && b) (end_from s e.header.id end e.payload.at) (At (behind e)))
+          ≡ go_on (cond (true && b) (end_from s e.header.id end e.payload.at) (Ok (behind e)))
       by true k =
           joins (suc (length s)) e.payload.at (omega arith)
           ∙ ap (λ (id : ℕ). go_on (end_from s id end e.payload.at)) (sym (is_cluster e k t.held t.allowed))
@@ -161,22 +159,22 @@ module _ (s : List ℕ) (end : ℕ) where
   same_step at more =
       end_unfolds s segment_id end at
       ∙ by (child_at true s segment at) refl
-      ∙ sym (walk_unfolds Unit Passed true s segment (ending s end) at tt)
+      ∙ sym (walk_unfolds Unit (Result ℕ Refusal) true s segment (ending s end) at tt)
     where
-      by_pass : (e : Headed) → Stepped true s segment at e → (p : Passed) → pass_over true s end e ≡ p
-          → go_on p ≡ on_passed p Lost nested
-      by_pass e t (At next) w =
+      by_pass : (e : Headed) → Stepped true s segment at e → (p : Result ℕ Refusal) → pass_over true s end e ≡ p
+          → go_on p ≡ on_passed p Err nested
+      by_pass e t (Ok next) w =
           more next (less_room s segment at next t.room (pass_onward true s segment at e next t w))
-      by_pass e t (Lost r) w = refl
+      by_pass e t (Err r) w = refl
 
-      by : (x : ChildRead) → child_at true s segment at ≡ x
-          → on_child x (At (ended_at s end at)) Lost (λ e. flat (within e))
-          ≡ on_child x (At (ended_at s end at)) Lost (λ e. on_passed (pass_over true s end e) Lost nested)
-      by (Child e) q =
+      by : (x : Result (Option Headed) Refusal) → child_at true s segment at ≡ x
+          → on_child x (Ok (ended_at s end at)) Err (λ e. flat (within e))
+          ≡ on_child x (Ok (ended_at s end at)) Err (λ e. on_passed (pass_over true s end e) Err nested)
+      by (Ok (Some e)) q =
           let t = stepped_on true s segment at e q in
           passed at e t ∙ by_pass e t (pass_over true s end e) refl
-      by End q = refl
-      by (Refused r) q = refl
+      by (Ok None) q = refl
+      by (Err r) q = refl
 
   same : (n at : ℕ) → length s - at < n → flat at ≡ nested at
   same zero at l = absurd (omega arith)

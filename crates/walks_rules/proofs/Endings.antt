@@ -16,12 +16,9 @@ use Rattle.walks_rules.specs.Endings.{ended_at, within, ending, end_from, pass_o
 use Rattle.walks_rules.specs.Theorems.{EndUnfolds}
 use Rattle.walks_rules.specs.declared.step.Stretch.{Stretch}
 use Rattle.walks_rules.specs.declared.step.Stretch.TheVariants.{Sized, Endless}
-use Rattle.walks_rules.specs.declared.step.ChildRead.{ChildRead}
-use Rattle.walks_rules.specs.declared.step.ChildRead.TheVariants.{Child, End, Refused as ChildRefused}
-use Rattle.walks_rules.specs.declared.pass.Passed.{Passed}
-use Rattle.walks_rules.specs.declared.pass.Passed.TheVariants.{At, Refused}
 use Rattle.walks_rules.proofs.Bounds.{unfolds, holds}
 use Rattle.walks_rules.proofs.Steps.{Stepped, stepped_on, no_room, less_room}
+use Rattle.std.proofs.Common.{Result, Ok}
 
 -- A child of an element of unknown size takes a byte at least.
 pub within_onward : (e : Headed) (at : ℕ) → at < e.payload.at → at < within e
@@ -32,13 +29,13 @@ within_onward e at l = by (unknown e.header)
     by true = l
     by false = omega arith
 
-placed : (x y : ℕ) → At x ≡ At y → x ≡ y
+placed : (x y : ℕ) → ◌≡◌ {A = Result ℕ Refusal} (Ok x) (Ok y) → x ≡ y
 placed x y q = cc
 
 pub end_unfolds : EndUnfolds
 unfolding end_from
 end_unfolds s id end at =
-    unfolds (child_at true s (Endless id end)) (λ e. At (within e)) (ending s end) (λ place. length s - place)
+    unfolds (child_at true s (Endless id end)) (λ e. Ok (within e)) (ending s end) (λ place. length s - place)
     (λ place z. no_room true s (Endless id end) place z)
     (λ place e next q p.
     let t = stepped_on true s (Endless id end) place e q in
@@ -58,11 +55,11 @@ ended_behind s end at low a b c = by (leb end at) (leb (length s) at)
     by false false = c
 
 pub end_behind : (s : List ℕ) (id end at low next : ℕ) → low < end → low < length s → low < at
-    → end_from s id end at ≡ At next → low < next
+    → end_from s id end at ≡ Ok next → low < next
 unfolding end_from
 end_behind s id end at low next a b c q =
-    holds (child_at true s (Endless id end)) (λ e. At (within e)) (ending s end)
-    (λ r. (place : ℕ) → r ≡ At place → low < place) (λ place. low < place)
+    holds (child_at true s (Endless id end)) (λ e. Ok (within e)) (ending s end)
+    (λ r. (place : ℕ) → r ≡ Ok place → low < place) (λ place. low < place)
     (λ e place w. let z : ◌≡◌ {A = ℕ} 0 1 = cc in absurd (let y : ⊥ = omega arith in y))
     (λ place k l there w. subst (λ (x : ℕ). low < x) (placed _ there w) (ended_behind s end place low a b l))
     (λ k place e l w. tt)
@@ -75,11 +72,11 @@ end_behind s id end at low next a b c q =
 
 -- The place behind an element of a stretch is behind its own.
 pub pass_onward : (live : Bool) (s : List ℕ) (stretch : Stretch) (at : ℕ) (e : Headed) (next : ℕ)
-    → Stepped live s stretch at e → pass_over live s (end_of stretch) e ≡ At next → at < next
+    → Stepped live s stretch at e → pass_over live s (end_of stretch) e ≡ Ok next → at < next
 unfolding pass_over
 pass_onward live s stretch at e next t q = by (live && unknown e.header) q
   where
-    by : (b : Bool) → cond b (end_from s e.header.id (end_of stretch) e.payload.at) (At (behind e)) ≡ At next
+    by : (b : Bool) → cond b (end_from s e.header.id (end_of stretch) e.payload.at) (Ok (behind e)) ≡ Ok next
         → at < next
     by true w =
         end_behind s e.header.id (end_of stretch) e.payload.at at next t.before

@@ -8,16 +8,14 @@ use Rattle.header.specs.Header.{heading, header_of}
 use Rattle.header.specs.Reads.{header_at}
 use Rattle.header.specs.declared.cursor.Headed.{Headed}
 use Rattle.header.specs.declared.cursor.Header.{Header}
-use Rattle.header.specs.declared.cursor.HeaderRead.{HeaderRead}
-use Rattle.header.specs.declared.cursor.HeaderRead.TheVariants.{Read, Refused as HeaderRefused}
 use Rattle.header.proofs.Inside.{header_there}
 use Rattle.sizes.specs.Unknown.{unknown, endless}
 use Rattle.walks_rules.specs.Answers.{on_header}
 use Rattle.walks_rules.specs.Step.{is_past, ended_by, barred_step, stepped, child_at}
 use Rattle.walks_rules.specs.Endings.{pass_over}
 use Rattle.walks_rules.specs.declared.step.Stretch.{Stretch}
-use Rattle.walks_rules.specs.declared.step.ChildRead.{ChildRead}
-use Rattle.walks_rules.specs.declared.step.ChildRead.TheVariants.{Child, End, Refused}
+use Rattle.std.proofs.Common.{Result, Ok, Err, None}
+use Rattle.refusals.specs.declared.refusal.Refusal.{Refusal}
 
 -- The header at a place, where there is one, has a known size.
 abbrev pub KnownAt : List ℕ → ℕ → Type 0
@@ -28,18 +26,17 @@ pub child_known : (s : List ℕ) (stretch : Stretch) (at : ℕ) → (is_past s s
 unfolding child_at barred_step
 child_known s stretch at k = by_past (is_past s stretch at) refl
   where
-    by : KnownAt s at → (x : HeaderRead) → header_at s at ≡ x
-        → on_header x Refused (λ e. cond (ended_by stretch e.header.id) End (stepped true e))
-        ≡ on_header x Refused (λ e. cond (ended_by stretch e.header.id) End (stepped false e))
-    by n (HeaderRefused r) q = refl
-    by n (Read e) q =
-        ap (cond (ended_by stretch e.header.id) End) (rw (n e.header (header_there s at e q).head) refl)
+    by : KnownAt s at → (x : Result Headed Refusal) → header_at s at ≡ x
+        → on_header x Err (λ e. cond (ended_by stretch e.header.id) (Ok None) (stepped true e))
+        ≡ on_header x Err (λ e. cond (ended_by stretch e.header.id) (Ok None) (stepped false e))
+    by n (Err r) q = refl
+    by n (Ok e) q =
+        ap (cond (ended_by stretch e.header.id) (Ok None)) (rw (n e.header (header_there s at e q).head) refl)
 
     by_past : (b : Bool) → is_past s stretch at ≡ b
-        → cond b End (on_header (header_at s at) Refused
-        (λ e. cond (ended_by stretch e.header.id) End (stepped true e)))
-        ≡ cond b End
-        (on_header (header_at s at) Refused (λ e. cond (ended_by stretch e.header.id) End (stepped false e)))
+        → cond b (Ok None) (on_header (header_at s at) Err (λ e. cond (ended_by stretch e.header.id) (Ok None) (stepped true e)))
+        ≡ cond b (Ok None)
+        (on_header (header_at s at) Err (λ e. cond (ended_by stretch e.header.id) (Ok None) (stepped false e)))
     by_past true q = refl
     by_past false q = by (k q) (header_at s at) refl
 

@@ -12,16 +12,13 @@ use Rattle.refusals.specs.Refusals.{unknown_size}
 use Rattle.refusals.specs.declared.refusal.Refusal.{Refusal}
 use Rattle.header.specs.Reads.{behind, header_at}
 use Rattle.header.specs.declared.cursor.Headed.{Headed}
-use Rattle.header.specs.declared.cursor.HeaderRead.{HeaderRead}
-use Rattle.header.specs.declared.cursor.HeaderRead.TheVariants.{Read, Refused as HeaderRefused}
 use Rattle.header.proofs.Inside.{header_there}
 use Rattle.walks_rules.specs.Answers.{on_header}
 use Rattle.walks_rules.specs.Step.{is_past, ended_by, barred_step, stepped, child_at}
 use Rattle.walks_rules.specs.Endings.{end_of, room_of}
 use Rattle.walks_rules.specs.declared.step.Stretch.{Stretch}
 use Rattle.walks_rules.specs.declared.step.Stretch.TheVariants.{Sized, Endless}
-use Rattle.walks_rules.specs.declared.step.ChildRead.{ChildRead}
-use Rattle.walks_rules.specs.declared.step.ChildRead.TheVariants.{Child, End, Refused}
+use Rattle.std.proofs.Common.{Result, Option, Ok, Err, Some, None}
 
 -- A place that is not past a stretch: it is before the known end, and there is room.
 pub not_past : (s : List ℕ) (stretch : Stretch) (at : ℕ) → is_past s stretch at ≡ false
@@ -41,8 +38,8 @@ not_past s (Endless id end) at q = by (leb end at) refl (leb (length s) at) refl
 
 -- An element that a step gives: its header is there, before the end, and its header takes a byte at least.
 pub record Stepped (live : Bool) (s : List ℕ) (stretch : Stretch) (at : ℕ) (e : Headed) : Type 0 where
-  pub there : header_at s e.place.at ≡ Read e
-  pub here : header_at s at ≡ Read e
+  pub there : header_at s e.place.at ≡ Ok e
+  pub here : header_at s at ≡ Ok e
   pub begins : e.place.at ≡ at
   pub before : at < end_of stretch
   pub room : 0 < room_of s stretch at
@@ -55,55 +52,55 @@ pub record Stepped (live : Bool) (s : List ℕ) (stretch : Stretch) (at : ℕ) (
 
 module _ (live : Bool) (s : List ℕ) (stretch : Stretch) (at : ℕ) where
   -- Each way that a step goes.
-  pub data Goes : ChildRead → Type 0 where
-    past : is_past s stretch at ≡ true → Goes End
-    unread : (r : Refusal) → is_past s stretch at ≡ false → header_at s at ≡ HeaderRefused r → Goes (Refused r)
+  pub data Goes : Result (Option Headed) Refusal → Type 0 where
+    past : is_past s stretch at ≡ true → Goes (Ok None)
+    unread : (r : Refusal) → is_past s stretch at ≡ false → header_at s at ≡ Err r → Goes (Err r)
     ended :
-        (e : Headed) → is_past s stretch at ≡ false → header_at s at ≡ Read e
-        → ended_by stretch e.header.id ≡ true → Goes End
+        (e : Headed) → is_past s stretch at ≡ false → header_at s at ≡ Ok e
+        → ended_by stretch e.header.id ≡ true → Goes (Ok None)
     unsized :
-        (e : Headed) → is_past s stretch at ≡ false → header_at s at ≡ Read e
+        (e : Headed) → is_past s stretch at ≡ false → header_at s at ≡ Ok e
         → ended_by stretch e.header.id ≡ false → barred_step live e ≡ true
-        → Goes (Refused (unknown_size e.place.at))
+        → Goes (Err (unknown_size e.place.at))
     element :
-        (e : Headed) → is_past s stretch at ≡ false → header_at s at ≡ Read e
-        → ended_by stretch e.header.id ≡ false → barred_step live e ≡ false → Goes (Child e)
+        (e : Headed) → is_past s stretch at ≡ false → header_at s at ≡ Ok e
+        → ended_by stretch e.header.id ≡ false → barred_step live e ≡ false → Goes (Ok (Some e))
 
   pub goes : Goes (child_at live s stretch at)
   unfolding child_at
   goes = by_past (is_past s stretch at) refl
     where
-      by_bar : (e : Headed) → is_past s stretch at ≡ false → header_at s at ≡ Read e
+      by_bar : (e : Headed) → is_past s stretch at ≡ false → header_at s at ≡ Ok e
           → ended_by stretch e.header.id ≡ false → (b : Bool) → barred_step live e ≡ b
-          → Goes (cond b (Refused (unknown_size e.place.at)) (Child e))
+          → Goes (cond b (Err (unknown_size e.place.at)) (Ok (Some e)))
       by_bar e k q o true z = unsized e k q o z
       by_bar e k q o false z = element e k q o z
 
-      by_id : (e : Headed) → is_past s stretch at ≡ false → header_at s at ≡ Read e
-          → (b : Bool) → ended_by stretch e.header.id ≡ b → Goes (cond b End (stepped live e))
+      by_id : (e : Headed) → is_past s stretch at ≡ false → header_at s at ≡ Ok e
+          → (b : Bool) → ended_by stretch e.header.id ≡ b → Goes (cond b (Ok None) (stepped live e))
       by_id e k q true o = ended e k q o
       by_id e k q false o = by_bar e k q o (barred_step live e) refl
 
-      by_header_law : is_past s stretch at ≡ false → (x : HeaderRead) → header_at s at ≡ x
-          → Goes (on_header x Refused (λ e. cond (ended_by stretch e.header.id) End (stepped live e)))
-      by_header_law k (HeaderRefused r) q = unread r k q
-      by_header_law k (Read e) q = by_id e k q (ended_by stretch e.header.id) refl
+      by_header_law : is_past s stretch at ≡ false → (x : Result Headed Refusal) → header_at s at ≡ x
+          → Goes (on_header x Err (λ e. cond (ended_by stretch e.header.id) (Ok None) (stepped live e)))
+      by_header_law k (Err r) q = unread r k q
+      by_header_law k (Ok e) q = by_id e k q (ended_by stretch e.header.id) refl
 
       by_past : (b : Bool) → is_past s stretch at ≡ b
-          → Goes (cond b End
-          (on_header (header_at s at) Refused (λ e. cond (ended_by stretch e.header.id) End (stepped live e))))
+          → Goes (cond b (Ok None)
+          (on_header (header_at s at) Err (λ e. cond (ended_by stretch e.header.id) (Ok None) (stepped live e))))
       by_past true k = past k
       by_past false k = by_header_law k (header_at s at) refl
 
-  pub stepped_on : (e : Headed) → child_at live s stretch at ≡ Child e → Stepped live s stretch at e
+  pub stepped_on : (e : Headed) → child_at live s stretch at ≡ Ok (Some e) → Stepped live s stretch at e
   stepped_on e q = by (child_at live s stretch at) q goes
     where
-      by : (x : ChildRead) → x ≡ Child e → Goes x → Stepped live s stretch at e
-      by End w g = let z : ◌≡◌ {A = ℕ} 0 1 = cc in absurd (omega arith)
-      by (Refused r) w g = let z : ◌≡◌ {A = ℕ} 0 1 = cc in absurd (omega arith)
-      by (Child d) w (element _ k h o b) =
+      by : (x : Result (Option Headed) Refusal) → x ≡ Ok (Some e) → Goes x → Stepped live s stretch at e
+      by (Ok None) w g = let z : ◌≡◌ {A = ℕ} 0 1 = cc in absurd (omega arith)
+      by (Err r) w g = let z : ◌≡◌ {A = ℕ} 0 1 = cc in absurd (omega arith)
+      by (Ok (Some d)) w (element _ k h o b) =
           let y : d ≡ e = cc in
-          let i = h ∙ ap Read y in
+          let i = h ∙ ap Ok y in
           let t = header_there s at e i in
           let n = not_past s stretch at k in
           record {
@@ -121,7 +118,7 @@ module _ (live : Bool) (s : List ℕ) (stretch : Stretch) (at : ℕ) where
           }
 
   -- Where there is no room the stretch is at its end.
-  pub no_room : room_of s stretch at ≡ 0 → child_at live s stretch at ≡ End
+  pub no_room : room_of s stretch at ≡ 0 → child_at live s stretch at ≡ (Ok None)
   unfolding child_at is_past
   no_room z = rw (by stretch z) refl
     where

@@ -8,8 +8,8 @@ use Rattle.walks_rules.specs.Step.{child_at}
 use Rattle.walks_rules.specs.Walk.{over, Walk, walk}
 use Rattle.walks_rules.specs.declared.step.Stretch.{Stretch}
 use Rattle.walks_rules.specs.declared.step.Stretch.TheVariants.{Sized, Endless}
-use Rattle.walks_rules.specs.declared.pass.Passed.{Passed}
-use Rattle.walks_rules.specs.declared.pass.Passed.TheVariants.{At, Refused}
+use Rattle.std.specs.Prelude.{Result, Ok, Err}
+use Rattle.refusals.specs.declared.refusal.Refusal.{Refusal}
 
 -- Where an element of unknown size ends that is at its end at a place: at the known end, else at the recording's, else
 -- there.
@@ -23,18 +23,18 @@ unfoldable pub within : Headed → ℕ
 within e = cond (unknown e.header) e.payload.at (behind e)
 
 -- A walk that looks for the end alone.
-abbrev pub ending : List ℕ → (end : ℕ) → Walk Unit Passed
-ending s end = record { visit = λ known e. over known; ended = λ at known. At (ended_at s end at); stop = Refused }
+abbrev pub ending : List ℕ → (end : ℕ) → Walk Unit (Result ℕ Refusal)
+ending s end = record { visit = λ known e. over known; ended = λ at known. Ok (ended_at s end at); stop = Err }
 
 -- The end of an element of that id and of unknown size, from a place among its children on; at the latest a known end.
-unfoldable pub end_from : List ℕ → (id end at : ℕ) → Passed
+unfoldable pub end_from : List ℕ → (id end at : ℕ) → Result ℕ Refusal
 end_from s id end at =
-    walk (child_at true s (Endless id end)) (λ e. At (within e)) (ending s end) (length s - at) at tt
+    walk (child_at true s (Endless id end)) (λ e. Ok (within e)) (ending s end) (length s - at) at tt
 
 -- The place behind an element, where a known end bounds it.
-unfoldable pub pass_over : (live : Bool) → List ℕ → (end : ℕ) → Headed → Passed
+unfoldable pub pass_over : (live : Bool) → List ℕ → (end : ℕ) → Headed → Result ℕ Refusal
 pass_over live s end e =
-    cond (live && unknown e.header) (end_from s e.header.id end e.payload.at) (At (behind e))
+    cond (live && unknown e.header) (end_from s e.header.id end e.payload.at) (Ok (behind e))
 
 -- ---- a walk over a stretch
 

@@ -11,8 +11,7 @@ use Rattle.kinds.specs.Kinds.{member}
 use Rattle.walks_rules.specs.Answers.{on_header}
 use Rattle.walks_rules.specs.declared.step.Stretch.{Stretch}
 use Rattle.walks_rules.specs.declared.step.Stretch.TheVariants.{Sized, Endless}
-use Rattle.walks_rules.specs.declared.step.ChildRead.{ChildRead}
-use Rattle.walks_rules.specs.declared.step.ChildRead.TheVariants.{Child, End, Refused}
+use Rattle.std.specs.Prelude.{Result, Option, Ok, Err, Some, None}
 
 -- ---- where an element of unknown size ends
 
@@ -47,17 +46,17 @@ ended_by (Endless id end) next = ends_before id next
 unfoldable pub barred_step : (live : Bool) → Headed → Bool
 barred_step live e = live && (unknown e.header && not (endless e.header.id))
 
-abbrev pub stepped : (live : Bool) → Headed → ChildRead
-stepped live e = cond (barred_step live e) (Refused (unknown_size e.place.at)) (Child e)
+abbrev pub stepped : (live : Bool) → Headed → Result (Option Headed) Refusal
+stepped live e = cond (barred_step live e) (Err (unknown_size e.place.at)) (Ok (Some e))
 
 -- The element at a place of a stretch: the one step of a walk, and of an address that is sought. The order: the end,
 -- header, an id that ends it, 17.
-unfoldable pub child_at : (live : Bool) → List ℕ → Stretch → (at : ℕ) → ChildRead
+unfoldable pub child_at : (live : Bool) → List ℕ → Stretch → (at : ℕ) → Result (Option Headed) Refusal
 child_at live s stretch at =
-    cond (is_past s stretch at) End
-    (on_header (header_at s at) Refused (λ e. cond (ended_by stretch e.header.id) End (stepped live e)))
+    cond (is_past s stretch at) (Ok None)
+    (on_header (header_at s at) Err (λ e. cond (ended_by stretch e.header.id) (Ok None) (stepped live e)))
 
-abbrev pub on_child : {A : Type 0} → ChildRead → A → (Refusal → A) → (Headed → A) → A
-on_child (Child e) ended stop next = next e
-on_child End ended stop next = ended
-on_child (Refused e) ended stop next = stop e
+abbrev pub on_child : {A : Type 0} → Result (Option Headed) Refusal → A → (Refusal → A) → (Headed → A) → A
+on_child (Ok (Some e)) ended stop next = next e
+on_child (Ok None) ended stop next = ended
+on_child (Err e) ended stop next = stop e

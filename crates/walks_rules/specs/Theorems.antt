@@ -5,7 +5,7 @@ use Rattle.walks_rules.specs.Walk.{on_visit, on_passed, Walk, walk}
 use Rattle.walks_rules.specs.Endings.{within, ended_at, ending, end_from, pass_over, end_of, walk_from}
 use Rattle.walks_rules.specs.declared.step.Stretch.{Stretch}
 use Rattle.walks_rules.specs.declared.step.Stretch.TheVariants.{Endless}
-use Rattle.walks_rules.specs.declared.pass.Passed.TheVariants.{At, Refused}
+use Rattle.std.specs.Prelude.{Ok, Err}
 
 -- There are never more elements than bytes, so that a walk is one step after another, with no bound.
 abbrev pub WalkUnfolds : Type 1
@@ -21,7 +21,7 @@ abbrev pub EndUnfolds : Type 0
 EndUnfolds =
     (s : List ℕ) (id end at : ℕ)
     → end_from s id end at
-    ≡ on_child (child_at true s (Endless id end) at) (At (ended_at s end at)) Refused (λ e. end_from s id end (within e))
+    ≡ on_child (child_at true s (Endless id end) at) (Ok (ended_at s end at)) Err (λ e. end_from s id end (within e))
 
 -- A Cluster of unknown size in a Segment of unknown size: the Segment ends at the same place whether the Cluster is
 -- gone into or passed over by its own ending. It shuts out a definition that steps over the Cluster by the number that

@@ -5,5 +5,4 @@
 mod pass;
 mod step;
 
-pub use pass::Passed;
-pub use step::{ChildRead, Stretch};
+pub use step::Stretch;

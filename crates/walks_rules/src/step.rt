@@ -9,11 +9,3 @@ pub enum Stretch {
     Sized(u64),
     Endless { id: u32, end: u64 },
 }
-
-// The element at a place of a walk, or that the walk is at its end, or a refusal.
-#[derive(Clone, Copy)]
-pub enum ChildRead {
-    Child(Headed),
-    End,
-    Refused(Refusal),
-}

@@ -6,8 +6,8 @@ use Rattle.attachments.proofs.attachment.attachment_at.Goals as goal
 pub attachment_in-requires : goal.attachment_in-requires
 attachment_in-requires c = search readable_at
 
-pub returns-in-Refused : goal.returns-in-Refused
-returns-in-Refused c = search told_refused
+pub returns-in-Err : goal.returns-in-Err
+returns-in-Err c = search told_refused
 
-pub returns-in-At : goal.returns-in-At
-returns-in-At c = search (told_below attachment_of)
+pub returns-in-Ok : goal.returns-in-Ok
+returns-in-Ok c = search (told_below attachment_of)

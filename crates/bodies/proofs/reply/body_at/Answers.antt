@@ -20,16 +20,16 @@ returns-then-length-at c =
           (omega arith);
     }
 
-pub returns-in-Read : goal.returns-in-Read
-returns-in-Read c =
+pub returns-in-Ok : goal.returns-in-Ok
+returns-in-Ok c =
     let a = c.args in
     let read = reply_read a.recording.now a.id a.parent a.at a.size a.address _ _ c.kind_of-kind.ensures
     c.read_body.ensures (omega arith) (omega arith) in
-    record { reply = ap (read_reply a.address) (sym c.in-Read.is) ∙ read }
+    record { reply = ap (read_reply a.address) (sym c.in-Ok.is) ∙ read }
 
-pub returns-in-Refused : goal.returns-in-Refused
-returns-in-Refused c =
+pub returns-in-Err : goal.returns-in-Err
+returns-in-Err c =
     let a = c.args in
     let read = reply_read a.recording.now a.id a.parent a.at a.size a.address _ _ c.kind_of-kind.ensures
     c.read_body.ensures (omega arith) (omega arith) in
-    record { reply = ap (read_reply a.address) (sym c.in-Refused.is) ∙ read }
+    record { reply = ap (read_reply a.address) (sym c.in-Err.is) ∙ read }

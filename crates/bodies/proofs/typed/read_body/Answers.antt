@@ -7,15 +7,15 @@ use Rattle.kinds.specs.declared.kind.Kind.TheVariants as K
 use Rattle.bodies_rules.specs.Bodies.{body_of}
 use Rattle.bodies_rules.specs.Reads.{body_read}
 use Rattle.bodies_rules.specs.declared.body.Body.TheVariants as B
-use Rattle.bodies_rules.specs.declared.body.BodyRead.TheVariants.{Read}
 use Rattle.bodies.proofs.typed.read_body.Goals as goal
+use Rattle.std.proofs.Common.{Ok}
 
 module _ (s : List ℕ) (at n : ℕ) where
   -- The kind that was told apart is the kind.
   as_kind : {kind k : Kind} → kind ≡ k → body_read k s at n ≡ body_read kind s at n
   as_kind e = ap (λ (k : Kind). body_read k s at n) (sym e)
 
-  master_read : Read B.Master (record { at = at }) ≡ body_read K.Master s at n
+  master_read : Ok (B.Master, record { at = at }) ≡ body_read K.Master s at n
   unfolding body_read body_of
   master_read = refl
 

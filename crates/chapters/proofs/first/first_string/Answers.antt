@@ -19,23 +19,23 @@ row_at-row-requires c =
     let pre = c.requires in
     omega (arith, pre.filled.ordered.held, pre.below.held, c.loop-n-test.true)
 
-pub returns-in-At : goal.returns-in-At
-returns-in-At c =
+pub returns-in-Some : goal.returns-in-Some
+returns-in-Some c =
     let pre = c.requires in
     let here =
     turn_here (within pre) c.loop-n.invariant.1 c.loop-n-test.true c.row_at-row.ensures
     c.is_child.ensures c.if-is_child.true in
-    string_here _ _ _ _ _ _ here c.string_of.ensures c.in-At.is
+    string_here _ _ _ _ _ _ here c.string_of.ensures c.in-Some.is
 
 pub returns : goal.returns
 unfolding first_from
 returns c = sym (at_end c.loop-n.invariant.1 c.loop-n-test.false)
 
-pub loop-n-smaller-in-Unset : goal.loop-n-smaller-in-Unset
-loop-n-smaller-in-Unset c = search (nearer, within)
+pub loop-n-smaller-in-None : goal.loop-n-smaller-in-None
+loop-n-smaller-in-None c = search (nearer, within)
 
-pub loop-n-preserved-in-Unset : goal.loop-n-preserved-in-Unset
-loop-n-preserved-in-Unset c = search (turn_hit, string_later, counts_one, within)
+pub loop-n-preserved-in-None : goal.loop-n-preserved-in-None
+loop-n-preserved-in-None c = search (turn_hit, string_later, counts_one, within)
 
 pub loop-n-smaller : goal.loop-n-smaller
 loop-n-smaller c = search (nearer, within)

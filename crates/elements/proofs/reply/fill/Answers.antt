@@ -15,12 +15,12 @@ master_body-requires c =
       room = λ kept. omega arith;
     }
 
-pub returns-in-Refused : goal.returns-in-Refused
-returns-in-Refused c =
+pub returns-in-Err : goal.returns-in-Err
+returns-in-Err c =
     fill_refused _ _ _ _ _ _ c.requires.table_value_2 c.requires.table_value _ _ _
-    c.in-Refused.ensures
+    c.in-Err.ensures
     (c.clear.ensures ∙ zeros_as c.master_body.auto.table)
 
-pub returns-in-Read : goal.returns-in-Read
-returns-in-Read c =
-    fill_done _ _ _ _ _ _ c.requires.table_value_2 c.requires.table_value _ _ _ c.in-Read.ensures
+pub returns-in-Ok : goal.returns-in-Ok
+returns-in-Ok c =
+    fill_done _ _ _ _ _ _ c.requires.table_value_2 c.requires.table_value _ _ _ c.in-Ok.ensures

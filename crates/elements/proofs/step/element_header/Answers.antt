@@ -7,18 +7,18 @@ pub returns-then-is_unknown : goal.returns-then-is_unknown
 returns-then-is_unknown c =
     let x = c.args in
     told_unknown x.live x.recording.now x.place.at _
-    (sym c.header.ensures ∙ c.in-Read.is)
+    (sym c.header.ensures ∙ c.in-Ok.is)
     (sym c.is_unknown.ensures ∙ c.if-is_unknown.true)
 
-pub returns-in-Refused : goal.returns-in-Refused
-returns-in-Refused c =
+pub returns-in-Err : goal.returns-in-Err
+returns-in-Err c =
     let x = c.args in
     told_refused x.live x.recording.now x.place.at _
-    (sym c.header.ensures ∙ c.in-Refused.is)
+    (sym c.header.ensures ∙ c.in-Err.is)
 
 pub returns-else-is_unknown : goal.returns-else-is_unknown
 returns-else-is_unknown c =
     let x = c.args in
     told_known x.live x.recording.now x.place.at _
-    (sym c.header.ensures ∙ c.in-Read.is)
+    (sym c.header.ensures ∙ c.in-Ok.is)
     (sym c.is_unknown.ensures ∙ c.if-is_unknown.false)

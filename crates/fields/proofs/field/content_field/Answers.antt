@@ -6,8 +6,8 @@ use Rattle.fields.proofs.field.content_field.Goals as goal
 pub range_of-requires : goal.range_of-requires
 range_of-requires c = search last_fits
 
-pub returns-in-Absent : goal.returns-in-Absent
-returns-in-Absent c = search content_unset
+pub returns-in-None : goal.returns-in-None
+returns-in-None c = search content_unset
 
-pub returns-in-At : goal.returns-in-At
-returns-in-At c = search content_at
+pub returns-in-Some : goal.returns-in-Some
+returns-in-Some c = search content_at

@@ -9,8 +9,8 @@ uint_in-requires c = search last_holds
 pub returns-then-uint_in-eq0 : goal.returns-then-uint_in-eq0
 returns-then-uint_in-eq0 c = search flag_no
 
-pub returns-in-Absent : goal.returns-in-Absent
-returns-in-Absent c = search flag_unset
+pub returns-in-None : goal.returns-in-None
+returns-in-None c = search flag_unset
 
 pub returns-else-uint_in-eq0 : goal.returns-else-uint_in-eq0
 returns-else-uint_in-eq0 c = search flag_yes

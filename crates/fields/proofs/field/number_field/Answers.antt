@@ -6,8 +6,8 @@ use Rattle.fields.proofs.field.number_field.Goals as goal
 pub uint_in-requires : goal.uint_in-requires
 uint_in-requires c = search last_holds
 
-pub returns-in-Absent : goal.returns-in-Absent
-returns-in-Absent c = search number_unset
+pub returns-in-None : goal.returns-in-None
+returns-in-None c = search number_unset
 
-pub returns-in-At : goal.returns-in-At
-returns-in-At c = search number_is
+pub returns-in-Some : goal.returns-in-Some
+returns-in-Some c = search number_is

@@ -6,8 +6,8 @@ use Rattle.fields.proofs.field.real_field.Goals as goal
 pub float_in-requires : goal.float_in-requires
 float_in-requires c = search last_holds
 
-pub returns-in-Absent : goal.returns-in-Absent
-returns-in-Absent c = search real_unset
+pub returns-in-None : goal.returns-in-None
+returns-in-None c = search real_unset
 
-pub returns-in-At : goal.returns-in-At
-returns-in-At c = search real_is
+pub returns-in-Some : goal.returns-in-Some
+returns-in-Some c = search real_is

@@ -15,20 +15,20 @@ returns-then-length-at c =
     let a = c.args in
     record { reply = reply_past_end a.recording.now a.at (omega arith) (omega arith) }
 
-pub returns-in-Read : goal.returns-in-Read
-returns-in-Read c =
+pub returns-in-Ok : goal.returns-in-Ok
+returns-in-Ok c =
     let a = c.args in
     record {
       reply =
-          ap read_reply (sym c.in-Read.is ∙ c.header.ensures)
+          ap read_reply (sym c.in-Ok.is ∙ c.header.ensures)
           ∙ reply_read a.recording.now a.at (omega arith) (omega arith);
     }
 
-pub returns-in-Refused : goal.returns-in-Refused
-returns-in-Refused c =
+pub returns-in-Err : goal.returns-in-Err
+returns-in-Err c =
     let a = c.args in
     record {
       reply =
-          ap read_reply (sym c.in-Refused.is ∙ c.header.ensures)
+          ap read_reply (sym c.in-Err.is ∙ c.header.ensures)
           ∙ reply_read a.recording.now a.at (omega arith) (omega arith);
     }

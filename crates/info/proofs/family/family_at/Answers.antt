@@ -6,11 +6,11 @@ use Rattle.info.proofs.family.family_at.Goals as goal
 pub family_in-requires : goal.family_in-requires
 family_in-requires c = search readable_at
 
-pub returns-in-Refused : goal.returns-in-Refused
-returns-in-Refused c = search family_refused
+pub returns-in-Err : goal.returns-in-Err
+returns-in-Err c = search family_refused
 
-pub returns-in-Unset : goal.returns-in-Unset
-returns-in-Unset c = search family_none
+pub returns-in-None : goal.returns-in-None
+returns-in-None c = search family_none
 
-pub returns-in-At-family_in : goal.returns-in-At-family_in
-returns-in-At-family_in c = search family_found
+pub returns-in-Ok-family_in : goal.returns-in-Ok-family_in
+returns-in-Ok-family_in c = search family_found

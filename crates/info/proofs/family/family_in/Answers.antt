@@ -6,8 +6,8 @@ use Rattle.info.proofs.family.family_in.Goals as goal
 pub range_of-requires : goal.range_of-requires
 range_of-requires c = search nth_fits
 
-pub returns-in-Absent : goal.returns-in-Absent
-returns-in-Absent c = search family_unset
+pub returns-in-None : goal.returns-in-None
+returns-in-None c = search family_unset
 
-pub returns-in-At : goal.returns-in-At
-returns-in-At c = search family_is
+pub returns-in-Some : goal.returns-in-Some
+returns-in-Some c = search family_is

@@ -6,8 +6,8 @@ use Rattle.info.proofs.info.info_at.Goals as goal
 pub info_in-requires : goal.info_in-requires
 info_in-requires c = search readable_at
 
-pub returns-in-Refused : goal.returns-in-Refused
-returns-in-Refused c = search told_refused
+pub returns-in-Err : goal.returns-in-Err
+returns-in-Err c = search told_refused
 
-pub returns-in-At : goal.returns-in-At
-returns-in-At c = search (told_below info_of)
+pub returns-in-Ok : goal.returns-in-Ok
+returns-in-Ok c = search (told_below info_of)

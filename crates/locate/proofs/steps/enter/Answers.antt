@@ -19,8 +19,8 @@ rows_below-master-requires-in-Last c = search known_at
 pub spot_of-requires-in-Last : goal.spot_of-requires-in-Last
 spot_of-requires-in-Last c = search (last_numbered, arith)
 
-pub returns-in-Absent : goal.returns-in-Absent
-returns-in-Absent c = search none_from
+pub returns-in-None : goal.returns-in-None
+returns-in-None c = search none_from
 
 pub returns-in-Here : goal.returns-in-Here
 returns-in-Here c = search stays

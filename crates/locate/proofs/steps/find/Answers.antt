@@ -12,8 +12,8 @@ enter-requires c = search (rules, still_known)
 pub rows_below-requires : goal.rows_below-requires
 rows_below-requires c = search (known_at, rules, still_known)
 
-pub returns-in-Absent : goal.returns-in-Absent
-returns-in-Absent c = search leads_nowhere
+pub returns-in-None : goal.returns-in-None
+returns-in-None c = search leads_nowhere
 
-pub returns-in-At : goal.returns-in-At
-returns-in-At c = search leads_to
+pub returns-in-Some : goal.returns-in-Some
+returns-in-Some c = search leads_to

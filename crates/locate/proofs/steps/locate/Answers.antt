@@ -5,11 +5,11 @@ use Rattle.locate.proofs.steps.locate.Goals as goal
 pub find-requires : goal.find-requires
 find-requires c = search read_ordered
 
-pub returns-in-Refused : goal.returns-in-Refused
-returns-in-Refused c = search read_refused
+pub returns-in-Err : goal.returns-in-Err
+returns-in-Err c = search read_refused
 
-pub returns-in-Absent : goal.returns-in-Absent
-returns-in-Absent c = search found_none
+pub returns-in-None : goal.returns-in-None
+returns-in-None c = search found_none
 
-pub returns-in-At : goal.returns-in-At
-returns-in-At c = search found_at
+pub returns-in-Ok : goal.returns-in-Ok
+returns-in-Ok c = search found_at

@@ -5,5 +5,5 @@ use Rattle.locate.proofs.steps.spot_of.Goals as goal
 pub overflow_add-result : goal.overflow_add-result
 overflow_add-result c = search spot_fits
 
-pub returns-in-At : goal.returns-in-At
-returns-in-At c = search spot_at
+pub returns-in-Some : goal.returns-in-Some
+returns-in-Some c = search spot_at

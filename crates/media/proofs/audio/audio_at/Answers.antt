@@ -6,8 +6,8 @@ use Rattle.media.proofs.audio.audio_at.Goals as goal
 pub audio_in-requires : goal.audio_in-requires
 audio_in-requires c = search readable_at
 
-pub returns-in-Refused : goal.returns-in-Refused
-returns-in-Refused c = search told_refused
+pub returns-in-Err : goal.returns-in-Err
+returns-in-Err c = search told_refused
 
-pub returns-in-At : goal.returns-in-At
-returns-in-At c = search (told_below audio_of)
+pub returns-in-Ok : goal.returns-in-Ok
+returns-in-Ok c = search (told_below audio_of)

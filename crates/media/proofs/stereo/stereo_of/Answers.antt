@@ -2,8 +2,8 @@
 use Rattle.media_rules.proofs.Said.{said_unset, said_is}
 use Rattle.media.proofs.stereo.stereo_of.Goals as goal
 
-pub returns-in-Unset : goal.returns-in-Unset
-returns-in-Unset c = search said_unset
+pub returns-in-None : goal.returns-in-None
+returns-in-None c = search said_unset
 
-pub returns-in-Is : goal.returns-in-Is
-returns-in-Is c = search said_is
+pub returns-in-Some : goal.returns-in-Some
+returns-in-Some c = search said_is

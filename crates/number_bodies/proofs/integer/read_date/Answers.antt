@@ -1,32 +1,32 @@
 -- `read_date` meets its contract: not 8 bytes, the bytes missing, or a value. Assumes nothing.
 use Rattle.std.proofs.Common.{ℤ, sym, ap, ◌∙◌, arith, to_z-of_z, w64}
-use Rattle.bodies_rules.specs.declared.body.BodyRead.TheVariants.{Read}
 use Rattle.bodies_rules.specs.declared.body.Body.TheVariants.{Value}
 use Rattle.bodies_rules.specs.declared.body.Value.TheVariants.{Date}
 use Rattle.bodies_rules.proofs.Found.{found, ended}
 use Rattle.bodies_rules.proofs.ByKind.{date_other, date_ends, date_there}
 use Rattle.number_bodies.proofs.integer.read_date.Goals as goal
+use Rattle.std.proofs.Common.{Ok}
 
 pub signed-requires : goal.signed-requires
 signed-requires c =
-    let fits = rw c.in-Number.is at c.number.ensures.1 in
+    let fits = rw c.in-Some.is at c.number.ensures.1 in
     (omega arith, fits)
 
-pub returns-in-Ends : goal.returns-in-Ends
-returns-in-Ends c =
+pub returns-in-None : goal.returns-in-None
+returns-in-None c =
     let read = c.number.ensures.0 in
-    let missing = ended _ _ _ (sym read ∙ c.in-Ends.is) in
+    let missing = ended _ _ _ (sym read ∙ c.in-None.is) in
     date_ends _ _ _ missing c.if-size-ne8.false
 
-pub returns-in-Number : goal.returns-in-Number
-returns-in-Number c =
-    let told = c.in-Number.is in
+pub returns-in-Some : goal.returns-in-Some
+returns-in-Some c =
+    let told = c.in-Some.is in
     let read = c.number.ensures.0 in
-    let next = c.in-Number.next in
+    let next = c.in-Some.next in
     let value = to_z-of_z {w = w64} (record { sfits = c.signed.type_inv }) ∙ c.signed.ensures in
     let there = found _ _ _ _ _ (sym read ∙ told) in
     let eight = c.if-size-ne8.false in
-    ap (λ (z : ℤ). Read (Value (Date z)) next) value ∙ date_there _ _ _ _ _ there eight
+    ap (λ (z : ℤ). Ok (Value (Date z), next)) value ∙ date_there _ _ _ _ _ there eight
 
 pub returns-then-size-ne8 : goal.returns-then-size-ne8
 returns-then-size-ne8 c = date_other _ _ _ c.if-size-ne8.true

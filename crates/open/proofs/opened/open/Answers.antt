@@ -14,18 +14,18 @@ run-requires c =
           c.clear_all.auto.chapters c.clear_all.auto.tags);
     }
 
-pub returns-in-Refused : goal.returns-in-Refused
-returns-in-Refused c =
+pub returns-in-Err : goal.returns-in-Err
+returns-in-Err c =
     open_refused _ _ _ _ _ c.clear_all.ensures
     (each_same c.clear_all.auto.info c.clear_all.auto.tracks c.clear_all.auto.attachments c.clear_all.auto.chapters
     c.clear_all.auto.tags)
-    _ c.run.ensures _ _ c.in-Refused.is
+    _ c.run.ensures _ _ c.in-Err.is
     (each_same c.run.auto.info c.run.auto.tracks c.run.auto.attachments c.run.auto.chapters c.run.auto.tags)
-    c.clear_all-in-Refused.ensures
+    c.clear_all-in-Err.ensures
 
-pub returns-in-Read : goal.returns-in-Read
-returns-in-Read c =
+pub returns-in-Ok : goal.returns-in-Ok
+returns-in-Ok c =
     open_read _ _ _ _ _ c.clear_all.ensures
     (each_same c.clear_all.auto.info c.clear_all.auto.tracks c.clear_all.auto.attachments c.clear_all.auto.chapters
     c.clear_all.auto.tags)
-    _ c.run.ensures _ _ c.in-Read.is
+    _ c.run.ensures _ _ c.in-Ok.is

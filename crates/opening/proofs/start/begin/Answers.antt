@@ -11,11 +11,11 @@ pub segment_of-requires : goal.segment_of-requires
 segment_of-requires c =
     small _ _ (sym c.are_allowed.ensures ∙ c.if-not-are_allowed.false)
 
-pub returns-in-Refused : goal.returns-in-Refused
-returns-in-Refused c =
+pub returns-in-Err : goal.returns-in-Err
+returns-in-Err c =
     begin_stopped _ _ _ (sym c.are_allowed.ensures ∙ c.if-not-are_allowed.false) _
-    (sym c.segment_of.ensures ∙ c.in-Refused.is)
+    (sym c.segment_of.ensures ∙ c.in-Err.is)
 
-pub returns-in-Read : goal.returns-in-Read
-returns-in-Read c =
-    begin_at _ _ _ (sym c.are_allowed.ensures ∙ c.if-not-are_allowed.false) _ (sym c.segment_of.ensures ∙ c.in-Read.is)
+pub returns-in-Ok : goal.returns-in-Ok
+returns-in-Ok c =
+    begin_at _ _ _ (sym c.are_allowed.ensures ∙ c.if-not-are_allowed.false) _ (sym c.segment_of.ensures ∙ c.in-Ok.is)

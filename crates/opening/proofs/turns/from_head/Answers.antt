@@ -3,9 +3,9 @@ use mathlib.Core.Path.{sym, ◌∙◌}
 use Rattle.open_rules.proofs.Going.{head_broken, head_read}
 use Rattle.opening.proofs.turns.from_head.Goals as goal
 
-pub returns-in-Refused : goal.returns-in-Refused
-returns-in-Refused c =
-    head_broken _ _ _ _ _ _ (sym c.in-Refused.is ∙ c.linked_heads.ensures)
+pub returns-in-Err : goal.returns-in-Err
+returns-in-Err c =
+    head_broken _ _ _ _ _ _ (sym c.in-Err.is ∙ c.linked_heads.ensures)
 
 pub returns-in-Read : goal.returns-in-Read
 returns-in-Read c =

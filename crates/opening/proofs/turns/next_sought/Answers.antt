@@ -10,11 +10,11 @@ pub overflow_add-sought : goal.overflow_add-sought
 overflow_add-sought c =
     omega (arith, c.loop-sought-test.true)
 
-pub returns-in-Refused : goal.returns-in-Refused
-returns-in-Refused c =
+pub returns-in-Err : goal.returns-in-Err
+returns-in-Err c =
     seek_stopped _ _ _ _ _ _ c.loop-sought.invariant c.loop-sought-test.true _ _ _ _
     c.which_at-which.ensures c.id_of-id.ensures
-    c.link_of-link.ensures c.part_at.ensures _ c.in-Refused.is
+    c.link_of-link.ensures c.part_at.ensures _ c.in-Err.is
 
 pub loop-sought-smaller : goal.loop-sought-smaller
 loop-sought-smaller c =
@@ -24,13 +24,13 @@ pub loop-sought-preserved : goal.loop-sought-preserved
 loop-sought-preserved c =
     seek_on _ _ _ _ _ _ c.loop-sought.invariant c.loop-sought-test.true _ _ _ _
     c.which_at-which.ensures c.id_of-id.ensures
-    c.link_of-link.ensures c.part_at.ensures _ c.in-Absent.is
+    c.link_of-link.ensures c.part_at.ensures _ c.in-Ok-None.is
 
-pub returns-in-Found : goal.returns-in-Found
-returns-in-Found c =
+pub returns-in-Ok-Some : goal.returns-in-Ok-Some
+returns-in-Ok-Some c =
     seek_found _ _ _ _ _ _ c.loop-sought.invariant c.loop-sought-test.true _ _ _ _
     c.which_at-which.ensures c.id_of-id.ensures
-    c.link_of-link.ensures c.part_at.ensures _ _ c.in-Found.is
+    c.link_of-link.ensures c.part_at.ensures _ _ c.in-Ok-Some.is
 
 pub returns : goal.returns
 returns c =

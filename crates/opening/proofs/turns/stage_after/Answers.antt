@@ -2,9 +2,9 @@
 use mathlib.Core.Path.{refl}
 use Rattle.opening.proofs.turns.stage_after.Goals as goal
 
-pub returns-in-Refused : goal.returns-in-Refused
-returns-in-Refused c =
-    rw c.in-Refused.is refl
+pub returns-in-Err : goal.returns-in-Err
+returns-in-Err c =
+    rw c.in-Err.is refl
 
-pub returns-in-Rows : goal.returns-in-Rows
-returns-in-Rows c = rw c.in-Rows.is refl
+pub returns-in-Ok : goal.returns-in-Ok
+returns-in-Ok c = rw c.in-Ok.is refl

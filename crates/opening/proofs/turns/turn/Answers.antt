@@ -14,28 +14,28 @@ pub past_child-requires : goal.past_child-requires
 past_child-requires c =
     let p = rw c.in-Behind.is at c.requires in p.1
 
-pub next_met-requires-in-At : goal.next_met-requires-in-At
-next_met-requires-in-At c =
+pub next_met-requires-in-Ok : goal.next_met-requires-in-Ok
+next_met-requires-in-Ok c =
     let p = rw c.in-Behind.is at c.requires in p.0
 
 pub returns-in-From : goal.returns-in-From
 returns-in-From c =
     turn_from _ _ _ _ _ _ c.in-From.is c.next_met.result c.next_met.ensures
 
-pub returns-in-Refused-past_child : goal.returns-in-Refused-past_child
-returns-in-Refused-past_child c =
+pub returns-in-Err-past_child : goal.returns-in-Err-past_child
+returns-in-Err-past_child c =
     turn_lost _ _ _ _ _ _ c.in-Behind.is _ c.stretch_of-stretch.ensures _ c.past_child.ensures _
-    c.in-Refused-past_child.is
+    c.in-Err-past_child.is
 
-pub returns-in-At : goal.returns-in-At
-returns-in-At c =
-    turn_on _ _ _ _ _ _ c.in-Behind.is _ c.stretch_of-stretch.ensures _ c.past_child.ensures _ c.in-At.is
-    c.next_met-in-At.result c.next_met-in-At.ensures
+pub returns-in-Ok : goal.returns-in-Ok
+returns-in-Ok c =
+    turn_on _ _ _ _ _ _ c.in-Behind.is _ c.stretch_of-stretch.ensures _ c.past_child.ensures _ c.in-Ok.is
+    c.next_met-in-Ok.result c.next_met-in-Ok.ensures
 
 pub returns-in-Sought : goal.returns-in-Sought
 returns-in-Sought c =
     turn_sought _ _ _ _ _ _ c.in-Sought.is c.next_sought.result c.next_sought.ensures
 
-pub returns-in-Refused : goal.returns-in-Refused
-returns-in-Refused c =
-    turn_refused _ _ _ _ _ c.in-Refused.is
+pub returns-in-Err : goal.returns-in-Err
+returns-in-Err c =
+    turn_refused _ _ _ _ _ c.in-Err.is

@@ -26,16 +26,16 @@ walk-reply-requires c =
       chain_value = c.clear.ensures ∙ zeros_as (sym c.clear.auto.table);
     }
 
-pub returns-in-Refused : goal.returns-in-Refused
-returns-in-Refused c =
+pub returns-in-Err : goal.returns-in-Err
+returns-in-Err c =
     let a = sym (c.is_asked.ensures ∙ asked_same _ _ c.clear.auto.table) ∙ c.if-not-is_asked.false in
     let w = sym c.is_within.ensures ∙ c.if-not-is_within.false in
-    asked_refused _ _ _ _ _ _ _ _ a w _ _ _ _ c.walk-reply.ensures c.in-Refused.is
-    (c.clear-in-Refused.ensures ∙ zeros_as (c.walk-reply.auto.chain ∙ c.clear.auto.table))
+    asked_refused _ _ _ _ _ _ _ _ a w _ _ _ _ c.walk-reply.ensures c.in-Err.is
+    (c.clear-in-Err.ensures ∙ zeros_as (c.walk-reply.auto.chain ∙ c.clear.auto.table))
 
 pub returns-in_default : goal.returns-in_default
 returns-in_default c =
     let a = sym (c.is_asked.ensures ∙ asked_same _ _ c.clear.auto.table) ∙ c.if-not-is_asked.false in
     let w = sym c.is_within.ensures ∙ c.if-not-is_within.false in
     asked_owned _ _ _ _ _ _ _ _ a w _ _ c.clear.auto.table c.walk-reply.ensures
-    c.in_default.not-Refused
+    c.in_default.not-Err

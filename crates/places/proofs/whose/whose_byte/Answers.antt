@@ -24,18 +24,18 @@ fill-requires c =
 
 pub find-requires : goal.find-requires
 find-requires c =
-    asked_rows _ _ _ _ _ _ _ _ (c.in-Rows.ensures)
+    asked_rows _ _ _ _ _ _ _ _ (c.in-Ok.ensures)
 
-pub returns-in-Refused : goal.returns-in-Refused
-returns-in-Refused c =
+pub returns-in-Err : goal.returns-in-Err
+returns-in-Err c =
     let a = sym (c.is_allowed.ensures ∙ allowed_as _ _ c.clear.auto.table) ∙ c.if-not-is_allowed.false in
     let w = sym c.is_within.ensures ∙ c.if-not-is_within.false in
-    let p = c.in-Refused.ensures in
+    let p = c.in-Err.ensures in
     asked_refused _ _ _ _ _ _ _ _ a w _ (as_lent _ _ _ _ _ _ _ _ _ c.clear.auto.table p)
 
-pub returns-in-Rows : goal.returns-in-Rows
-returns-in-Rows c =
+pub returns-in-Ok : goal.returns-in-Ok
+returns-in-Ok c =
     let a = sym (c.is_allowed.ensures ∙ allowed_as _ _ c.clear.auto.table) ∙ c.if-not-is_allowed.false in
     let w = sym c.is_within.ensures ∙ c.if-not-is_within.false in
-    let p = c.in-Rows.ensures in
+    let p = c.in-Ok.ensures in
     asked_found _ _ _ _ _ _ _ _ a w _ _ (as_lent _ _ _ _ _ _ _ _ _ c.clear.auto.table p) c.find.ensures

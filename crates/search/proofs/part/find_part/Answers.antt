@@ -18,41 +18,41 @@ look_up-requires c =
 pub fill-requires : goal.fill-requires
 fill-requires c =
     let a = sym c.is_allowed.ensures ∙ c.if-not-is_allowed.false in
-    let w = sym c.in-Found.is ∙ c.look_up.ensures in
+    let w = sym c.in-Ok-Some.is ∙ c.look_up.ensures in
     record {
       table_value = found_allowed _ _ _ _ _ _ a w;
       table_value_2 = c.clear.ensures ∙ zeros_as (sym c.clear.auto.table);
     }
 
-pub returns-in-NoPart : goal.returns-in-NoPart
-returns-in-NoPart c =
+pub returns-in-None : goal.returns-in-None
+returns-in-None c =
     let a = sym (c.is_allowed.ensures ∙ allowed_as _ _ c.clear.auto.table) ∙ c.if-not-is_allowed.false in
-    find_none _ _ _ _ a _ _ (sym c.parent_of.ensures ∙ c.in-NoPart.is) refl c.clear.ensures
+    find_none _ _ _ _ a _ _ (sym c.parent_of.ensures ∙ c.in-None.is) refl c.clear.ensures
 
-pub returns-in-Refused : goal.returns-in-Refused
-returns-in-Refused c =
+pub returns-in-Err : goal.returns-in-Err
+returns-in-Err c =
     let a = sym (c.is_allowed.ensures ∙ allowed_as _ _ c.clear.auto.table) ∙ c.if-not-is_allowed.false in
-    let i = sym c.parent_of.ensures ∙ c.in-Id.is in
-    find_stopped _ _ _ _ a _ i _ _ (sym c.in-Refused.is ∙ c.look_up.ensures) c.clear.ensures
+    let i = sym c.parent_of.ensures ∙ c.in-Some.is in
+    find_stopped _ _ _ _ a _ i _ _ (sym c.in-Err.is ∙ c.look_up.ensures) c.clear.ensures
 
-pub returns-in-Absent : goal.returns-in-Absent
-returns-in-Absent c =
+pub returns-in-Ok-None : goal.returns-in-Ok-None
+returns-in-Ok-None c =
     let a = sym (c.is_allowed.ensures ∙ allowed_as _ _ c.clear.auto.table) ∙ c.if-not-is_allowed.false in
-    let i = sym c.parent_of.ensures ∙ c.in-Id.is in
-    find_absent _ _ _ _ a _ i _ _ (sym c.in-Absent.is ∙ c.look_up.ensures) c.clear.ensures
+    let i = sym c.parent_of.ensures ∙ c.in-Some.is in
+    find_absent _ _ _ _ a _ i _ _ (sym c.in-Ok-None.is ∙ c.look_up.ensures) c.clear.ensures
 
-pub returns-in-Refused-fill : goal.returns-in-Refused-fill
-returns-in-Refused-fill c =
+pub returns-in-Err-fill : goal.returns-in-Err-fill
+returns-in-Err-fill c =
     let a = sym (c.is_allowed.ensures ∙ allowed_as _ _ c.clear.auto.table) ∙ c.if-not-is_allowed.false in
-    let i = sym c.parent_of.ensures ∙ c.in-Id.is in
-    let w = sym c.in-Found.is ∙ c.look_up.ensures in
-    let r = rw c.in-Refused-fill.is at c.fill.ensures in
+    let i = sym c.parent_of.ensures ∙ c.in-Some.is in
+    let w = sym c.in-Ok-Some.is ∙ c.look_up.ensures in
+    let r = rw c.in-Err-fill.is at c.fill.ensures in
     find_refused _ _ _ _ a _ i _ _ w _ _ (as_lent _ _ _ _ _ _ _ _ _ c.clear.auto.table r)
 
-pub returns-in-Rows : goal.returns-in-Rows
-returns-in-Rows c =
+pub returns-in-Ok : goal.returns-in-Ok
+returns-in-Ok c =
     let a = sym (c.is_allowed.ensures ∙ allowed_as _ _ c.clear.auto.table) ∙ c.if-not-is_allowed.false in
-    let i = sym c.parent_of.ensures ∙ c.in-Id.is in
-    let w = sym c.in-Found.is ∙ c.look_up.ensures in
-    let r = rw c.in-Rows.is at c.fill.ensures in
+    let i = sym c.parent_of.ensures ∙ c.in-Some.is in
+    let w = sym c.in-Ok-Some.is ∙ c.look_up.ensures in
+    let r = rw c.in-Ok.is at c.fill.ensures in
     find_rows _ _ _ _ a _ i _ _ w _ _ (as_lent _ _ _ _ _ _ _ _ _ c.clear.auto.table r)

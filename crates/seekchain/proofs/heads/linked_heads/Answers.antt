@@ -14,9 +14,9 @@ head_body-requires c =
     let p = c.requires in
     record { small = p.small; there = c.loop-refusal.invariant.there }
 
-pub returns-in-Refused : goal.returns-in-Refused
-returns-in-Refused c =
-    chaining_lost _ _ _ _ _ _ _ _ _ c.loop-refusal.invariant _ (sym c.in-Refused.is
+pub returns-in-Err : goal.returns-in-Err
+returns-in-Err c =
+    chaining_lost _ _ _ _ _ _ _ _ _ c.loop-refusal.invariant _ (sym c.in-Err.is
     ∙ c.head_body.ensures)
 
 pub next_head-requires : goal.next_head-requires
@@ -27,17 +27,17 @@ next_head-requires c =
       last_value = chaining_last _ _ _ _ _ _ _ _ _ g;
     }
 
-pub returns-in-Refused-next_head : goal.returns-in-Refused-next_head
-returns-in-Refused-next_head c =
+pub returns-in-Err-next_head : goal.returns-in-Err-next_head
+returns-in-Err-next_head c =
     chaining_stops _ _ _ _ _ _ _ _ _ c.loop-refusal.invariant _
-    (sym c.in-Read.is ∙ c.head_body.ensures) _
-    (sym c.in-Refused-next_head.is ∙ c.next_head.ensures)
+    (sym c.in-Ok.is ∙ c.head_body.ensures) _
+    (sym c.in-Err-next_head.is ∙ c.next_head.ensures)
 
-pub returns-in-Last : goal.returns-in-Last
-returns-in-Last c =
+pub returns-in-Ok-None : goal.returns-in-Ok-None
+returns-in-Ok-None c =
     chaining_ends _ _ _ _ _ _ _ _ _ c.loop-refusal.invariant _
-    (sym c.in-Read.is ∙ c.head_body.ensures)
-    (sym c.in-Last.is ∙ c.next_head.ensures)
+    (sym c.in-Ok.is ∙ c.head_body.ensures)
+    (sym c.in-Ok-None.is ∙ c.next_head.ensures)
 
 pub loop-refusal-smaller : goal.loop-refusal-smaller
 loop-refusal-smaller c =
@@ -46,5 +46,5 @@ loop-refusal-smaller c =
 pub loop-refusal-preserved : goal.loop-refusal-preserved
 loop-refusal-preserved c =
     chaining_on _ _ _ _ _ _ _ _ _ c.loop-refusal.invariant _
-    (sym c.in-Read.is ∙ c.head_body.ensures) _
-    (sym c.in-Next.is ∙ c.next_head.ensures)
+    (sym c.in-Ok.is ∙ c.head_body.ensures) _
+    (sym c.in-Ok-Some.is ∙ c.next_head.ensures)

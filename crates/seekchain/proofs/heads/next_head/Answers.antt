@@ -11,7 +11,7 @@ pub returns-then-is_too_far : goal.returns-then-is_too_far
 unfolding next_head
 returns-then-is_too_far c =
     rw (
-      c.in-At.is,
+      c.in-Some.is,
       sym c.is_too_far.ensures ∙ c.if-is_too_far.true,
       sym c.requires.last_value,
     )
@@ -19,13 +19,13 @@ returns-then-is_too_far c =
 
 pub overflow_add-address : goal.overflow_add-address
 overflow_add-address c =
-    omega (arith, near c.args.start c.in-At.position (sym c.is_too_far.ensures ∙ c.if-is_too_far.false))
+    omega (arith, near c.args.start c.in-Some.position (sym c.is_too_far.ensures ∙ c.if-is_too_far.false))
 
 pub returns-then-contains : goal.returns-then-contains
 unfolding next_head
 returns-then-contains c =
     rw (
-      c.in-At.is,
+      c.in-Some.is,
       sym c.is_too_far.ensures ∙ c.if-is_too_far.false,
       sym c.contains.ensures ∙ c.if-contains.true,
     )
@@ -35,7 +35,7 @@ pub returns-then-read-ge-MOST_HEADS : goal.returns-then-read-ge-MOST_HEADS
 unfolding next_head
 returns-then-read-ge-MOST_HEADS c =
     rw (
-      c.in-At.is,
+      c.in-Some.is,
       sym c.is_too_far.ensures ∙ c.if-is_too_far.false,
       sym c.contains.ensures ∙ c.if-contains.false,
       length-take-le c.args.read c.args.seen.now c.requires.read_in_bounds,
@@ -43,32 +43,32 @@ returns-then-read-ge-MOST_HEADS c =
     )
     refl
 
-pub returns-in-Nowhere : goal.returns-in-Nowhere
+pub returns-in-None : goal.returns-in-None
 unfolding next_head
-returns-in-Nowhere c = rw c.in-Nowhere.is refl
+returns-in-None c = rw c.in-None.is refl
 
-pub returns-in-Refused : goal.returns-in-Refused
+pub returns-in-Err : goal.returns-in-Err
 unfolding next_head
-returns-in-Refused c =
+returns-in-Err c =
     rw (
-      c.in-At.is,
+      c.in-Some.is,
       sym c.is_too_far.ensures ∙ c.if-is_too_far.false,
       sym c.contains.ensures ∙ c.if-contains.false,
       length-take-le c.args.read c.args.seen.now c.requires.read_in_bounds,
       lt-leb 64 c.args.read (omega (arith, c.if-read-ge-MOST_HEADS.false)),
-      sym c.sought.ensures ∙ c.in-Refused.is,
+      sym c.sought.ensures ∙ c.in-Err.is,
     )
     refl
 
-pub returns-in-Read : goal.returns-in-Read
+pub returns-in-Ok : goal.returns-in-Ok
 unfolding next_head
-returns-in-Read c =
+returns-in-Ok c =
     rw (
-      c.in-At.is,
+      c.in-Some.is,
       sym c.is_too_far.ensures ∙ c.if-is_too_far.false,
       sym c.contains.ensures ∙ c.if-contains.false,
       length-take-le c.args.read c.args.seen.now c.requires.read_in_bounds,
       lt-leb 64 c.args.read (omega (arith, c.if-read-ge-MOST_HEADS.false)),
-      sym c.sought.ensures ∙ c.in-Read.is,
+      sym c.sought.ensures ∙ c.in-Ok.is,
     )
     refl

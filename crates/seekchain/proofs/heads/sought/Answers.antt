@@ -7,17 +7,17 @@ use Rattle.seekchain.proofs.heads.sought.Goals as goal
 pub returns-then-element-id : goal.returns-then-element-id
 unfolding sought
 returns-then-element-id c =
-    rw (sym c.child_at.ensures ∙ c.in-Child.is, ne_eqb _ _ c.if-element-id.true) refl
+    rw (sym c.child_at.ensures ∙ c.in-Ok-Some.is, ne_eqb _ _ c.if-element-id.true) refl
 
-pub returns-in-Refused : goal.returns-in-Refused
+pub returns-in-Err : goal.returns-in-Err
 unfolding sought
-returns-in-Refused c = rw (sym c.child_at.ensures ∙ c.in-Refused.is) refl
+returns-in-Err c = rw (sym c.child_at.ensures ∙ c.in-Err.is) refl
 
-pub returns-in-End : goal.returns-in-End
+pub returns-in-Ok-None : goal.returns-in-Ok-None
 unfolding sought
-returns-in-End c = rw (sym c.child_at.ensures ∙ c.in-End.is) refl
+returns-in-Ok-None c = rw (sym c.child_at.ensures ∙ c.in-Ok-None.is) refl
 
 pub returns-else-element-id : goal.returns-else-element-id
 unfolding sought
 returns-else-element-id c =
-    rw (sym c.child_at.ensures ∙ c.in-Child.is, eq-eqb _ _ c.if-element-id.false) refl
+    rw (sym c.child_at.ensures ∙ c.in-Ok-Some.is, eq-eqb _ _ c.if-element-id.false) refl

@@ -3,9 +3,9 @@ use mathlib.Core.Path.{sym, ◌∙◌}
 use Rattle.seekchain_rules.proofs.Lookups.{chain_broken, chain_read}
 use Rattle.seekchain.proofs.lookup.by_heads.Goals as goal
 
-pub returns-in-Refused : goal.returns-in-Refused
-returns-in-Refused c =
-    chain_broken _ _ _ _ _ _ (sym c.in-Refused.is ∙ c.linked_heads.ensures)
+pub returns-in-Err : goal.returns-in-Err
+returns-in-Err c =
+    chain_broken _ _ _ _ _ _ (sym c.in-Err.is ∙ c.linked_heads.ensures)
 
 pub returns-in-Read : goal.returns-in-Read
 returns-in-Read c =

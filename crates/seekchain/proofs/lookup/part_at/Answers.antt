@@ -8,33 +8,33 @@ use Rattle.seekchain.proofs.lookup.part_at.Goals as goal
 pub returns-then-is_too_far : goal.returns-then-is_too_far
 unfolding part_at
 returns-then-is_too_far c = λ heads l z.
-    rw (c.in-At.is, sym c.is_too_far.ensures ∙ c.if-is_too_far.true, z) refl
+    rw (c.in-Some.is, sym c.is_too_far.ensures ∙ c.if-is_too_far.true, z) refl
 
 pub overflow_add-address : goal.overflow_add-address
 overflow_add-address c =
-    omega (arith, near c.args.start c.in-At.position (sym c.is_too_far.ensures ∙ c.if-is_too_far.false))
+    omega (arith, near c.args.start c.in-Some.position (sym c.is_too_far.ensures ∙ c.if-is_too_far.false))
 
-pub returns-in-Nowhere : goal.returns-in-Nowhere
+pub returns-in-None : goal.returns-in-None
 unfolding part_at
-returns-in-Nowhere c = λ heads l z. rw (c.in-Nowhere.is, l) refl
+returns-in-None c = λ heads l z. rw (c.in-None.is, l) refl
 
-pub returns-in-Refused : goal.returns-in-Refused
+pub returns-in-Err : goal.returns-in-Err
 unfolding part_at
-returns-in-Refused c = λ heads l z.
+returns-in-Err c = λ heads l z.
     rw (
-      c.in-At.is,
+      c.in-Some.is,
       sym c.is_too_far.ensures ∙ c.if-is_too_far.false,
-      sym c.sought.ensures ∙ c.in-Refused.is,
+      sym c.sought.ensures ∙ c.in-Err.is,
     )
     refl
 
-pub returns-in-Read : goal.returns-in-Read
+pub returns-in-Ok : goal.returns-in-Ok
 unfolding part_at
-returns-in-Read c = λ heads l z.
+returns-in-Ok c = λ heads l z.
     rw (
-      c.in-At.is,
+      c.in-Some.is,
       sym c.is_too_far.ensures ∙ c.if-is_too_far.false,
-      sym c.sought.ensures ∙ c.in-Read.is,
+      sym c.sought.ensures ∙ c.in-Ok.is,
       l,
     )
     refl

@@ -9,19 +9,19 @@ seek_body-requires c =
     let p = c.requires in
     record { small = p.small; there = (step_read _ _ _ _ p.there).1 }
 
-pub returns-in-Refused : goal.returns-in-Refused
-returns-in-Refused c =
+pub returns-in-Err : goal.returns-in-Err
+returns-in-Err c =
     seek_refusal _ _ _ _ _ c.requires.there c.if-child-eq-SEEK.true _
-    (sym c.in-Refused.is ∙ c.seek_body.ensures)
+    (sym c.in-Err.is ∙ c.seek_body.ensures)
 
-pub returns-in-Read : goal.returns-in-Read
-returns-in-Read c =
+pub returns-in-Ok : goal.returns-in-Ok
+returns-in-Ok c =
     seek_more _ _ _ _ _ c.requires.there c.if-child-eq-SEEK.true _
-    (sym c.in-Read.is ∙ c.seek_body.ensures) _ c.insert.ensures
+    (sym c.in-Ok.is ∙ c.seek_body.ensures) _ c.insert.ensures
 
-pub returns-in-Refused-skim_body : goal.returns-in-Refused-skim_body
-returns-in-Refused-skim_body c = rw (c.skim_body.ensures.refusal _ c.in-Refused-skim_body.is) refl
+pub returns-in-Err-skim_body : goal.returns-in-Err-skim_body
+returns-in-Err-skim_body c = rw (c.skim_body.ensures.refusal _ c.in-Err-skim_body.is) refl
 
-pub returns-in-Read-skim_body : goal.returns-in-Read-skim_body
-returns-in-Read-skim_body c =
-    other_more _ _ _ _ _ c.if-child-eq-SEEK.false _ (c.skim_body.ensures.body _ c.in-Read-skim_body.is)
+pub returns-in-Ok-skim_body : goal.returns-in-Ok-skim_body
+returns-in-Ok-skim_body c =
+    other_more _ _ _ _ _ c.if-child-eq-SEEK.false _ (c.skim_body.ensures.body _ c.in-Ok-skim_body.is)

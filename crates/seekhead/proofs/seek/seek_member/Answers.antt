@@ -4,12 +4,12 @@ use Rattle.seekhead_rules.proofs.Members.{member_more}
 use Rattle.seekhead.proofs.seek.seek_member.Goals as goal
 
 pub noted-requires : goal.noted-requires
-noted-requires c = (c.skim_body.ensures.body _ c.in-Read.is).inside
+noted-requires c = (c.skim_body.ensures.body _ c.in-Ok.is).inside
 
-pub returns-in-Refused : goal.returns-in-Refused
-returns-in-Refused c = rw (c.skim_body.ensures.refusal _ c.in-Refused.is) refl
+pub returns-in-Err : goal.returns-in-Err
+returns-in-Err c = rw (c.skim_body.ensures.refusal _ c.in-Err.is) refl
 
-pub returns-in-Read : goal.returns-in-Read
-returns-in-Read c =
+pub returns-in-Ok : goal.returns-in-Ok
+returns-in-Ok c =
     member_more _ _ _ _ c.requires.there _
-    (c.skim_body.ensures.body _ c.in-Read.is) _ c.noted.ensures
+    (c.skim_body.ensures.body _ c.in-Ok.is) _ c.noted.ensures

@@ -17,31 +17,31 @@ master_body-requires c =
       room = λ kept. omega arith;
     }
 
-pub returns-in-Refused : goal.returns-in-Refused
-returns-in-Refused c =
+pub returns-in-Err : goal.returns-in-Err
+returns-in-Err c =
     let p = c.requires in
     let kind = promised_kind _ _ _ c.kind_of-kind.ensures in
     skim_refused _ _ _ _ _ p.taken.there p.shallow (sym (c.number.ensures ∙ rw kind refl)
-    ∙ c.if-number-eq-MASTER.true) _ (sym c.in-Refused.is ∙ c.master_body.ensures.reply)
+    ∙ c.if-number-eq-MASTER.true) _ (sym c.in-Err.is ∙ c.master_body.ensures.reply)
 
-pub returns-in-Read : goal.returns-in-Read
-returns-in-Read c =
+pub returns-in-Ok : goal.returns-in-Ok
+returns-in-Ok c =
     let p = c.requires in
     let kind = promised_kind _ _ _ c.kind_of-kind.ensures in
     skim_master _ _ _ _ _ p.taken.there p.shallow (sym (c.number.ensures ∙ rw kind refl)
-    ∙ c.if-number-eq-MASTER.true) _ _ (sym c.in-Read.is ∙ c.master_body.ensures.reply)
+    ∙ c.if-number-eq-MASTER.true) _ _ (sym c.in-Ok.is ∙ c.master_body.ensures.reply)
 
-pub returns-in-Refused-read_body : goal.returns-in-Refused-read_body
-returns-in-Refused-read_body c =
+pub returns-in-Err-read_body : goal.returns-in-Err-read_body
+returns-in-Err-read_body c =
     let p = c.requires in
     let kind = promised_kind _ _ _ c.kind_of-kind.ensures in
     skim_leaf_refused _ _ _ _ _ p.taken.there p.shallow _
-    (sym c.in-Refused-read_body.is ∙ c.read_body.ensures ∙ rw kind refl)
+    (sym c.in-Err-read_body.is ∙ c.read_body.ensures ∙ rw kind refl)
 
-pub returns-in-Read-read_body : goal.returns-in-Read-read_body
-returns-in-Read-read_body c =
+pub returns-in-Ok-read_body : goal.returns-in-Ok-read_body
+returns-in-Ok-read_body c =
     let p = c.requires in
     let kind = promised_kind _ _ _ c.kind_of-kind.ensures in
     skim_leaf _ _ _ _ _ p.taken.there p.shallow _ _
     (λ q. c.if-number-eq-MASTER.false (c.number.ensures ∙ rw kind q))
-    (sym c.in-Read-read_body.is ∙ c.read_body.ensures ∙ rw kind refl)
+    (sym c.in-Ok-read_body.is ∙ c.read_body.ensures ∙ rw kind refl)

@@ -12,52 +12,52 @@ pub loop-refusal-init : goal.loop-refusal-init
 unfolding segment_of
 loop-refusal-init c = refl
 
-pub returns-in-Refused : goal.returns-in-Refused
-returns-in-Refused c =
-    rw (c.loop-refusal.invariant, segment_unfolds, sym c.child_at.ensures ∙ c.in-Refused.is) refl
+pub returns-in-Err : goal.returns-in-Err
+returns-in-Err c =
+    rw (c.loop-refusal.invariant, segment_unfolds, sym c.child_at.ensures ∙ c.in-Err.is) refl
 
-pub returns-in-End : goal.returns-in-End
-returns-in-End c =
-    rw (c.loop-refusal.invariant, segment_unfolds, sym c.child_at.ensures ∙ c.in-End.is) refl
+pub returns-in-Ok-None : goal.returns-in-Ok-None
+returns-in-Ok-None c =
+    rw (c.loop-refusal.invariant, segment_unfolds, sym c.child_at.ensures ∙ c.in-Ok-None.is) refl
 
 pub returns-then-element-eq-SEGMENT : goal.returns-then-element-eq-SEGMENT
 returns-then-element-eq-SEGMENT c =
     rw (
       c.loop-refusal.invariant,
       segment_unfolds,
-      sym c.child_at.ensures ∙ c.in-Child.is,
+      sym c.child_at.ensures ∙ c.in-Ok-Some.is,
       eq-eqb _ _ c.if-element-eq-SEGMENT.true,
     )
     refl
 
 pub pass_over-requires : goal.pass_over-requires
 pass_over-requires c =
-    let t = stepped_on _ _ _ _ _ (sym c.child_at.ensures ∙ c.in-Child.is) in
+    let t = stepped_on _ _ _ _ _ (sym c.child_at.ensures ∙ c.in-Ok-Some.is) in
     record { small = c.requires; there = t.there }
 
-pub returns-in-Refused-pass_over : goal.returns-in-Refused-pass_over
-returns-in-Refused-pass_over c =
+pub returns-in-Err-pass_over : goal.returns-in-Err-pass_over
+returns-in-Err-pass_over c =
     rw (
       c.loop-refusal.invariant,
       segment_unfolds,
-      sym c.child_at.ensures ∙ c.in-Child.is,
+      sym c.child_at.ensures ∙ c.in-Ok-Some.is,
       ne_eqb _ _ c.if-element-eq-SEGMENT.false,
-      sym c.pass_over.ensures ∙ c.in-Refused-pass_over.is,
+      sym c.pass_over.ensures ∙ c.in-Err-pass_over.is,
     )
     refl
 
 pub loop-refusal-smaller : goal.loop-refusal-smaller
 loop-refusal-smaller c =
-    let t = stepped_on _ _ _ _ _ (sym c.child_at.ensures ∙ c.in-Child.is) in
+    let t = stepped_on _ _ _ _ _ (sym c.child_at.ensures ∙ c.in-Ok-Some.is) in
     less_room c.args.recording.now (Sized _) _ _ t.room
-    (pass_onward _ _ (Sized _) _ _ _ t (sym c.pass_over.ensures ∙ c.in-At.is))
+    (pass_onward _ _ (Sized _) _ _ _ t (sym c.pass_over.ensures ∙ c.in-Ok.is))
 
 pub loop-refusal-preserved : goal.loop-refusal-preserved
 loop-refusal-preserved c =
     c.loop-refusal.invariant ∙ segment_unfolds _ _ _
     ∙ rw (
-      sym c.child_at.ensures ∙ c.in-Child.is,
+      sym c.child_at.ensures ∙ c.in-Ok-Some.is,
       ne_eqb _ _ c.if-element-eq-SEGMENT.false,
-      sym c.pass_over.ensures ∙ c.in-At.is,
+      sym c.pass_over.ensures ∙ c.in-Ok.is,
     )
     refl

@@ -8,14 +8,14 @@ pub walk-requires : goal.walk-requires
 walk-requires c =
     record {
       small = c.requires;
-      there = segment_there _ _ _ (sym c.segment_of.ensures ∙ c.in-Read.is);
+      there = segment_there _ _ _ (sym c.segment_of.ensures ∙ c.in-Ok.is);
     }
 
-pub returns-in-Refused : goal.returns-in-Refused
+pub returns-in-Err : goal.returns-in-Err
 unfolding lookup_of
-returns-in-Refused c = rw (sym c.segment_of.ensures ∙ c.in-Refused.is) refl
+returns-in-Err c = rw (sym c.segment_of.ensures ∙ c.in-Err.is) refl
 
-pub returns-in-Read : goal.returns-in-Read
+pub returns-in-Ok : goal.returns-in-Ok
 unfolding lookup_of
-returns-in-Read c =
-    rw (sym c.segment_of.ensures ∙ c.in-Read.is) c.walk.ensures
+returns-in-Ok c =
+    rw (sym c.segment_of.ensures ∙ c.in-Ok.is) c.walk.ensures

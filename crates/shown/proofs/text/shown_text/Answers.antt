@@ -5,16 +5,16 @@ use Rattle.shown.proofs.text.shown_text.Goals as goal
 
 pub overflow_add-end : goal.overflow_add-end
 overflow_add-end c =
-    let i = shown_inside _ _ _ c.text_range.ensures c.in-Range.is in
+    let i = shown_inside _ _ _ c.text_range.ensures c.in-Ok.is in
     omega (arith, i.ends, i.short)
 
-pub slice_bounds-result-end-in-Range : goal.slice_bounds-result-end-in-Range
-slice_bounds-result-end-in-Range c =
-    let i = shown_inside _ _ _ c.text_range.ensures c.in-Range.is in
+pub slice_bounds-result-end-in-Ok : goal.slice_bounds-result-end-in-Ok
+slice_bounds-result-end-in-Ok c =
+    let i = shown_inside _ _ _ c.text_range.ensures c.in-Ok.is in
     omega (arith, i.ends)
 
-pub returns-in-Refused : goal.returns-in-Refused
-returns-in-Refused c = search shown_none
+pub returns-in-Err : goal.returns-in-Err
+returns-in-Err c = search shown_none
 
-pub returns-in-Range : goal.returns-in-Range
-returns-in-Range c = search shown_is
+pub returns-in-Ok : goal.returns-in-Ok
+returns-in-Ok c = search shown_is

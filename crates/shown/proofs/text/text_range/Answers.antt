@@ -11,11 +11,11 @@ returns-then-not-is_text c =
 pub returns-else-not-is_text : goal.returns-else-not-is_text
 returns-else-not-is_text c =
     is_shown _ _ _ c.payload_range.ensures c.row_at-found.ensures
-    c.is_text.ensures c.in-Range.is c.if-not-is_text.false
+    c.is_text.ensures c.in-Ok.is c.if-not-is_text.false
     c.row_payload.ensures _ (ap length c.shown_part-text.ensures)
 
 pub row_at-found-requires : goal.row_at-found-requires
 row_at-found-requires c = search row_there
 
-pub returns-in-Refused : goal.returns-in-Refused
-returns-in-Refused c = search no_range
+pub returns-in-Err : goal.returns-in-Err
+returns-in-Err c = search no_range

@@ -17,8 +17,8 @@ rows_below-inner-requires c = search inner_known
 pub target_in-requires : goal.target_in-requires
 target_in-requires c = search inner_readable
 
-pub returns-in-Absent : goal.returns-in-Absent
-returns-in-Absent c = search no_targets
+pub returns-in-None : goal.returns-in-None
+returns-in-None c = search no_targets
 
-pub returns-in-At : goal.returns-in-At
-returns-in-At c = search are_targets
+pub returns-in-Some : goal.returns-in-Some
+returns-in-Some c = search are_targets

@@ -6,11 +6,11 @@ use Rattle.tags.proofs.uid.uid_at.Goals as goal
 pub uid_in-requires : goal.uid_in-requires
 uid_in-requires c = search readable_at
 
-pub returns-in-Refused : goal.returns-in-Refused
-returns-in-Refused c = search uid_refused
+pub returns-in-Err : goal.returns-in-Err
+returns-in-Err c = search uid_refused
 
-pub returns-in-Unset : goal.returns-in-Unset
-returns-in-Unset c = search uid_none
+pub returns-in-None : goal.returns-in-None
+returns-in-None c = search uid_none
 
-pub returns-in-Is : goal.returns-in-Is
-returns-in-Is c = search uid_found
+pub returns-in-Some : goal.returns-in-Some
+returns-in-Some c = search uid_found

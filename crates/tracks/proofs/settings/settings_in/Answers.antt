@@ -21,11 +21,11 @@ rows_below-inner-requires c = search video_known
 pub video_in-requires : goal.video_in-requires
 video_in-requires c = search inner_readable
 
-pub overflow_add-number-in-Audio : goal.overflow_add-number-in-Audio
-overflow_add-number-in-Audio c = search (audio_fits, arith)
+pub overflow_add-number-in-Some-Audio : goal.overflow_add-number-in-Some-Audio
+overflow_add-number-in-Some-Audio c = search (audio_fits, arith)
 
-pub rows_below-inner-requires-in-Audio : goal.rows_below-inner-requires-in-Audio
-rows_below-inner-requires-in-Audio c = search audio_known
+pub rows_below-inner-requires-in-Some-Audio : goal.rows_below-inner-requires-in-Some-Audio
+rows_below-inner-requires-in-Some-Audio c = search audio_known
 
 pub audio_in-requires : goal.audio_in-requires
 audio_in-requires c = search inner_readable
@@ -33,8 +33,8 @@ audio_in-requires c = search inner_readable
 pub returns-in-None : goal.returns-in-None
 returns-in-None c = search no_settings
 
-pub returns-in-Video : goal.returns-in-Video
-returns-in-Video c = search video_settings
+pub returns-in-Some-Video : goal.returns-in-Some-Video
+returns-in-Some-Video c = search video_settings
 
-pub returns-in-Audio : goal.returns-in-Audio
-returns-in-Audio c = search audio_settings
+pub returns-in-Some-Audio : goal.returns-in-Some-Audio
+returns-in-Some-Audio c = search audio_settings

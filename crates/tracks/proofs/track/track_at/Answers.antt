@@ -5,8 +5,8 @@ use Rattle.tracks.proofs.track.track_at.Goals as goal
 pub track_in-requires : goal.track_in-requires
 track_in-requires c = search stands_at
 
-pub returns-in-Refused : goal.returns-in-Refused
-returns-in-Refused c = search told_refused
+pub returns-in-Err : goal.returns-in-Err
+returns-in-Err c = search told_refused
 
-pub returns-in-At : goal.returns-in-At
-returns-in-At c = search told_found
+pub returns-in-Ok : goal.returns-in-Ok
+returns-in-Ok c = search told_found

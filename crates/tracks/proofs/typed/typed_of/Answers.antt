@@ -7,10 +7,10 @@ use Rattle.codes.specs.declared.tracktype.Tracktype.{Tracktype}
 use Rattle.tracks_rules.specs.Typed.{typed}
 use Rattle.tracks.proofs.typed.typed_of.Goals as goal
 
-pub returns-in-Unset : goal.returns-in-Unset
-returns-in-Unset c = search said_unset
+pub returns-in-None : goal.returns-in-None
+returns-in-None c = search said_unset
 
-pub returns-in-Is : goal.returns-in-Is
+pub returns-in-Some : goal.returns-in-Some
 unfolding typed
-returns-in-Is c =
-    said_is typed c.in-Is.is (ap (λ (x : Tracktype). number (type_number x)) c.new.ensures)
+returns-in-Some c =
+    said_is typed c.in-Some.is (ap (λ (x : Tracktype). number (type_number x)) c.new.ensures)

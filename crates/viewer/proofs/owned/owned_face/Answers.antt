@@ -1,11 +1,11 @@
 -- `owned_face` meets its contract: the reply, case by case. Assumes nothing.
 use Rattle.viewer.proofs.owned.owned_face.Goals as goal
 
-pub returns-in-Header : goal.returns-in-Header
-returns-in-Header c = rw c.in-Header.is
+pub returns-in-Ok-Header : goal.returns-in-Ok-Header
+returns-in-Ok-Header c = rw c.in-Ok-Header.is
 
-pub returns-in-Payload : goal.returns-in-Payload
-returns-in-Payload c = rw c.in-Payload.is
+pub returns-in-Ok-Payload : goal.returns-in-Ok-Payload
+returns-in-Ok-Payload c = rw c.in-Ok-Payload.is
 
-pub returns-in-Refused : goal.returns-in-Refused
-returns-in-Refused c = rw c.in-Refused.is (cc c.number-number.ensures)
+pub returns-in-Err : goal.returns-in-Err
+returns-in-Err c = rw c.in-Err.is (cc c.number-number.ensures)

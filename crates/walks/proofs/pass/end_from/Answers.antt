@@ -4,25 +4,25 @@ use Rattle.walks_rules.proofs.Steps.{stepped_on}
 use Rattle.walks_rules.proofs.Told.{end_refused, end_there, end_further, end_less}
 use Rattle.walks.proofs.pass.end_from.Goals as goal
 
-pub returns-in-Refused : goal.returns-in-Refused
-returns-in-Refused c =
-    end_refused _ _ _ _ _ (sym c.child_at.ensures ∙ c.in-Refused.is) ∙ c.loop-refusal.invariant
+pub returns-in-Err : goal.returns-in-Err
+returns-in-Err c =
+    end_refused _ _ _ _ _ (sym c.child_at.ensures ∙ c.in-Err.is) ∙ c.loop-refusal.invariant
 
-pub returns-in-End : goal.returns-in-End
-returns-in-End c =
-    end_there _ _ _ _ _ (sym c.child_at.ensures ∙ c.in-End.is) c.ended_at.ensures
+pub returns-in-Ok-None : goal.returns-in-Ok-None
+returns-in-Ok-None c =
+    end_there _ _ _ _ _ (sym c.child_at.ensures ∙ c.in-Ok-None.is) c.ended_at.ensures
     ∙ c.loop-refusal.invariant
 
 pub within-at-requires : goal.within-at-requires
 within-at-requires c =
-    let t = stepped_on _ _ _ _ _ (sym c.child_at.ensures ∙ c.in-Child.is) in
+    let t = stepped_on _ _ _ _ _ (sym c.child_at.ensures ∙ c.in-Ok-Some.is) in
     record { small = c.requires; there = t.there }
 
 pub loop-refusal-smaller : goal.loop-refusal-smaller
 loop-refusal-smaller c =
-    end_less _ _ _ _ _ _ (sym c.child_at.ensures ∙ c.in-Child.is) c.within-at.ensures
+    end_less _ _ _ _ _ _ (sym c.child_at.ensures ∙ c.in-Ok-Some.is) c.within-at.ensures
 
 pub loop-refusal-preserved : goal.loop-refusal-preserved
 loop-refusal-preserved c =
-    end_further _ _ _ _ _ _ (sym c.child_at.ensures ∙ c.in-Child.is) c.within-at.ensures
+    end_further _ _ _ _ _ _ (sym c.child_at.ensures ∙ c.in-Ok-Some.is) c.within-at.ensures
     ∙ c.loop-refusal.invariant

@@ -10,24 +10,24 @@ returns-then-is_past c =
 pub returns-then-is_ended_by : goal.returns-then-is_ended_by
 returns-then-is_ended_by c =
     child_ended _ _ _ _ (sym c.is_past.ensures ∙ c.if-is_past.false) _
-    (sym c.header.ensures ∙ c.in-Read.is)
+    (sym c.header.ensures ∙ c.in-Ok.is)
     (sym c.is_ended_by.ensures ∙ c.if-is_ended_by.true)
 
 pub returns-then-is_barred : goal.returns-then-is_barred
 returns-then-is_barred c =
     child_unsized _ _ _ _ (sym c.is_past.ensures ∙ c.if-is_past.false) _
-    (sym c.header.ensures ∙ c.in-Read.is)
+    (sym c.header.ensures ∙ c.in-Ok.is)
     (sym c.is_ended_by.ensures ∙ c.if-is_ended_by.false)
     (sym c.is_barred.ensures ∙ c.if-is_barred.true)
 
-pub returns-in-Refused : goal.returns-in-Refused
-returns-in-Refused c =
+pub returns-in-Err : goal.returns-in-Err
+returns-in-Err c =
     child_unread _ _ _ _ (sym c.is_past.ensures ∙ c.if-is_past.false) _
-    (sym c.header.ensures ∙ c.in-Refused.is)
+    (sym c.header.ensures ∙ c.in-Err.is)
 
 pub returns-else-is_barred : goal.returns-else-is_barred
 returns-else-is_barred c =
     child_is _ _ _ _ (sym c.is_past.ensures ∙ c.if-is_past.false) _
-    (sym c.header.ensures ∙ c.in-Read.is)
+    (sym c.header.ensures ∙ c.in-Ok.is)
     (sym c.is_ended_by.ensures ∙ c.if-is_ended_by.false)
     (sym c.is_barred.ensures ∙ c.if-is_barred.false)

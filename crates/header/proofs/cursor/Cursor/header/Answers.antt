@@ -7,10 +7,10 @@ use Rattle.header.specs.Reads.{vint_at, header_at, VintFits}
 use Rattle.header.specs.declared.cursor.Cursor.{Cursor}
 use Rattle.header.specs.declared.cursor.VintRead.{VintRead}
 use Rattle.header.specs.declared.cursor.VintRead.TheVariants.{Vint}
-use Rattle.header.specs.declared.cursor.HeaderRead.TheVariants.{Read}
 use Rattle.header.proofs.BigEndian.{fits_in}
 use Rattle.header.proofs.Headers.{with_size, by_id, by_size}
 use Rattle.header.proofs.cursor.Cursor.header.Goals as goal
+use Rattle.std.proofs.Common.{Ok}
 
 -- Where the id's VINT was read, and what the size's is: that decides the header.
 sized : (s : List ℕ) (at octets id : ℕ) (after : Cursor) (x y : VintRead)
@@ -56,7 +56,7 @@ returns-in-Vint-vint c =
     let z = c.in-Vint-vint in
     ap
     (λ (n : ℕ).
-    Read (record {
+    Ok (record {
       place = record { at = c.args.self.at };
       payload = z.after_size;
       header = record { id = v.id_value; size = n; length = v.id_octets + z.size_octets };

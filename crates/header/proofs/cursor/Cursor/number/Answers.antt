@@ -2,9 +2,9 @@
 use mathlib.Core.Path.{ap, ◌∙◌, sym}
 use native.Mathlib.Omega.{arith}
 use Prim.Native.Nat.{ℕ, ◌+◌}
-use Rattle.header.specs.declared.cursor.NumberRead.TheVariants.{Number}
 use Rattle.header.proofs.Vints.{number_ends, number_there}
 use Rattle.header.proofs.cursor.Cursor.number.Goals as goal
+use Rattle.std.proofs.Common.{Some}
 
 pub returns-then-length-at : goal.returns-then-length-at
 returns-then-length-at c =
@@ -19,7 +19,7 @@ returns-then-length-at-2 c =
 pub returns : goal.returns
 returns c =
     let a = c.args in (
-      ap (λ (v : ℕ). Number v (record { at = a.self.at + a.n })) c.big_endian-value.ensures.0
+      ap (λ (v : ℕ). Some (v, record { at = a.self.at + a.n })) c.big_endian-value.ensures.0
           ∙ sym (number_there a.recording.now a.self.at a.n (omega arith)),
       c.big_endian-value.ensures.1,
     )
