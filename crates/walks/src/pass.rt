@@ -42,20 +42,10 @@ fn end_from(recording: &[u8], id: u32, end: u64, from: u64) -> Result<u64, Refus
 {
     let stretch = Stretch::Endless { id, end };
     let mut at = from;
-    loop {
-        let place = Cursor { at };
-        match child_at(recording, true, place, stretch) {
-            Err(refusal) => {
-                return Err(refusal);
-            }
-            Ok(None) => {
-                return Ok(ended_at(recording, end, at));
-            }
-            Ok(Some(child)) => {
-                at = within(recording, child);
-            }
-        }
+    while let Some(child) = child_at(recording, true, Cursor { at }, stretch)? {
+        at = within(recording, child);
     }
+    Ok(ended_at(recording, end, at))
 }
 
 // The place behind an element, where a known end bounds it: by its size, or of one of unknown size in live mode its

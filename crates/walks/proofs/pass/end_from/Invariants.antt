@@ -5,8 +5,8 @@ use lib.ListN.{length}
 use Rattle.walks_rules.specs.Endings.{end_from}
 use Rattle.walks.proofs.pass.end_from.Given as goal
 
-abbrev pub invariant-loop-refusal : goal.invariant-loop-refusal
-invariant-loop-refusal l = end_from l.recording l.id l.end l.at ≡ end_from l.recording l.id l.end l.from
+abbrev pub invariant-loop-child : goal.invariant-loop-child
+invariant-loop-child l = end_from l.recording l.id l.end l.at ≡ end_from l.recording l.id l.end l.from
 
-abbrev pub decreases-loop-refusal : goal.decreases-loop-refusal
-decreases-loop-refusal l = length l.recording - l.at
+abbrev pub decreases-loop-child : goal.decreases-loop-child
+decreases-loop-child l = length l.recording - l.at
