@@ -4,6 +4,7 @@ use mathlib.Core.Path.{◌≡◌, refl, sym, ap, ◌∙◌}
 use mathlib.Core.List.{List}
 use mathlib.Core.Bool.{Bool}
 use native.Mathlib.Omega.{arith}
+use Rattle.booleans.proofs.Pairs.{ok_halves}
 use Rattle.header.specs.declared.cursor.Cursor.{Cursor}
 use Rattle.refusals.specs.Refusals.{because}
 use Rattle.refusals.specs.declared.refusal.Cause.{Cause}
@@ -31,8 +32,8 @@ use Rattle.std.proofs.Common.{Ok, Err}
 
 -- A body that was read is that of the definition.
 read_body : (at n : ℕ) (t : Told) (b : Body) (next : Cursor) → read_of at n t ≡ Ok (b, next) → body b ≡ t
-read_body at n (body (Value v)) b next q = cc
-read_body at n (body Master) b next q = cc
+read_body at n (body (Value v)) b next q = ap body (sym (ok_halves q).0)
+read_body at n (body Master) b next q = ap body (sym (ok_halves q).0)
 read_body at n (refused_body c) b next q = let x : ◌≡◌ {A = ℕ} 0 1 = cc in absurd (omega arith)
 
 other_answer : {A : Type 0} {e : Refusal} {b : Body} → Err e ≡ Ok b → A
