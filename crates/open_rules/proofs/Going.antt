@@ -26,7 +26,7 @@ use Rattle.seekchain_rules.specs.Heads.{Heads, Chain, chained, broken, last_head
 use Rattle.seekchain_rules.specs.Lookup.{Lookup, part_at}
 use Rattle.seekchain_rules.specs.Lookup.{found as found_at, absent as absent_at, stopped as stopped_at}
 use Rattle.seekchain_rules.specs.Contract.{heads_told, place_told, PartMet}
-use Rattle.seekchain_rules.specs.declared.heads.HeadsRead.TheVariants.{Read as HeadsAre, Refused as HeadsRefused}
+use Rattle.seekchain_rules.specs.declared.heads.HeadsRead.{HeadsRead}
 use Rattle.segments_rules.specs.Segment.{stretch_of, past_child, aims_at, met_from}
 use Rattle.segments_rules.specs.Contract.{PastIn}
 use Rattle.segments_rules.specs.declared.walk.Aim.TheVariants.{Every}
@@ -205,22 +205,22 @@ module _ (live : Bool) (s : List ℕ) (n : Sizes) (seeking : Seeking) (ps : Part
 
 module _ (live : Bool) (s : List ℕ) (n : Sizes) (start : ℕ) (first : Headed) (ps : Parts) (o : Opening)
     (q : o ≡ by_heads_all live s n start first ps) where
-  pub heads_broken : (r : Refusal) → HeadsRefused r ≡ heads_told every (linked_heads live s start first) → o ≡ refused r
+  pub heads_broken : (r : Refusal) → Err r ≡ heads_told every (linked_heads live s start first) → o ≡ refused r
   unfolding by_heads_all
   heads_broken r h = q ∙ by (linked_heads live s start first) h
     where
-      by : (c : Chain) → HeadsRefused r ≡ heads_told every c
+      by : (c : Chain) → Err r ≡ heads_told every c
           → on_chain live s n c (λ heads. sought_from live s n start heads order ps) ≡ refused r
       by (chained heads) h = let z : ◌≡◌ {A = ℕ} 0 1 = cc in absurd (omega arith)
       by (broken e) h = cc
 
   pub heads_read : (links : Positions) (k last : ℕ)
-      → HeadsAre links k last ≡ heads_told every (linked_heads live s start first)
+      → Ok (record { parts = links; heads = k; last = last }) ≡ heads_told every (linked_heads live s start first)
       → Stands live s n (Sought (record { start = start; links = links; heads = k; last = last }) 0) ps o
   unfolding by_heads_all
   heads_read links k last h = by (linked_heads live s start first) h q
     where
-      by : (c : Chain) → HeadsAre links k last ≡ heads_told every c
+      by : (c : Chain) → Ok (record { parts = links; heads = k; last = last }) ≡ heads_told every c
           → o ≡ on_chain live s n c (λ heads. sought_from live s n start heads order ps)
           → Stands live s n (Sought (record { start = start; links = links; heads = k; last = last }) 0) ps o
       by (chained heads) h w = (heads, record { links = cc; counted = cc; last = cc }, w)
@@ -362,12 +362,12 @@ module _ (live : Bool) (s : List ℕ) (seeking : Seeking) (ps : Parts) (sought :
           sought_found live s n seeking ps o i l heads t g w id link r x y z m e j h (5 - sought) (omega arith)
 
 module _ (live : Bool) (s : List ℕ) (start : ℕ) (first : Headed) (ps : Parts) where
-  pub head_broken : (r : Refusal) → HeadsRefused r ≡ heads_told every (linked_heads live s start first)
+  pub head_broken : (r : Refusal) → Err r ≡ heads_told every (linked_heads live s start first)
       → TurnsHead live s start first ps (Over (Err r))
   head_broken r h n o q = ends_refused live s n ps o r (heads_broken live s n start first ps o q r h)
 
   pub head_read : (links : Positions) (k last : ℕ)
-      → HeadsAre links k last ≡ heads_told every (linked_heads live s start first) → (t : Turn)
+      → Ok (record { parts = links; heads = k; last = last }) ≡ heads_told every (linked_heads live s start first) → (t : Turn)
       → TurnsSought live s (record { start = start; links = links; heads = k; last = last }) 0 ps t
       → TurnsHead live s start first ps t
   head_read links k last h t u n o q = u n o (heads_read live s n start first ps o q links k last h)

@@ -1,7 +1,6 @@
 // The chain of linked seek heads: an entry for a seek head leads to the next one.
-ghost use Rattle.std.specs.Prelude.{◌≡◌, ◌+◌, ◌≤◌, length, take, ltb};
+ghost use Rattle.std.specs.Prelude.{◌≡◌, ◌+◌, ltb};
 ghost use Rattle.walks_rules.specs.Contract.{Readable};
-ghost use Rattle.kinds.specs.Kinds.{member};
 ghost use Rattle.seekchain_rules.specs.Heads.{last_address, last_head, sought as sought_at, next_head, linked_heads};
 ghost use Rattle.seekchain_rules.specs.Contract.{heads_told};
 
@@ -27,88 +26,64 @@ pub fn is_too_far(start: u64, position: u64) -> bool
     LAST_ADDRESS - start < position
 }
 
-// Whether an address is among the first n that were noted.
-fn contains(seen: &[u64], n: usize, address: u64) -> bool
-    requires { n ≤ length seen.now }
-    ensures { result ≡ member address (take n seen.now) }
-{
-    let mut i: usize = 0;
-    while i < n {
-        if seen[i] == address {
-            return true;
-        }
-        i += 1;
-    }
-    false
-}
-
 // The element that a sought address holds: header, 17, 9 where its id is another.
 pub fn sought(recording: &[u8], live: bool, address: u64, id: u32) -> Result<Headed, Refusal>
     ensures { result ≡ sought_at live recording.now address id }
 {
     let place = Cursor { at: address };
     let stretch = Stretch::Sized(recording.len() as u64);
-    match child_at(recording, live, place, stretch) {
-        Err(refusal) => Err(refusal),
-        Ok(None) => Err(Refusal {
+    let Some(element) = child_at(recording, live, place, stretch)? else {
+        return Err(Refusal {
             address,
             cause: Cause::PastEnd,
-        }),
-        Ok(Some(element)) => {
-            if element.header.id != id {
-                return Err(Refusal {
-                    address,
-                    cause: Cause::StaleEntry,
-                });
-            }
-            Ok(element)
-        }
+        });
+    };
+    if element.header.id != id {
+        return Err(Refusal {
+            address,
+            cause: Cause::StaleEntry,
+        });
     }
+    Ok(element)
 }
 
-// The head that an entry for one leads to, where the first `read` addresses are those of the heads that were read, and
-// `last` is the last of them. The order: 8, 10, 11, header, 17, 9.
+// The head that an entry for one leads to, where the heads at the addresses `seen` were read, and `last` is the last of
+// them. The order: 8, 10, 11, header, 17, 9.
 fn next_head(
     recording: &[u8],
     live: bool,
     start: u64,
     seen: &[u64],
-    read: usize,
     last: u64,
     link: Option<u64>,
 ) -> Result<Option<Headed>, Refusal>
-    requires read_in_bounds { read ≤ length seen.now }
-    requires last_value { last ≡ last_head (take read seen.now) }
-    ensures { result ≡ next_head live recording.now start (take read seen.now) link }
+    requires { last ≡ last_head seen.now }
+    ensures { result ≡ next_head live recording.now start seen.now link }
 {
-    match link {
-        None => Ok(None),
-        Some(position) => {
-            if is_too_far(start, position) {
-                return Err(Refusal {
-                    address: last,
-                    cause: Cause::InvalidSeekHead(ids::SEEKHEAD),
-                });
-            }
-            let address = start + position;
-            if contains(seen, read, address) {
-                return Err(Refusal {
-                    address,
-                    cause: Cause::HeadAgain,
-                });
-            }
-            if read >= MOST_HEADS {
-                return Err(Refusal {
-                    address,
-                    cause: Cause::TooManyHeads,
-                });
-            }
-            match sought(recording, live, address, ids::SEEKHEAD) {
-                Err(refusal) => Err(refusal),
-                Ok(head) => Ok(Some(head)),
-            }
-        }
+    let Some(position) = link else {
+        return Ok(None);
+    };
+    if is_too_far(start, position) {
+        return Err(Refusal {
+            address: last,
+            cause: Cause::InvalidSeekHead(ids::SEEKHEAD),
+        });
     }
+    let address = start + position;
+    if seen.contains(&address) {
+        return Err(Refusal {
+            address,
+            cause: Cause::HeadAgain,
+        });
+    }
+    if seen.len() >= MOST_HEADS {
+        return Err(Refusal {
+            address,
+            cause: Cause::TooManyHeads,
+        });
+    }
+    let head = sought(recording, live, address, ids::SEEKHEAD)?;
+    Ok(Some(head))
 }
 
 // The positions of the wanted ids by the heads from the first one on. An entry for a further head is dropped once it
@@ -119,7 +94,7 @@ pub fn linked_heads(
     wanted: Wanted,
     start: u64,
     first: Headed,
-) -> HeadsRead
+) -> Result<HeadsRead, Refusal>
     requires { Readable recording.now first }
     ensures { result ≡ heads_told wanted (linked_heads live recording.now start first) }
 {
@@ -134,32 +109,16 @@ pub fn linked_heads(
         fifth: None,
     };
     loop {
-        match head_body(recording, live, wanted, parts, head) {
-            Err(refusal) => {
-                return HeadsRead::Refused(refusal);
-            }
-            Ok(found) => {
-                let last = head.place.at;
-                seen[n] = last;
-                let read = n + 1;
-                parts = found.parts;
-                let link = found.head;
-                match next_head(recording, live, start, &seen, read, last, link) {
-                    Err(refusal) => {
-                        return HeadsRead::Refused(refusal);
-                    }
-                    Ok(None) => {
-                        return HeadsRead::Read {
-                            parts,
-                            heads: read as u64,
-                            last,
-                        };
-                    }
-                    Ok(Some(next)) => {
-                        n = read;
-                        head = next;
-                    }
-                }
+        let found = head_body(recording, live, wanted, parts, head)?;
+        parts = found.parts;
+        let last = head.place.at;
+        seen[n] = last;
+        n += 1;
+        match next_head(recording, live, start, &seen[..n], last, found.head)? {
+            Some(next) => head = next,
+            None => {
+                let heads = n as u64;
+                return Ok(HeadsRead { parts, heads, last });
             }
         }
     }

@@ -7,7 +7,6 @@ ghost use Rattle.seekchain_rules.specs.Contract.{place_told, PartMet};
 use crate::heads::{is_too_far, linked_heads, sought};
 use header::Headed;
 use refusals::{Cause, Refusal};
-use seekchain_rules::HeadsRead;
 use seekhead_rules::Wanted;
 
 // The part by the latest position of its id, where so many heads were read, the last of them at `last`: absent, or 8,
@@ -23,22 +22,17 @@ pub fn part_at(
 ) -> Result<(Option<Headed>, u64), Refusal>
     ensures { PartMet live recording.now wanted start heads last link result }
 {
-    match link {
-        None => Ok((None, heads)),
-        Some(position) => {
-            if is_too_far(start, position) {
-                return Err(Refusal {
-                    address: last,
-                    cause: Cause::InvalidSeekHead(wanted),
-                });
-            }
-            let address = start + position;
-            match sought(recording, live, address, wanted) {
-                Err(refusal) => Err(refusal),
-                Ok(part) => Ok((Some(part), heads)),
-            }
-        }
+    let Some(position) = link else {
+        return Ok((None, heads));
+    };
+    if is_too_far(start, position) {
+        return Err(Refusal {
+            address: last,
+            cause: Cause::InvalidSeekHead(wanted),
+        });
     }
+    let part = sought(recording, live, start + position, wanted)?;
+    Ok((Some(part), heads))
 }
 
 // The wanted part by the heads from the first one on, with positions counted from the segment's start.
@@ -59,11 +53,14 @@ pub fn by_heads(
         fourth: 0,
         fifth: 0,
     };
-    match linked_heads(recording, live, only, start, first) {
-        HeadsRead::Refused(refusal) => Err(refusal),
-        HeadsRead::Read { parts, heads, last } => {
-            let link = parts.first;
-            part_at(recording, live, wanted, start, heads, last, link)
-        }
-    }
+    let found = linked_heads(recording, live, only, start, first)?;
+    part_at(
+        recording,
+        live,
+        wanted,
+        start,
+        found.heads,
+        found.last,
+        found.parts.first,
+    )
 }

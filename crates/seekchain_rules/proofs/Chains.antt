@@ -26,7 +26,7 @@ use Rattle.seekchain_rules.specs.Heads.{last_head, chain, linked_heads}
 use Rattle.seekchain_rules.specs.Contract.{heads_told}
 use Rattle.seekchain_rules.specs.Answers.{on_outcome}
 use Rattle.seekchain_rules.specs.Theorems.{heads_from, ChainUnfolds}
-use Rattle.seekchain_rules.specs.declared.heads.HeadsRead.TheVariants.{Read as HeadsAre, Refused as HeadsRefused}
+use Rattle.seekchain_rules.specs.declared.heads.HeadsRead.{HeadsRead}
 use Rattle.seekchain_rules.proofs.Seen.{noted_address, last_noted}
 use Rattle.seekchain_rules.proofs.Sought.{next_is}
 use Rattle.std.proofs.Common.{Ok, Err, Some, None}
@@ -81,7 +81,7 @@ module _ (live : Bool) (s : List ℕ) (wanted : Wanted) (start : ℕ) (first : H
     more = omega (arith, g.few)
 
     pub chaining_lost : (e : Refusal) → Err e ≡ head_told live s wanted parts head
-        → HeadsRefused e ≡ heads_told wanted all_heads
+        → Err e ≡ heads_told wanted all_heads
     unfolding chain
     chaining_lost e q =
         let k = told_stopped live s (children s wanted) (children_law s wanted) _ e (head_of live s head) q in
@@ -131,16 +131,16 @@ module _ (live : Bool) (s : List ℕ) (wanted : Wanted) (start : ℕ) (first : H
           follow f k e
 
       pub chaining_stops : (e : Refusal) → Err e ≡ next_head live s start (take (n + 1) seen_now) found.head
-          → HeadsRefused e ≡ heads_told wanted all_heads
+          → Err e ≡ heads_told wanted all_heads
       chaining_stops e k = rw (followed.is, ← k) refl
 
       pub chaining_ends : (Ok None) ≡ next_head live s start (take (n + 1) seen_now) found.head
-          → HeadsAre found.parts (n + 1) head.place.at ≡ heads_told wanted all_heads
+          → Ok (record { parts = found.parts; heads = n + 1; last = head.place.at }) ≡ heads_told wanted all_heads
       chaining_ends k =
           let l = length-take-le (n + 1) seen_now (omega (arith, seen_long, g.few)) in
-          ap (λ (x : Positions). HeadsAre x (n + 1) head.place.at) followed.are
+          ap (λ (x : Positions). Ok (record { parts = x; heads = n + 1; last = head.place.at })) followed.are
           ∙ rw (followed.is, ← k, l)
-          (ap (λ (x : ℕ). HeadsAre (positions wanted (g.es ++ followed.own)) (n + 1) x) chaining_last)
+          (ap (λ (x : ℕ). Ok (record { parts = positions wanted (g.es ++ followed.own); heads = n + 1; last = x })) chaining_last)
 
       pub chaining_on : (next : Headed) → Ok (Some next) ≡ next_head live s start (take (n + 1) seen_now) found.head
           → Chaining seen_now (n + 1) next found.parts

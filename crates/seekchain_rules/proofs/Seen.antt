@@ -2,26 +2,28 @@
 use Prim.Native.Nat.{ℕ, ◌+◌, ◌≤◌, ◌<◌}
 use mathlib.Core.Path.{◌≡◌, refl, sym}
 use mathlib.Core.List.{List, [], ◌∷◌, ◌++◌}
-use mathlib.Core.Bool.{true, false}
+use mathlib.Core.Bool.{Bool, true, false}
 use native.Mathlib.Numerals.{add-one}
 use lib.ListN.{length, take, drop, set, get_or, drop_of_length-le}
 use lib.Seq.{drop-cons, take-suc-set}
-use borrow.Author.Tests.{eq-eqb, ne_eqb}
+use lib.Dec.{eqb}
+use borrow.Author.Tests.{eq-eqb, ne_eqb, eqb-true, eqb-false}
+use Rattle.std.specs.List.{list_any}
 use Rattle.kinds.specs.Kinds.{member}
 use Rattle.seekchain_rules.specs.Heads.{last_head}
 
-module _ (x : ℕ) (ys : List ℕ) (i : ℕ) where
-  pub member_here : i < length ys → get_or ys i 0 ≡ x → member x (drop i ys) ≡ true
-  unfolding member
-  member_here h e = rw (drop-cons ys i 0 h, eq-eqb x (get_or ys i 0) (sym e))
+turned : (y x : ℕ) → eqb y x ≡ eqb x y
+turned y x = by (eqb x y) refl
+  where
+    by : (b : Bool) → eqb x y ≡ b → eqb y x ≡ b
+    by true e = eq-eqb y x (sym (eqb-true x y e))
+    by false e = ne_eqb y x (λ q. eqb-false x y e (sym q))
 
-  pub member_later : i < length ys → (get_or ys i 0 ≡ x → ⊥) → member x (drop i ys) ≡ member x (drop (i + 1) ys)
-  unfolding member
-  member_later h e = rw (drop-cons ys i 0 h, ne_eqb x (get_or ys i 0) (λ q. e (sym q)), add-one i)
-
-  pub no_member : length ys ≤ i → member x (drop i ys) ≡ false
-  unfolding member
-  no_member h = rw (drop_of_length-le ys h)
+-- The library's search of a list and the definition's are one.
+pub any_member : (x : ℕ) (ys : List ℕ) → list_any (λ (y : ℕ). eqb y x) ys ≡ member x ys
+unfolding member
+any_member x [] = refl
+any_member x (y ∷ ys) = rw (any_member x ys, turned y x) refl
 
 -- The address that is noted comes after those before.
 pub noted_address : (l : List ℕ) (n x : ℕ) → n < length l → take (n + 1) (set l n x) ≡ take n l ++ (x ∷ [])

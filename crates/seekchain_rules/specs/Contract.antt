@@ -1,21 +1,24 @@
--- What the functions of `seekchain` promise each other: how the definitions are told by the code's enums.
+-- What the functions of `seekchain` promise each other: how the definitions are told by the code's types.
 use Rattle.std.specs.Prelude.{ℕ, ◌≡◌, List, Bool, length}
 use Rattle.seekhead_rules.specs.Table.{positions}
 use Rattle.seekhead_rules.specs.declared.head.Wanted.{Wanted}
 use Rattle.seekchain_rules.specs.Heads.{Chain, chained, broken, last_head}
 use Rattle.seekchain_rules.specs.Lookup.{Lookup, found, absent, stopped, part_at}
 use Rattle.seekchain_rules.specs.declared.heads.HeadsRead.{HeadsRead}
-use Rattle.seekchain_rules.specs.declared.heads.HeadsRead.TheVariants.{Read as HeadsAre, Refused as HeadsRefused}
 use Rattle.std.specs.Prelude.{Result, Option, Ok, Err, Some, None}
 use Rattle.header.specs.declared.cursor.Headed.{Headed}
 use Rattle.refusals.specs.declared.refusal.Refusal.{Refusal}
 
 -- How `linked_heads` tells the chain: the positions of a set of wanted ids by all entries, how many heads there are,
 -- and which is the last.
-abbrev pub heads_told : Wanted → Chain → HeadsRead
+abbrev pub heads_told : Wanted → Chain → Result HeadsRead Refusal
 heads_told wanted (chained heads) =
-    HeadsAre (positions wanted heads.entries) (length heads.addresses) (last_head heads.addresses)
-heads_told wanted (broken e) = HeadsRefused e
+    Ok (record {
+      parts = positions wanted heads.entries;
+      heads = length heads.addresses;
+      last = last_head heads.addresses;
+    })
+heads_told wanted (broken e) = Err e
 
 -- How `part_at` and `by_heads` tell where a part is.
 abbrev pub place_told : Lookup → Result (Option Headed × ℕ) Refusal

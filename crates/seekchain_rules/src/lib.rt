@@ -3,6 +3,5 @@
 #![tactic(auto)]
 
 mod heads;
-mod lookup;
 
 pub use heads::HeadsRead;

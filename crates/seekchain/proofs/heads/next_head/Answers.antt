@@ -1,11 +1,18 @@
 -- `next_head`: the tests of an entry for a further head, in their order. Assumes nothing.
 use mathlib.Core.Path.{refl, sym, ◌∙◌}
 use native.Mathlib.Omega.{arith}
-use lib.Seq.{length-take-le}
+use Prim.Native.Nat.{◌+◌}
+use lib.ListN.{length}
 use borrow.Author.Tests.{le-leb, lt-leb}
+use Rattle.booleans.proofs.Handed.{handed}
 use Rattle.seekchain_rules.specs.Heads.{next_head}
 use Rattle.seekchain_rules.proofs.Positions.{near}
+use Rattle.seekchain_rules.proofs.Seen.{any_member}
 use Rattle.seekchain.proofs.heads.next_head.Goals as goal
+
+pub returns-in_default : goal.returns-in_default
+unfolding next_head
+returns-in_default c = rw c.in_default.is refl
 
 pub returns-then-is_too_far : goal.returns-then-is_too_far
 unfolding next_head
@@ -13,7 +20,7 @@ returns-then-is_too_far c =
     rw (
       c.in-Some.is,
       sym c.is_too_far.ensures ∙ c.if-is_too_far.true,
-      sym c.requires.last_value,
+      sym c.requires,
     )
     refl
 
@@ -27,48 +34,42 @@ returns-then-contains c =
     rw (
       c.in-Some.is,
       sym c.is_too_far.ensures ∙ c.if-is_too_far.false,
-      sym c.contains.ensures ∙ c.if-contains.true,
+      sym (any_member (c.args.start + c.in-Some.position) c.args.seen.now) ∙ sym c.contains.ensures.value ∙ c.if-contains.true,
     )
     refl
 
-pub returns-then-read-ge-MOST_HEADS : goal.returns-then-read-ge-MOST_HEADS
+pub returns-then-seen-ge-MOST_HEADS : goal.returns-then-seen-ge-MOST_HEADS
 unfolding next_head
-returns-then-read-ge-MOST_HEADS c =
+returns-then-seen-ge-MOST_HEADS c =
     rw (
       c.in-Some.is,
       sym c.is_too_far.ensures ∙ c.if-is_too_far.false,
-      sym c.contains.ensures ∙ c.if-contains.false,
-      length-take-le c.args.read c.args.seen.now c.requires.read_in_bounds,
-      le-leb 64 c.args.read (omega (arith, c.if-read-ge-MOST_HEADS.true)),
+      sym (any_member (c.args.start + c.in-Some.position) c.args.seen.now) ∙ sym c.contains.ensures.value ∙ c.if-contains.false,
+      le-leb 64 (length c.args.seen.now) (omega (arith, c.if-seen-ge-MOST_HEADS.true)),
     )
     refl
 
-pub returns-in-None : goal.returns-in-None
+pub returns-in_err-head : goal.returns-in_err-head
 unfolding next_head
-returns-in-None c = rw c.in-None.is refl
-
-pub returns-in-Err : goal.returns-in-Err
-unfolding next_head
-returns-in-Err c =
-    rw (
+returns-in_err-head c =
+    handed _ c.from_residual.ensures.1
+    ∙ rw (
       c.in-Some.is,
       sym c.is_too_far.ensures ∙ c.if-is_too_far.false,
-      sym c.contains.ensures ∙ c.if-contains.false,
-      length-take-le c.args.read c.args.seen.now c.requires.read_in_bounds,
-      lt-leb 64 c.args.read (omega (arith, c.if-read-ge-MOST_HEADS.false)),
-      sym c.sought.ensures ∙ c.in-Err.is,
+      sym (any_member (c.args.start + c.in-Some.position) c.args.seen.now) ∙ sym c.contains.ensures.value ∙ c.if-contains.false,
+      lt-leb 64 (length c.args.seen.now) (omega (arith, c.if-seen-ge-MOST_HEADS.false)),
+      sym c.sought.ensures ∙ c.in_err-head.was,
     )
     refl
 
-pub returns-in-Ok : goal.returns-in-Ok
+pub returns : goal.returns
 unfolding next_head
-returns-in-Ok c =
+returns c =
     rw (
       c.in-Some.is,
       sym c.is_too_far.ensures ∙ c.if-is_too_far.false,
-      sym c.contains.ensures ∙ c.if-contains.false,
-      length-take-le c.args.read c.args.seen.now c.requires.read_in_bounds,
-      lt-leb 64 c.args.read (omega (arith, c.if-read-ge-MOST_HEADS.false)),
-      sym c.sought.ensures ∙ c.in-Ok.is,
+      sym (any_member (c.args.start + c.in-Some.position) c.args.seen.now) ∙ sym c.contains.ensures.value ∙ c.if-contains.false,
+      lt-leb 64 (length c.args.seen.now) (omega (arith, c.if-seen-ge-MOST_HEADS.false)),
+      sym c.sought.ensures ∙ c.in_ok-head.was,
     )
     refl

@@ -1,13 +1,14 @@
 -- `by_heads`: the part that the heads lead to. Assumes nothing.
 use mathlib.Core.Path.{sym, ◌∙◌}
+use Rattle.booleans.proofs.Handed.{handed}
 use Rattle.seekchain_rules.proofs.Lookups.{chain_broken, chain_read}
 use Rattle.seekchain.proofs.lookup.by_heads.Goals as goal
 
-pub returns-in-Err : goal.returns-in-Err
-returns-in-Err c =
-    chain_broken _ _ _ _ _ _ (sym c.in-Err.is ∙ c.linked_heads.ensures)
+pub returns-in_err-found : goal.returns-in_err-found
+returns-in_err-found c =
+    handed _ c.from_residual.ensures.1
+    ∙ chain_broken _ _ _ _ _ _ (sym c.in_err-found.was ∙ c.linked_heads.ensures)
 
-pub returns-in-Read : goal.returns-in-Read
-returns-in-Read c =
-    chain_read _ _ _ _ _ _ _ _ (sym c.in-Read.is ∙ c.linked_heads.ensures) _
-    c.part_at.ensures
+pub returns : goal.returns
+returns c =
+    chain_read _ _ _ _ _ _ (sym c.in_ok-found.was ∙ c.linked_heads.ensures) _ c.part_at.ensures

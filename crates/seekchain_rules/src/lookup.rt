@@ -1,3 +1,0 @@
-// Where a part is.
-use header::Headed;
-use refusals::Refusal;
