@@ -4,9 +4,10 @@ ghost use Rattle.std.specs.Prelude.{◌≤◌, length};
 use answers::answer::bad;
 use answers::open::{put_absent, put_found, put_unopened};
 use lines::{numbers, out};
-use open_rules::{Part, Parts};
+use open_rules::Parts;
 use questions::open::{AskedOpen, asked_open};
 use questions::table::MOST_ASKED;
+use search_rules::Part;
 use std::io::Stdout;
 
 // The answer to a line whose question, at the place `name`, is `open`.
@@ -148,7 +149,7 @@ fn put_parts(
 // A part behind its name.
 fn put_part(
     name: &[u8],
-    part: Part,
+    part: Option<Part>,
     table: &[u64],
     to: Stdout,
     out: &mut [u8; 65536],
@@ -156,7 +157,7 @@ fn put_part(
 ) -> usize {
     let n = out::put(to, out, held, name);
     match part {
-        Part::Absent => put_absent(table, to, out, n),
-        Part::Found { at, size, rows } => put_found(at, size, rows, table, to, out, n),
+        None => put_absent(table, to, out, n),
+        Some(Part { at, size, rows }) => put_found(at, size, rows, table, to, out, n),
     }
 }

@@ -11,7 +11,6 @@ use pages::{put, put_decimal, put_hexadecimal};
 use rowstore::WIDTH;
 use rowtext::row_lines;
 use search::find_part;
-use search_rules::PartReply;
 
 // The most bytes of a recording that is listed.
 const MOST_LISTED: usize = 65536;
@@ -51,19 +50,14 @@ fn part_lines(
 {
     let named = put_hexadecimal(page, held, b"part ", part as u64);
     match find_part(recording, live, part, table) {
-        PartReply::Absent { heads } => put(page, named, b" absent\n"),
-        PartReply::Refused(refusal) => {
+        Ok((None, heads)) => put(page, named, b" absent\n"),
+        Err(refusal) => {
             let cause = refusal.cause;
             let number = put_decimal(page, named, b" refused ", cause.number());
             let address = put_decimal(page, number, b" ", refusal.address);
             put(page, address, b"\n")
         }
-        PartReply::Found {
-            at,
-            size,
-            rows,
-            heads,
-        } => {
+        Ok((Some(Part { at, size, rows }), heads)) => {
             let placed = place_text(page, named, at, size, rows);
             row_lines(page, placed, table, rows as usize)
         }

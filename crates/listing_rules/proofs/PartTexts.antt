@@ -12,7 +12,6 @@ use Rattle.refusals.specs.declared.refusal.Refusal.{Refusal}
 use Rattle.elements_rules.specs.Rows.{rows, rows_of}
 use Rattle.elements_rules.specs.declared.row.Row.{Row}
 use Rattle.search_rules.specs.Part.{Search, found, absent, refused, absent_part, search_of, reply_of, PartPromise}
-use Rattle.search_rules.specs.declared.part.PartReply.TheVariants.{Found, Absent, Refused}
 use Rattle.search_rules.proofs.Found.{found_holds}
 use Rattle.pages.specs.Text.{ascii, decimal, hexadecimal}
 use Rattle.pages.specs.Page.{written, Wrote}
@@ -21,6 +20,7 @@ use Rattle.listing_rules.specs.Listing.{most_listed, table_numbers, place_text, 
 use Rattle.listing_rules.specs.Listing.{refused_text, all_parts, listing_of}
 use Rattle.listing_rules.specs.Promise.{ListingPromise}
 use Rattle.pages.proofs.Pages.{then}
+use Rattle.std.proofs.Common.{Ok, Err, Some, None}
 
 -- ---- what a reply tells
 
@@ -42,16 +42,16 @@ told_refused r (refused r') e =
 
 module _ (live : Bool) (s : List ℕ) (part : ℕ) (t t' : List ℕ) (l : length t ≡ table_numbers) where
   pub absent_text :
-      (heads : ℕ) → PartPromise live s part t (Absent heads) t'
+      (heads : ℕ) → PartPromise live s part t (Ok (None, heads)) t'
       → search_text (search_of live s part table_numbers) ≡ ascii " absent\n"
   absent_text heads p = told_absent heads (search_of live s part table_numbers) (rw l at p.reply)
 
   pub refused_text_law :
-      (r : Refusal) → PartPromise live s part t (Refused r) t'
+      (r : Refusal) → PartPromise live s part t (Err r) t'
       → search_text (search_of live s part table_numbers) ≡ refused_text r
   refused_text_law r p = told_refused r (search_of live s part table_numbers) (rw l at p.reply)
 
-  module _ (at size n heads : ℕ) (p : PartPromise live s part t (Found at size n heads) t') where
+  module _ (at size n heads : ℕ) (p : PartPromise live s part t (Ok (Some (record { at = at; size = size; rows = n }), heads)) t') where
     pub found_few : n ≤ 1024
     found_few = let h = (found_holds live s part t at size n heads t' p).fits in omega arith
 

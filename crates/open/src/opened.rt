@@ -5,7 +5,7 @@ ghost use Rattle.open_rules.specs.Promise.{OpenPromise};
 ghost use Rattle.open_rules.specs.Contract.{Begins, Ran};
 
 use crate::lent::{clear_all, read_part};
-use open_rules::{Part, Parts, Stage, Turn};
+use open_rules::{Parts, Stage, Turn};
 use opening::{begin, known_after, rows_of, stage_after, turn};
 use refusals::Refusal;
 
@@ -32,11 +32,11 @@ fn run(
 {
     let mut stage = first;
     let mut known = Parts {
-        info: Part::Absent,
-        tracks: Part::Absent,
-        attachments: Part::Absent,
-        chapters: Part::Absent,
-        tags: Part::Absent,
+        info: None,
+        tracks: None,
+        attachments: None,
+        chapters: None,
+        tags: None,
     };
     loop {
         match turn(recording, live, stage, known) {

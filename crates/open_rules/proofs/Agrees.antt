@@ -43,19 +43,18 @@ use Rattle.open_rules.specs.Promise.{are_allowed, open_of, OpenPromise}
 use Rattle.open_rules.specs.Theorems.{as_searched, HeadFirst, OpenAgrees}
 use Rattle.open_rules.specs.declared.parts.Which.{Which}
 use Rattle.open_rules.specs.declared.parts.Which.TheVariants.{Info, Tracks, Attachments, Chapters, Tags}
-use Rattle.open_rules.specs.declared.parts.Part.{Part}
-use Rattle.open_rules.specs.declared.parts.Part.TheVariants.{Absent, Found}
 use Rattle.open_rules.specs.declared.parts.Parts.{Parts}
 use Rattle.open_rules.proofs.Going.{never}
 use Rattle.open_rules.proofs.Unique.{reply_read, size_of, all_zeroed}
 use Rattle.open_rules.proofs.Found.{each_part, which_of_law, looked_up, led, same_heads, opened, open_is_read}
 use Rattle.std.proofs.Common.{Result, Option, Ok, Err, Some, None}
 use Rattle.refusals.specs.declared.refusal.Refusal.{Refusal}
+use Rattle.search_rules.specs.declared.part.Part.{Part}
 
 -- ---- the parts by their ids
 
 -- Another part in its place leaves a part as it was.
-other_placed : (ps : Parts) (w v : Which) (p : Part) → eqb (id_of w) (id_of v) ≡ false
+other_placed : (ps : Parts) (w v : Which) (p : Option Part) → eqb (id_of w) (id_of v) ≡ false
     → part_of (placed ps w p) v ≡ part_of ps v
 other_placed ps w v p q = at w v ∙ ap (λ (b : Bool). cond b p (part_of ps v)) q
   where
@@ -69,11 +68,11 @@ other_placed ps w v p q = at w v ∙ ap (λ (b : Bool). cond b p (part_of ps v))
     at Chapters = each_part (Ok Chapters) refl refl refl refl refl
     at Tags = each_part (Ok Tags) refl refl refl refl refl
 
-own_placed : (ps : Parts) (which : Which) (p : Part) → part_of (placed ps which p) which ≡ p
+own_placed : (ps : Parts) (which : Which) (p : Option Part) → part_of (placed ps which p) which ≡ p
 own_placed ps which p = each_part (λ v. part_of (placed ps v p) v ≡ p) refl refl refl refl refl which
 
-none_placed : (which : Which) → part_of no_parts which ≡ Absent
-none_placed = each_part (λ v. part_of no_parts v ≡ Absent) refl refl refl refl refl
+none_placed : (which : Which) → part_of no_parts which ≡ None
+none_placed = each_part (λ v. part_of no_parts v ≡ None) refl refl refl refl refl
 
 id_names : (which : Which) → which_of (id_of which) ≡ which
 unfolding which_of
@@ -129,12 +128,12 @@ module _ (live : Bool) (s : List ℕ) (n : Sizes) (segment : Headed) (which : Wh
           → (o : Outcome)
           → visited live s segment (opening live s n segment) e
           (on_outcome o (λ r. ends (refused r)) (λ f.
-          over (placed ps (which_of e.header.id) (Found e.payload.at e.header.size (count f)))))
+          over (placed ps (which_of e.header.id) (Some (record { at = e.payload.at; size = e.header.size; rows = (count f) })))))
           ≡ read qs hs
           → Comes ps
       by_read e q c d m (done f) k =
-          by_pass e q (placed ps (which_of e.header.id) (Found e.payload.at e.header.size (count f)))
-          (other_placed ps (which_of e.header.id) which (Found e.payload.at e.header.size (count f))
+          by_pass e q (placed ps (which_of e.header.id) (Some (record { at = e.payload.at; size = e.header.size; rows = (count f) })))
+          (other_placed ps (which_of e.header.id) which (Some (record { at = e.payload.at; size = e.header.size; rows = (count f) }))
           (ap (λ (x : ℕ). eqb x (id_of which)) (which_of_law e.header.id d) ∙ c))
           (passed live s segment e) refl m k
       by_read e q c d m (unread r) k = never k
@@ -187,9 +186,9 @@ module _ (live : Bool) (s : List ℕ) (n : Sizes) (segment : Headed) (which : Wh
 -- ---- behind the head
 
 -- What a part is told as that was not known before, by where it is.
-abbrev Told : Lookup → Part → Type 0
-Told (found_at e heads) p = (rows : ℕ) × (p ≡ Found e.payload.at e.header.size rows)
-Told (absent_at heads) p = p ≡ Absent
+abbrev Told : Lookup → Option Part → Type 0
+Told (found_at e heads) p = (rows : ℕ) × (p ≡ Some (record { at = e.payload.at; size = e.header.size; rows = rows }))
+Told (absent_at heads) p = p ≡ None
 Told (stopped_at r) p = ⊥
 
 -- Whether a part is one of some.
@@ -211,7 +210,7 @@ module _ (live : Bool) (s : List ℕ) (n : Sizes) (start : ℕ) (heads : Heads) 
   data Sought (v : Which) (ps : Parts) : Parts → Type 0 where
     took :
         (e : Headed) (hs : List ℕ) (rows : ℕ) → place v ≡ found_at e hs
-        → Sought v ps (placed ps v (Found e.payload.at e.header.size rows))
+        → Sought v ps (placed ps v (Some (record { at = e.payload.at; size = e.header.size; rows = rows })))
     none : (hs : List ℕ) → place v ≡ absent_at hs → Sought v ps ps
 
   record GoesOn (v : Which) (more : List Which) (ps qs : Parts) (hs : List ℕ) : Type 0 where
@@ -225,11 +224,11 @@ module _ (live : Bool) (s : List ℕ) (n : Sizes) (start : ℕ) (heads : Heads) 
   goes_on v more ps qs hs = by (place v) refl
     where
       by_read : (e : Headed) (is : List ℕ) → place v ≡ found_at e is → (o : Outcome)
-          → on_outcome o refused (λ f. left more (placed ps v (Found e.payload.at e.header.size (count f))))
+          → on_outcome o refused (λ f. left more (placed ps v (Some (record { at = e.payload.at; size = e.header.size; rows = (count f) }))))
           ≡ read qs hs
           → GoesOn v more ps qs hs
       by_read e is i (done f) k = record {
-        rest = placed ps v (Found e.payload.at e.header.size (count f));
+        rest = placed ps v (Some (record { at = e.payload.at; size = e.header.size; rows = (count f) }));
         how = took e is (count f) i;
         leads = k;
       }
@@ -245,34 +244,34 @@ module _ (live : Bool) (s : List ℕ) (n : Sizes) (start : ℕ) (heads : Heads) 
   -- The part is told, or it is to be sought and not known.
   abbrev Ahead : List Which → Parts → Type 0
   Ahead parts ps =
-      Told (place which) (part_of ps which) ⊎ ((part_of ps which ≡ Absent) × (among which parts ≡ true))
+      Told (place which) (part_of ps which) ⊎ ((part_of ps which ≡ None) × (among which parts ≡ true))
 
   -- Another part changes nothing, and what is sought is told.
   passes_by : (v : Which) (ps rs : Parts) → Sought v ps rs → eqb (id_of v) (id_of which) ≡ false
       → part_of rs which ≡ part_of ps which
   passes_by v ps _ (took e hs rows i) q =
-      other_placed ps v which (Found e.payload.at e.header.size rows) q
+      other_placed ps v which (Some (record { at = e.payload.at; size = e.header.size; rows = rows })) q
   passes_by v ps _ (none hs i) q = refl
 
   is_told : (ps rs : Parts) → Sought which ps rs
-      → ((hs : List ℕ) → place which ≡ absent_at hs → part_of ps which ≡ Absent)
+      → ((hs : List ℕ) → place which ≡ absent_at hs → part_of ps which ≡ None)
       → Told (place which) (part_of rs which)
   is_told ps _ (took e hs rows i) a =
-      subst (λ (x : Lookup). Told x (part_of (placed ps which (Found e.payload.at e.header.size rows)) which))
-      (sym i) (rows, own_placed ps which (Found e.payload.at e.header.size rows))
+      subst (λ (x : Lookup). Told x (part_of (placed ps which (Some (record { at = e.payload.at; size = e.header.size; rows = rows }))) which))
+      (sym i) (rows, own_placed ps which (Some (record { at = e.payload.at; size = e.header.size; rows = rows })))
   is_told ps _ (none hs i) a = subst (λ (x : Lookup). Told x (part_of ps which)) (sym i) (a hs i)
 
   further : (v : Which) (more : List Which) (ps rs : Parts) → Sought v ps rs → Ahead (v ∷ more) ps → Ahead more rs
   further v more ps rs h = by (eqb (id_of v) (id_of which)) refl
     where
       -- The part is not known before it is sought.
-      unknown : (b : Bool) → Told (place which) (part_of ps which) ⊎ ((part_of ps which ≡ Absent) × (b ≡ true))
-          → (hs : List ℕ) → place which ≡ absent_at hs → part_of ps which ≡ Absent
+      unknown : (b : Bool) → Told (place which) (part_of ps which) ⊎ ((part_of ps which ≡ None) × (b ≡ true))
+          → (hs : List ℕ) → place which ≡ absent_at hs → part_of ps which ≡ None
       unknown b (inl t) hs i = subst (λ (x : Lookup). Told x (part_of ps which)) i t
       unknown b (inr (a, m)) hs i = a
 
       by : (b : Bool) → eqb (id_of v) (id_of which) ≡ b
-          → Told (place which) (part_of ps which) ⊎ ((part_of ps which ≡ Absent) × ((b || among which more) ≡ true))
+          → Told (place which) (part_of ps which) ⊎ ((part_of ps which ≡ None) × ((b || among which more) ≡ true))
           → Ahead more rs
       by true q k =
           inl (is_told ps rs (subst (λ (x : Which). Sought x ps rs) (same_part v which q) h)
@@ -382,7 +381,7 @@ module _ (live : Bool) (s : List ℕ) (t : Tables) (ps : Parts) (k : ℕ) (t' : 
     agrees : (x : Lookup) → is ≡ x → Told x (part_of ps which)
         → PartPromise live s id (of t which) (as_searched (part_of ps which) k) (of t' which)
     agrees (found_at e hs) q (rows, w) =
-        subst (λ (y : Part). PartPromise live s id (of t which) (as_searched y k) (of t' which)) (sym w)
+        subst (λ (y : Option Part). PartPromise live s id (of t which) (as_searched y k) (of t' which)) (sym w)
         (find_rows live s id (of t which) fits parent u e k
         (ap (λ (k : ℕ). Ok (Some e, k)) (found_heads e hs q) ∙ sym (ap place_told (looks ∙ q))) rows (of t' which)
         (subst (λ (y : ℕ).
@@ -390,7 +389,7 @@ module _ (live : Bool) (s : List ℕ) (t : Tables) (ps : Parts) (k : ℕ) (t' : 
         (same_parent which parent u)
         (open_is_read live s t ps k t' p which e.payload.at e.header.size rows w)))
     agrees (absent_at hs) q w =
-        subst (λ (y : Part). PartPromise live s id (of t which) (as_searched y k) (of t' which)) (sym w)
+        subst (λ (y : Option Part). PartPromise live s id (of t which) (as_searched y k) (of t' which)) (sym w)
         (find_absent live s id (of t which) fits parent u k (of t' which)
         (ap Ok (None, absent_heads hs q) ∙ sym (ap place_told (looks ∙ q)))
         (all_zeroed.absent live s t ps k t' p which w))

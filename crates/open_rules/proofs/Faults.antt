@@ -57,7 +57,6 @@ use Rattle.open_rules.specs.Faults.{Before, OpenComes, in_file, in_file_unknown,
 use Rattle.open_rules.specs.Faults.{in_segment_unknown, in_met, from_heads, in_sought, OpenHonest}
 use Rattle.open_rules.specs.declared.parts.Which.{Which}
 use Rattle.open_rules.specs.declared.parts.Which.TheVariants.{Info, Tracks, Attachments, Chapters, Tags}
-use Rattle.open_rules.specs.declared.parts.Part.TheVariants.{Found}
 use Rattle.open_rules.specs.declared.parts.Parts.{Parts}
 use Rattle.std.proofs.Common.{Result, Ok, Err, Some}
 
@@ -209,7 +208,7 @@ module _ (live : Bool) (s : List ℕ) (n : Sizes) where
                   → (x : Outcome) → part_read live s n which e.payload.at e.header.size ≡ x
                   → OfOpening (on_outcome x refused (λ f.
                   sought_from live s n start heads later
-                  (placed ps which (Found e.payload.at e.header.size (count f)))))
+                  (placed ps which (Some (record { at = e.payload.at; size = e.header.size; rows = (count f) })))))
               by_reading e hs q on (done f) w =
                   on now_ordered
                   (past_snoc live s n start first heads c before which p (read_there e hs q (f, w))) _
@@ -320,7 +319,7 @@ module _ (live : Bool) (s : List ℕ) (n : Sizes) where
             → Went {A = Parts} OfOpening (OpenedOver live s n segment e)
             (on_visit
             (on_outcome x (λ r. ends (refused r)) (λ f.
-            over (placed ps (which_of e.header.id) (Found e.payload.at e.header.size (count f)))))
+            over (placed ps (which_of e.header.id) (Some (record { at = e.payload.at; size = e.header.size; rows = (count f) })))))
             ends (λ more. cond d (ends (refused (overrun e.place.at))) (over more)))
         by_reading q m d o (done f) w = passes q (λ p. (f, w)) _ d o
         by_reading q m d o (unread r) w =

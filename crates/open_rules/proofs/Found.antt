@@ -44,11 +44,10 @@ use Rattle.open_rules.specs.Theorems.{OpenIsRead, heads_of, OpenHeads, OpenWay, 
 use Rattle.open_rules.specs.Theorems.{OpenIsPart}
 use Rattle.open_rules.specs.declared.parts.Which.{Which}
 use Rattle.open_rules.specs.declared.parts.Which.TheVariants.{Info, Tracks, Attachments, Chapters, Tags}
-use Rattle.open_rules.specs.declared.parts.Part.{Part}
-use Rattle.open_rules.specs.declared.parts.Part.TheVariants.{Absent, Found}
 use Rattle.open_rules.specs.declared.parts.Parts.{Parts}
 use Rattle.open_rules.proofs.Unique.{reply_read, size_of, table_shown}
 use Rattle.std.proofs.Common.{Result, Option, Ok, Err, Some, None}
+use Rattle.search_rules.specs.declared.part.Part.{Part}
 
 -- ---- a walk that keeps what is known
 
@@ -128,9 +127,9 @@ module _ (live : Bool) (s : List ℕ) (n : Sizes) (segment : Headed) where
     pub sized : part.header.size ≡ size
     pub way : OpenWay live s (id_of which) segment part heads
 
-  abbrev pub IsKnown : List ℕ → Which → Part → Type 0
-  IsKnown heads which Absent = Unit
-  IsKnown heads which (Found at size rows) = IsFound heads which at size rows
+  abbrev pub IsKnown : List ℕ → Which → Option Part → Type 0
+  IsKnown heads which None = Unit
+  IsKnown heads which (Some p) = IsFound heads which p.at p.size p.rows
 
   abbrev pub Known : List ℕ → Parts → Type 0
   Known heads ps = (which : Which) → IsKnown heads which (part_of ps which)
@@ -138,7 +137,7 @@ module _ (live : Bool) (s : List ℕ) (n : Sizes) (segment : Headed) where
   none_known : (heads : List ℕ) → Known heads no_parts
   none_known heads = each_part (λ v. IsKnown heads v (part_of no_parts v)) tt tt tt tt tt
 
-  placed_known : (heads : List ℕ) (ps : Parts) (which : Which) (p : Part) → Known heads ps → IsKnown heads which p
+  placed_known : (heads : List ℕ) (ps : Parts) (which : Which) (p : Option Part) → Known heads ps → IsKnown heads which p
       → Known heads (placed ps which p)
   placed_known heads ps Info p k i =
       each_part (λ v. IsKnown heads v (part_of (placed ps Info p) v)) i (k Tracks) (k Attachments) (k Chapters) (k Tags)
@@ -192,10 +191,10 @@ module _ (live : Bool) (s : List ℕ) (n : Sizes) (segment : Headed) where
             → (o : Outcome) → part_read live s n which e.payload.at e.header.size ≡ o
             → Sound (on_outcome o refused (λ f.
             sought_from live s n start heads more
-            (placed ps which (Found e.payload.at e.header.size (count f)))))
+            (placed ps which (Some (record { at = e.payload.at; size = e.header.size; rows = (count f) })))))
         by_read e way g (done f) q =
-            next g (placed ps which (Found e.payload.at e.header.size (count f)))
-            (placed_known heads.addresses ps which (Found e.payload.at e.header.size (count f)) k (record {
+            next g (placed ps which (Some (record { at = e.payload.at; size = e.header.size; rows = (count f) })))
+            (placed_known heads.addresses ps which (Some (record { at = e.payload.at; size = e.header.size; rows = (count f) })) k (record {
               elements = f;
               was_read = q;
               counted = refl;
@@ -262,10 +261,10 @@ module _ (live : Bool) (s : List ℕ) (n : Sizes) (segment : Headed) where
       by_read : member e.header.id part_ids ≡ true
           → (o : Outcome) → part_read live s n which e.payload.at e.header.size ≡ o
           → Keeps Met Sound (on_outcome o (λ r. ends (refused r)) (λ f.
-          over (placed ps which (Found e.payload.at e.header.size (count f)))))
+          over (placed ps which (Some (record { at = e.payload.at; size = e.header.size; rows = (count f) })))))
       by_read m (done f) q =
           λ heads.
-          placed_known heads ps which (Found e.payload.at e.header.size (count f)) (k heads) (record {
+          placed_known heads ps which (Some (record { at = e.payload.at; size = e.header.size; rows = (count f) })) (k heads) (record {
             elements = f;
             was_read = q;
             counted = refl;
@@ -334,7 +333,7 @@ opened live s n ps heads = by (are_allowed s n) refl (segment_of live s) refl
 -- A part that an accepted call tells.
 module _ (live : Bool) (s : List ℕ) (t : Tables) (ps : Parts) (k : ℕ) (t' : Tables)
     (p : OpenPromise live s t (Ok (ps, k)) t') (which : Which) (at size rows : ℕ)
-    (x : part_of ps which ≡ Found at size rows) where
+    (x : part_of ps which ≡ Some (record { at = at; size = size; rows = rows })) where
   abbrev n : Sizes
   n = sizes_of t
 

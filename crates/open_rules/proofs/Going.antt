@@ -41,7 +41,6 @@ use Rattle.open_rules.specs.Contract.{every, link_of, which_at, Tells, left_of, 
 use Rattle.open_rules.specs.Contract.{TurnsSought, TurnsHead, TurnsMet, TurnsFrom}
 use Rattle.open_rules.specs.declared.parts.Which.{Which}
 use Rattle.open_rules.specs.declared.parts.Which.TheVariants.{Info, Tracks, Attachments, Chapters, Tags}
-use Rattle.open_rules.specs.declared.parts.Part.TheVariants.{Found}
 use Rattle.open_rules.specs.declared.parts.Parts.{Parts}
 use Rattle.open_rules.specs.declared.turns.Seeking.{Seeking}
 use Rattle.open_rules.specs.declared.turns.Stage.{Stage}
@@ -181,7 +180,7 @@ module _ (live : Bool) (s : List ℕ) (n : Sizes) (seeking : Seeking) (ps : Part
           heads,
           t,
           found ∙ rw (x' p) (ap (λ (v : Which).
-              rest (placed ps v (Found e.payload.at e.header.size (count f)))) (sym x)),
+              rest (placed ps v (Some (record { at = e.payload.at; size = e.header.size; rows = (count f) })))) (sym x)),
         );
         fewer = fewer;
         ready = tt;
@@ -272,9 +271,9 @@ module _ (live : Bool) (s : List ℕ) (n : Sizes) (segment : Headed) (at : ℕ) 
         by : (x : Outcome)
             → visited live s segment w e
             (on_outcome x (λ r. ends (refused r)) (λ f.
-            over (placed ps (which_of e.header.id) (Found e.payload.at e.header.size (count f)))))
+            over (placed ps (which_of e.header.id) (Some (record { at = e.payload.at; size = e.header.size; rows = (count f) })))))
             ≡ on_outcome x refused (λ f.
-            passing (placed ps (which_of e.header.id) (Found e.payload.at e.header.size (count f))))
+            passing (placed ps (which_of e.header.id) (Some (record { at = e.payload.at; size = e.header.size; rows = (count f) }))))
         by (done f) = refl
         by (unread r) = refl
 
@@ -287,7 +286,7 @@ module _ (live : Bool) (s : List ℕ) (n : Sizes) (segment : Headed) (at : ℕ) 
           goes = λ f p. (
             m.0.child,
             met_taken ∙ rw (x' p) (ap (λ (v : Which).
-                passing (placed ps v (Found e.payload.at e.header.size (count f)))) (sym x)),
+                passing (placed ps v (Some (record { at = e.payload.at; size = e.header.size; rows = (count f) })))) (sym x)),
           );
           fewer = let l = m.0.room in omega arith;
           ready = (r, record { small = r.small; there = m.0.stepped.there });

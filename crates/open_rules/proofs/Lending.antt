@@ -23,7 +23,6 @@ use Rattle.open_rules.specs.Contract.{Ready, left_of, Stands, ReadsNext, Ends, T
 use Rattle.open_rules.specs.Contract.{rows_known, ClearBehind, known_after, stage_after, Begins, Ran}
 use Rattle.open_rules.specs.declared.parts.Which.{Which}
 use Rattle.open_rules.specs.declared.parts.Which.TheVariants.{Info, Tracks, Attachments, Chapters, Tags}
-use Rattle.open_rules.specs.declared.parts.Part.TheVariants.{Found}
 use Rattle.open_rules.specs.declared.parts.Parts.{Parts}
 use Rattle.open_rules.specs.declared.turns.Stage.{Stage}
 use Rattle.open_rules.specs.declared.turns.Stage.TheVariants.{From, Behind, Sought, Refused}
@@ -31,6 +30,7 @@ use Rattle.open_rules.specs.declared.turns.Turn.{Turn}
 use Rattle.open_rules.specs.declared.turns.Turn.TheVariants.{Read, Over}
 use Rattle.open_rules.proofs.Going.{never}
 use Rattle.std.proofs.Common.{Result, Ok, Err}
+use Rattle.std.proofs.Common.{Some}
 
 -- ---- five at a time
 
@@ -72,7 +72,7 @@ module _ (live : Bool) (s : List ℕ) (which : Which) (at size : ℕ) (a b c d e
 -- The tables show a part that was put in.
 put_shown : (live : Bool) (s : List ℕ) (n : Sizes) (ps : Parts) (which : Which) (at size rows : ℕ)
     → put (shown live s n ps) which (table_of at (of n which) (part_read live s n which at size))
-    ≡ shown live s n (placed ps which (Found at size rows))
+    ≡ shown live s n (placed ps which (Some (record { at = at; size = size; rows = rows })))
 put_shown live s n ps Info at size rows = refl
 put_shown live s n ps Tracks at size rows = refl
 put_shown live s n ps Attachments at size rows = refl
@@ -100,7 +100,7 @@ clear_none n = record {
 }
 
 clear_put : (which : Which) (ps : Parts) (t : Tables) (at size rows : ℕ) (u : List ℕ) → ClearFrom rows u
-    → ClearBehind ps t → ClearBehind (placed ps which (Found at size rows)) (put t which u)
+    → ClearBehind ps t → ClearBehind (placed ps which (Some (record { at = at; size = size; rows = rows }))) (put t which u)
 clear_put Info ps t at size rows u c b = record {
   info = c;
   tracks = b.tracks;
@@ -265,7 +265,7 @@ module _ (live : Bool) (s : List ℕ) (t₀ : Tables) where
                     (g.shows qs heads v)
                     ∙ put_shown live s n ps which at size rows;
                 clear = λ z.
-                    subst (ClearBehind (placed ps which (Found at size rows)))
+                    subst (ClearBehind (placed ps which (Some (record { at = at; size = size; rows = rows }))))
                     (sym (i.tables
                     ∙ ap (λ (m : Sizes). put t which (table_of at (of m which) (part_read live s m which at size)))
                     g.same

@@ -53,8 +53,6 @@ use Rattle.open_rules.specs.Faults.{in_sought}
 use Rattle.open_rules.specs.Live.{EqualOpens, EqualOpensWithout}
 use Rattle.open_rules.specs.declared.parts.Which.{Which}
 use Rattle.open_rules.specs.declared.parts.Which.TheVariants.{Info, Tracks, Attachments, Chapters, Tags}
-use Rattle.open_rules.specs.declared.parts.Part.{Part}
-use Rattle.open_rules.specs.declared.parts.Part.TheVariants.{Absent, Found}
 use Rattle.open_rules.specs.declared.parts.Parts.{Parts}
 use Rattle.open_rules.proofs.Lending.{each_same}
 use Rattle.open_rules.proofs.Faults.{clash, joins, past_snoc, in_turn, first_turn}
@@ -62,6 +60,8 @@ use Rattle.open_rules.proofs.Unique.{all_zeroed}
 use Rattle.open_rules.proofs.Found.{open_is_read}
 use Rattle.std.proofs.Common.{Result, Ok, Err, Some}
 use Rattle.refusals.specs.declared.refusal.Refusal.{Refusal}
+use Rattle.std.proofs.Common.{Option, None}
+use Rattle.search_rules.specs.declared.part.Part.{Part}
 
 module _ (s : List ℕ) (n : Sizes) (k : AllKnown s (OpenComes false s n)) where
   -- A part that is come to is read alike.
@@ -154,10 +154,10 @@ module _ (s : List ℕ) (n : Sizes) (k : AllKnown s (OpenComes false s n)) where
                 → (x : Outcome) → part_read false s n which e.payload.at e.header.size ≡ x
                 → on_outcome x refused (λ f.
                 sought_from true s n start heads later
-                (placed ps which (Found e.payload.at e.header.size (count f))))
+                (placed ps which (Some (record { at = e.payload.at; size = e.header.size; rows = (count f) }))))
                 ≡ on_outcome x refused (λ f.
                 sought_from false s n start heads later
-                (placed ps which (Found e.payload.at e.header.size (count f))))
+                (placed ps which (Some (record { at = e.payload.at; size = e.header.size; rows = (count f) }))))
             by_reading e hs q on (done f) v =
                 on now_ordered (past_snoc false s n start first heads w before which p (read_there e hs q (f, v))) _
             by_reading e hs q on (unread r) v = refl
@@ -178,7 +178,7 @@ module _ (s : List ℕ) (n : Sizes) (k : AllKnown s (OpenComes false s n)) where
             by_place (found_at e hs) q on =
                 ap (λ (x : Outcome). on_outcome x refused (λ f.
                 sought_from true s n start heads later
-                (placed ps which (Found e.payload.at e.header.size (count f)))))
+                (placed ps which (Some (record { at = e.payload.at; size = e.header.size; rows = (count f) })))))
                 (read_known which e (in_the_part e hs q))
                 ∙ by_reading e hs q on (part_read false s n which e.payload.at e.header.size) refl
             by_place (absent_at hs) q on =
@@ -232,7 +232,7 @@ module _ (s : List ℕ) (n : Sizes) (k : AllKnown s (OpenComes false s n)) where
               }) ps)
           by false i true m =
               ap (λ (x : Outcome). on_outcome x (λ r. ends (refused r)) (λ f.
-              over (placed ps (which_of e.header.id) (Found e.payload.at e.header.size (count f)))))
+              over (placed ps (which_of e.header.id) (Some (record { at = e.payload.at; size = e.header.size; rows = (count f) })))))
               (met_same m)
           by false i false m = refl
 
@@ -266,7 +266,7 @@ module _ (s : List ℕ) (n : Sizes) (k : AllKnown s (OpenComes false s n)) where
             → (x : Outcome) → part_read false s n (which_of e.header.id) e.payload.at e.header.size ≡ x
             → ◌≡◌ {A = Visit Parts Opening} (on_visit
             (on_outcome x (λ r. ends (refused r)) (λ f.
-            over (placed ps (which_of e.header.id) (Found e.payload.at e.header.size (count f)))))
+            over (placed ps (which_of e.header.id) (Some (record { at = e.payload.at; size = e.header.size; rows = (count f) })))))
             ends (λ more. cond d (ends (refused (overrun e.place.at))) (over more)))
             (over qs)
             → OpenedOver false s n segment e
@@ -339,12 +339,12 @@ table_same s t ps k t' u' p q which = by (part_of ps which) refl
     read_same rows (inl (a, e)) = clash cc
     read_same rows (inr (e, w)) = w
 
-    by : (x : Part) → part_of ps which ≡ x → of u' which ≡ of t' which
-    by Absent e = all_zeroed.absent true s t ps k u' q which e ∙ sym (all_zeroed.absent false s t ps k t' p which e)
-    by (Found at size rows) e =
-        read_same rows
-        (live_reads s at size (parent_of which) (of t which) (Ok rows) (Ok rows) (of t' which) (of u' which)
-        (open_is_read false s t ps k t' p which at size rows e) (open_is_read true s t ps k u' q which at size rows e))
+    by : (x : Option Part) → part_of ps which ≡ x → of u' which ≡ of t' which
+    by None e = all_zeroed.absent true s t ps k u' q which e ∙ sym (all_zeroed.absent false s t ps k t' p which e)
+    by (Some p) e =
+        read_same p.rows
+        (live_reads s p.at p.size (parent_of which) (of t which) (Ok p.rows) (Ok p.rows) (of t' which) (of u' which)
+        (open_is_read false s t ps k t' p which p.at p.size p.rows e) (open_is_read true s t ps k u' q which p.at p.size p.rows e))
 
 pub equal_opens : EqualOpens
 equal_opens s t r r' t' u' k p q =

@@ -23,8 +23,6 @@ use Rattle.open_rules.specs.Opening.{Opening, read, refused, sought_from, by_hea
 use Rattle.open_rules.specs.Promise.{open_of, reply_of}
 use Rattle.open_rules.specs.declared.parts.Which.{Which}
 use Rattle.open_rules.specs.declared.parts.Which.TheVariants.{Info, Tracks, Attachments, Chapters, Tags}
-use Rattle.open_rules.specs.declared.parts.Part.{Part}
-use Rattle.open_rules.specs.declared.parts.Part.TheVariants.{Found}
 use Rattle.open_rules.specs.declared.parts.Parts.{Parts}
 use Rattle.open_rules.specs.declared.turns.Seeking.{Seeking}
 use Rattle.open_rules.specs.declared.turns.Stage.{Stage}
@@ -32,6 +30,7 @@ use Rattle.open_rules.specs.declared.turns.Stage.TheVariants.{From, Behind, Soug
 use Rattle.open_rules.specs.declared.turns.Turn.{Turn}
 use Rattle.open_rules.specs.declared.turns.Turn.TheVariants.{Read, Over}
 use Rattle.std.specs.Prelude.{Result, Option, Ok, Err, Some}
+use Rattle.search_rules.specs.declared.part.Part.{Part}
 
 -- ---- the seek heads
 
@@ -99,7 +98,7 @@ module _ (live : Bool) (s : List ℕ) (n : Sizes) where
         (r : Refusal) → part_read live s n which e.payload.at e.header.size ≡ unread r → o ≡ refused r
     pub goes :
         (f : Forest) → part_read live s n which e.payload.at e.header.size ≡ done f
-        → Stands next (placed ps which (Found e.payload.at e.header.size (count f))) o
+        → Stands next (placed ps which (Some (record { at = e.payload.at; size = e.header.size; rows = (count f) }))) o
     pub fewer : left_of live s next < most
     pub ready : Ready s next
 
@@ -134,7 +133,7 @@ module _ (live : Bool) (s : List ℕ) where
 -- ---- what is read
 
 -- How many rows of its table a part has.
-abbrev pub rows_known : Part → ℕ
+abbrev pub rows_known : Option Part → ℕ
 rows_known p = on_part p 0 (λ at size rows. rows)
 
 -- Behind the rows of its part each table has zeros alone.
@@ -153,7 +152,7 @@ pub record ReadInto
 
 -- What is known with a part that was read.
 abbrev pub known_after : Parts → Which → Headed → Result ℕ Refusal → Parts
-known_after ps which e (Ok rows) = placed ps which (Found e.payload.at e.header.size rows)
+known_after ps which e (Ok rows) = placed ps which (Some (record { at = e.payload.at; size = e.header.size; rows = rows }))
 known_after ps which e (Err r) = ps
 
 -- Where the call stands then.

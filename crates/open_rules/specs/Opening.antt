@@ -19,8 +19,8 @@ use Rattle.segments_rules.specs.Segment.{segment_of, stretch_of, within_segment,
 use Rattle.open_rules.specs.Parts.{id_of, which_of, order, no_parts, placed}
 use Rattle.open_rules.specs.Tables.{Sizes, part_read}
 use Rattle.open_rules.specs.declared.parts.Which.{Which}
-use Rattle.open_rules.specs.declared.parts.Part.TheVariants.{Found}
 use Rattle.open_rules.specs.declared.parts.Parts.{Parts}
+use Rattle.std.specs.Prelude.{Some}
 
 -- What the call comes to: the parts, and the addresses of the heads that were read; or a refusal.
 pub data Opening : Type 0 where
@@ -32,7 +32,7 @@ module _ (live : Bool) (s : List ℕ) (n : Sizes) where
   abbrev pub taken : {A : Type 0} → Which → Headed → Parts → (Refusal → A) → (Parts → A) → A
   taken which e ps stop next =
       on_outcome (part_read live s n which e.payload.at e.header.size) stop (λ f.
-      next (placed ps which (Found e.payload.at e.header.size (count f))))
+      next (placed ps which (Some (record { at = e.payload.at; size = e.header.size; rows = (count f) }))))
 
   -- ---- after a seek head
 

@@ -3,9 +3,9 @@
 use Rattle.std.specs.Prelude.{ℕ, List, [], ◌∷◌, cond, eqb}
 use Rattle.open_rules.specs.declared.parts.Which.{Which}
 use Rattle.open_rules.specs.declared.parts.Which.TheVariants.{Info, Tracks, Attachments, Chapters, Tags}
-use Rattle.open_rules.specs.declared.parts.Part.{Part}
-use Rattle.open_rules.specs.declared.parts.Part.TheVariants.{Absent, Found}
 use Rattle.open_rules.specs.declared.parts.Parts.{Parts}
+use Rattle.std.specs.Prelude.{Option, None}
+use Rattle.search_rules.specs.declared.part.Part.{Part}
 
 abbrev pub id_of : Which → ℕ
 id_of Info = 0x1549A966
@@ -35,21 +35,21 @@ abbrev pub order : List Which
 order = Info ∷ Tracks ∷ Attachments ∷ Chapters ∷ Tags ∷ []
 
 abbrev pub no_parts : Parts
-no_parts = record { info = Absent; tracks = Absent; attachments = Absent; chapters = Absent; tags = Absent }
+no_parts = record { info = None; tracks = None; attachments = None; chapters = None; tags = None }
 
-abbrev pub part_of : Parts → Which → Part
+abbrev pub part_of : Parts → Which → Option Part
 part_of ps Info = ps.info
 part_of ps Tracks = ps.tracks
 part_of ps Attachments = ps.attachments
 part_of ps Chapters = ps.chapters
 part_of ps Tags = ps.tags
 
-abbrev pub on_part : {A : Type 0} → Part → A → (ℕ → ℕ → ℕ → A) → A
-on_part Absent none some = none
-on_part (Found at size rows) none some = some at size rows
+abbrev pub on_part : {A : Type 0} → Option Part → A → (ℕ → ℕ → ℕ → A) → A
+on_part None none some = none
+on_part (Some p) none some = some p.at p.size p.rows
 
 -- A part in its place: it replaces what was known of it.
-abbrev pub placed : Parts → Which → Part → Parts
+abbrev pub placed : Parts → Which → Option Part → Parts
 placed ps Info p = record {
   info = p;
   tracks = ps.tracks;

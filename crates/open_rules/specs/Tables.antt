@@ -6,8 +6,9 @@ use Rattle.elements_rules.specs.Promise.{read_of, zeros, table_of}
 use Rattle.open_rules.specs.Parts.{parent_of, on_part}
 use Rattle.open_rules.specs.declared.parts.Which.{Which}
 use Rattle.open_rules.specs.declared.parts.Which.TheVariants.{Info, Tracks, Attachments, Chapters, Tags}
-use Rattle.open_rules.specs.declared.parts.Part.{Part}
 use Rattle.open_rules.specs.declared.parts.Parts.{Parts}
+use Rattle.std.specs.Prelude.{Option}
+use Rattle.search_rules.specs.declared.part.Part.{Part}
 
 -- A thing for each part.
 pub record Five (A : Type 0) : Type 0 where
@@ -55,7 +56,7 @@ unfoldable pub part_read : (live : Bool) → List ℕ → Sizes → Which → (a
 part_read live s n which at size = read_of live s at size (parent_of which) (of n which)
 
 -- The table of a part: as the public read of its payload leaves it; zeros where the part is absent.
-abbrev pub shown_of : (live : Bool) → List ℕ → Sizes → Which → Part → List ℕ
+abbrev pub shown_of : (live : Bool) → List ℕ → Sizes → Which → Option Part → List ℕ
 shown_of live s n which p =
     on_part p (zeros (of n which)) (λ at size rows. table_of at (of n which) (part_read live s n which at size))
 

@@ -12,17 +12,15 @@ use Rattle.segments_rules.specs.declared.walk.Aim.TheVariants.{One}
 use Rattle.segments_rules.specs.declared.walk.Met.TheVariants.{Head}
 use Rattle.search_rules.specs.Part.{PartPromise}
 use Rattle.search_rules.specs.Part.{parent_of as searched_under}
-use Rattle.search_rules.specs.declared.part.PartReply.{PartReply}
-use Rattle.search_rules.specs.declared.part.PartReply.TheVariants.{Found as FoundPart, Absent as AbsentPart}
 use Rattle.open_rules.specs.Parts.{id_of, parent_of, part_of}
 use Rattle.open_rules.specs.Tables.{Tables, Sizes, sizes_of, of, zeroed}
 use Rattle.open_rules.specs.Opening.{Opening, read, refused}
 use Rattle.open_rules.specs.Promise.{open_of, OpenPromise}
 use Rattle.open_rules.specs.declared.parts.Which.{Which}
-use Rattle.open_rules.specs.declared.parts.Part.{Part}
-use Rattle.open_rules.specs.declared.parts.Part.TheVariants.{Absent, Found}
 use Rattle.open_rules.specs.declared.parts.Parts.{Parts}
 use Rattle.std.specs.Prelude.{Result, Ok, Err, Some}
+use Rattle.std.specs.Prelude.{Option, None}
+use Rattle.search_rules.specs.declared.part.Part.{Part}
 
 -- Any two replies and tables that the promise permits to one question are equal (document 01, Strength of the
 -- promises). The numbers that stood in the lent tables do not matter, only how many there are.
@@ -45,7 +43,7 @@ pub record AllZeroed : Type 0 where
       → t' ≡ zeroed (sizes_of t)
   pub absent :
       (live : Bool) (s : List ℕ) (t : Tables) (ps : Parts) (k : ℕ) (t' : Tables) → OpenPromise live s t (Ok (ps, k)) t'
-      → (which : Which) → part_of ps which ≡ Absent → of t' which ≡ zeros (length (of t which))
+      → (which : Which) → part_of ps which ≡ None → of t' which ≡ zeros (length (of t which))
 
 -- Each found part is as the public read reads its payload under its parent id, so that every theorem on an accepted
 -- read holds of it: its table loses nothing. It shuts out a table that still has rows of an earlier, longer part behind
@@ -53,7 +51,7 @@ pub record AllZeroed : Type 0 where
 abbrev pub OpenIsRead : Type 0
 OpenIsRead =
     (live : Bool) (s : List ℕ) (t : Tables) (ps : Parts) (k : ℕ) (t' : Tables) → OpenPromise live s t (Ok (ps, k)) t'
-    → (which : Which) (at size rows : ℕ) → part_of ps which ≡ Found at size rows
+    → (which : Which) (at size rows : ℕ) → part_of ps which ≡ Some (record { at = at; size = size; rows = rows })
     → ReadPromise live s at size (parent_of which) (of t which) (Ok rows) (of t' which)
 
 -- ---- the heads
@@ -97,15 +95,15 @@ pub record OpenFoundBy (live : Bool) (s : List ℕ) (id at size : ℕ) (heads : 
 abbrev pub OpenIsPart : Type 0
 OpenIsPart =
     (live : Bool) (s : List ℕ) (t : Tables) (ps : Parts) (k : ℕ) (t' : Tables) → OpenPromise live s t (Ok (ps, k)) t'
-    → (which : Which) (at size rows : ℕ) → part_of ps which ≡ Found at size rows
+    → (which : Which) (at size rows : ℕ) → part_of ps which ≡ Some (record { at = at; size = size; rows = rows })
     → OpenFoundBy live s (id_of which) at size (heads_of (open_of live s (sizes_of t)))
 
 -- ---- beside the search
 
 -- A part as the search tells it.
-abbrev pub as_searched : Part → (heads : ℕ) → PartReply
-as_searched Absent heads = AbsentPart heads
-as_searched (Found at size rows) heads = FoundPart at size rows heads
+abbrev pub as_searched : Option Part → (heads : ℕ) → Result (Option (Option Part) × ℕ) Refusal
+as_searched None heads = Ok (None, heads)
+as_searched (Some p) heads = Ok (Some (record { at = p.at; size = p.size; rows = p.rows }), heads)
 
 -- The segment's first seek head stands before any part of that id.
 pub record HeadFirst (live : Bool) (s : List ℕ) (id : ℕ) : Type 0 where

@@ -3,8 +3,7 @@
 #![tactic(auto)]
 
 mod parts;
-mod reply;
 mod turns;
 
-pub use parts::{Part, Parts, Which};
+pub use parts::{Parts, Which};
 pub use turns::{Seeking, Stage, Turn};

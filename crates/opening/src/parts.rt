@@ -4,7 +4,8 @@ ghost use Rattle.open_rules.specs.Parts.{id_of, which_of, part_of, placed as pla
 ghost use Rattle.open_rules.specs.Contract.{which_at, link_of, rows_known};
 
 use kinds::ids;
-use open_rules::{Part, Parts, Which};
+use open_rules::{Parts, Which};
+use search_rules::Part;
 use seekhead_rules::Positions;
 
 // Which part an id names, of those that name one.
@@ -59,7 +60,7 @@ pub fn link_of(links: Positions, which: Which) -> Option<u64>
 }
 
 // What is known of a part.
-fn part_of(parts: Parts, which: Which) -> Part
+fn part_of(parts: Parts, which: Which) -> Option<Part>
     ensures { result ≡ part_of parts which }
 {
     match which {
@@ -76,17 +77,19 @@ pub fn rows_of(parts: Parts, which: Which) -> u64
     ensures { result ≡ rows_known (part_of parts which) }
 {
     match part_of(parts, which) {
-        Part::Absent => 0,
-        Part::Found {
-            at: _,
-            size: _,
-            rows,
-        } => rows,
+        None => 0,
+        Some(
+            Part {
+                at: _,
+                size: _,
+                rows: rows,
+            },
+        ) => rows,
     }
 }
 
 // A part in its place: it replaces what was known of it.
-pub fn placed(parts: Parts, which: Which, part: Part) -> Parts
+pub fn placed(parts: Parts, which: Which, part: Option<Part>) -> Parts
     ensures { result ≡ placed_in parts which part }
 {
     let info = parts.info;

@@ -7,7 +7,7 @@ ghost use Rattle.open_rules.specs.Contract.{known_after, stage_after};
 use crate::parts::{id_of, link_of, placed, which_at, which_of};
 use header::Headed;
 use kinds::ids;
-use open_rules::{Part, Parts, Seeking, Stage, Turn, Which};
+use open_rules::{Parts, Seeking, Stage, Turn, Which};
 use refusals::Refusal;
 use seekchain::{linked_heads, part_at};
 use seekchain_rules::HeadsRead;
@@ -125,11 +125,11 @@ pub fn known_after(known: Parts, which: Which, part: Headed, reply: Result<u64, 
     match reply {
         Err(_) => known,
         Ok(rows) => {
-            let found = Part::Found {
+            let found = Some(Part {
                 at: part.payload.at,
                 size: part.header.size,
-                rows,
-            };
+                rows: rows,
+            });
             placed(known, which, found)
         }
     }

@@ -6,7 +6,7 @@ use elements::fill;
 use kinds::ids;
 use refusals::{Cause, Refusal};
 use rowstore::{clear, is_allowed};
-use search_rules::PartReply;
+use search_rules::Part;
 use segments::look_up;
 
 // The id that a part's children are read under; none for what is no part.
@@ -25,35 +25,35 @@ fn parent_of(part: u32) -> Option<u32>
 // Where the part is, and its elements as rows of the table, as `read` would fill it in the same mode. In live mode the
 // walk knows where a Segment or Cluster of unknown size ends. The table of an absent part is all
 // zeros, and that of a refused one too. 14: a length is broken, or the part is none of the four.
-pub fn find_part(recording: &[u8], live: bool, part: u32, table: &mut [u64]) -> PartReply
+pub fn find_part(
+    recording: &[u8],
+    live: bool,
+    part: u32,
+    table: &mut [u64],
+) -> Result<(Option<Part>, u64), Refusal>
     ensures { PartPromise live recording.now part table.old result table.new }
 {
     clear(table);
     if !is_allowed(recording, 0, table) {
-        return PartReply::Refused(Refusal {
+        return Err(Refusal {
             address: 0,
             cause: Cause::BadArgument,
         });
     }
     match parent_of(part) {
-        None => PartReply::Refused(Refusal {
+        None => Err(Refusal {
             address: 0,
             cause: Cause::BadArgument,
         }),
         Some(parent) => match look_up(recording, live, part) {
-            Err(refusal) => PartReply::Refused(refusal),
-            Ok((None, heads)) => PartReply::Absent { heads },
+            Err(refusal) => Err(refusal),
+            Ok((None, heads)) => Ok((None, heads)),
             Ok((Some(found), heads)) => {
                 let at = found.payload.at;
                 let size = found.header.size;
                 match fill(recording, live, at, size, parent, table) {
-                    Err(refusal) => PartReply::Refused(refusal),
-                    Ok(rows) => PartReply::Found {
-                        at,
-                        size,
-                        rows,
-                        heads,
-                    },
+                    Err(refusal) => Err(refusal),
+                    Ok(rows) => Ok((Some(Part { at, size, rows }), heads)),
                 }
             }
         },

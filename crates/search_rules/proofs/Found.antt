@@ -23,10 +23,10 @@ use Rattle.segments_rules.specs.Segment.{lookup_of}
 use Rattle.search_rules.specs.Part.{parent_of, Search, found, absent, refused, on_parent, on_lookup, search_of}
 use Rattle.search_rules.specs.Part.{heads_of, reply_of, table_of, part_told, PartPromise}
 use Rattle.search_rules.specs.Theorems.{HeadsAllowed, HeadsCounted, FoundBy, FoundIsPart, FoundIsRead}
-use Rattle.search_rules.specs.declared.part.PartReply.TheVariants.{Found, Absent}
 use Rattle.search_rules.proofs.Trusty.{none_read, Placed, place_trusty, found_part, found_inside}
 use Rattle.search_rules.proofs.Finding.{allowed_at, as_search, reading, read_at}
 use Rattle.std.proofs.Common.{Option, Some, None}
+use Rattle.std.proofs.Common.{Ok}
 
 -- ---- the heads
 
@@ -62,13 +62,13 @@ heads_allowed live s part numbers = by (not (allowed s 0 numbers)) (parent_of pa
 
 -- ---- what a reply tells of the search
 
-reply_found : (at size rows n : ℕ) (x : Search) → part_told (Found at size rows n) ≡ reply_of x
+reply_found : (at size rows n : ℕ) (x : Search) → part_told (Ok (Some (record { at = at; size = size; rows = rows }), n)) ≡ reply_of x
     → (heads : List ℕ) × (f : Forest) × (x ≡ found at size heads f) × (rows ≡ count f) × (n ≡ length heads)
 reply_found at size rows n (found at' size' heads f) q = (heads, f, cc, cc, cc)
 reply_found at size rows n (absent heads) q = let z : ◌≡◌ {A = ℕ} 0 1 = cc in absurd (omega arith)
 reply_found at size rows n (refused e) q = let z : ◌≡◌ {A = ℕ} 0 1 = cc in absurd (omega arith)
 
-reply_absent : (n : ℕ) (x : Search) → part_told (Absent n) ≡ reply_of x
+reply_absent : (n : ℕ) (x : Search) → part_told (Ok (None, n)) ≡ reply_of x
     → (heads : List ℕ) × (x ≡ absent heads) × (n ≡ length heads)
 reply_absent n (found at size heads f) q = let z : ◌≡◌ {A = ℕ} 0 1 = cc in absurd (omega arith)
 reply_absent n (absent heads) q = (heads, refl, cc)
@@ -199,7 +199,7 @@ same_forest f g p q = cc
 
 pub found_holds :
     (live : Bool) (s : List ℕ) (part : ℕ) (t : List ℕ) (at size n heads : ℕ) (t' : List ℕ)
-    → PartPromise live s part t (Found at size n heads) t' → Holding live s part (length t) at size n t'
+    → PartPromise live s part t (Ok (Some (record { at = at; size = size; rows = n }), heads)) t' → Holding live s part (length t) at size n t'
 found_holds live s part t at size n k t' p =
     let (heads, f, q, r, l) = reply_found at size n k (search_of live s part (length t)) p.reply in
     let g = sought live s part (length t) at size heads f q in

@@ -116,7 +116,7 @@ module _ (s : List ℕ) (in_file_law : (at : ℕ) → ToSegment false s at → K
       (room_of s (Sized (length s)) 0) 0 tt begun
     where
       not_segment : (a b : Unit {0}) (e : Headed) (t : Bool) → eqb e.header.id segment_id ≡ t
-          → cond t (ends (Ok e)) (over a) ≡ over b → e.header.id ≡ segment_id → ⊥
+          → ◌≡◌ {A = Visit (Unit {0}) (Result Headed Refusal)} (cond t (ends (Ok e)) (over a)) (over b) → e.header.id ≡ segment_id → ⊥
       not_segment a b e true q w = let z : ◌≡◌ {A = ℕ} 0 1 = cc in absurd (let y : ⊥ = omega arith in y)
       not_segment a b e false q w = eqb-false e.header.id segment_id q
 

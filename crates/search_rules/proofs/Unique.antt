@@ -6,19 +6,20 @@ use Rattle.refusals.specs.Reply.{Reply, accepted, refusal}
 use Rattle.refusals.proofs.Listed.{listed}
 use Rattle.search_rules.specs.Part.{search_of, PartTold, found_part, absent_part, reply_of, table_of, part_told}
 use Rattle.search_rules.specs.Theorems.{OnePart, RefusesListed}
-use Rattle.search_rules.specs.declared.part.PartReply.{PartReply}
-use Rattle.search_rules.specs.declared.part.PartReply.TheVariants.{Found, Absent, Refused}
+use Rattle.std.proofs.Common.{Result, Option, Ok, Err, Some, None}
+use Rattle.search_rules.specs.declared.part.Part.{Part}
+use Rattle.refusals.specs.declared.refusal.Refusal.{Refusal}
 
 -- What was told tells the reply.
-abbrev pub replied : Reply PartTold → PartReply
-replied (accepted (found_part at size rows heads)) = Found at size rows heads
-replied (accepted (absent_part heads)) = Absent heads
-replied (refusal e) = Refused e
+abbrev pub replied : Reply PartTold → Result (Option Part × ℕ) Refusal
+replied (accepted (found_part at size rows heads)) = Ok (Some (record { at = at; size = size; rows = rows }), heads)
+replied (accepted (absent_part heads)) = Ok (None, heads)
+replied (refusal e) = Err e
 
-pub replied_back : (r : PartReply) → replied (part_told r) ≡ r
-replied_back (Found at size rows heads) = refl
-replied_back (Absent heads) = refl
-replied_back (Refused e) = refl
+pub replied_back : (r : Result (Option Part × ℕ) Refusal) → replied (part_told r) ≡ r
+replied_back (Ok (Some p, heads)) = refl
+replied_back (Ok (None, heads)) = refl
+replied_back (Err e) = refl
 
 pub part_unique : OnePart
 part_unique live s part t u r r' t' u' l p q =

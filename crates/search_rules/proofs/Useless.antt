@@ -25,8 +25,8 @@ use Rattle.segments_rules.specs.Segment.{segment_of, stretch_of, overruns, visit
 use Rattle.search_rules.specs.Part.{parent_of, Search, found, absent, refused, search_of, reply_of, table_of}
 use Rattle.search_rules.specs.Part.{found_part, absent_part, part_told}
 use Rattle.search_rules.specs.Theorems.{tags_alone, tags_behind_a_head, NotMadeUp, NotUntouched}
-use Rattle.search_rules.specs.declared.part.PartReply.{PartReply}
-use Rattle.search_rules.specs.declared.part.PartReply.TheVariants.{Found, Absent, Refused}
+use Rattle.std.proofs.Common.{Result, Option, Ok, Err, Some, None}
+use Rattle.search_rules.specs.declared.part.Part.{Part}
 
 -- ---- two recordings, computed
 
@@ -52,15 +52,20 @@ unfolding behind octet_bits bits one_more width_of big_endian_from big_endian of
 is_behind true = refl
 is_behind false = refl
 
-one_found : (r : PartReply) → part_told r ≡ accepted (found_part 10 0 0 0) → r ≡ Found 10 0 0 0
-one_found (Found at size rows heads) q = cc
-one_found (Absent heads) q = let z : ◌≡◌ {A = ℕ} 0 1 = cc in absurd (omega arith)
-one_found (Refused e) q = let z : ◌≡◌ {A = ℕ} 0 1 = cc in absurd (omega arith)
+one_found : (r : Result (Option Part × ℕ) Refusal) → part_told r ≡ accepted (found_part 10 0 0 0) → r ≡ Ok (Some (record { at = 10; size = 0; rows = 0 }), 0)
+one_found (Ok (Some p, heads)) q =
+    let a : p.at ≡ 10 = cc in
+    let b : p.size ≡ 0 = cc in
+    let c : p.rows ≡ 0 = cc in
+    let d : heads ≡ 0 = cc in
+    λ i. Ok (Some (record { at = a i; size = b i; rows = c i }), d i)
+one_found (Ok (None, heads)) q = let z : ◌≡◌ {A = ℕ} 0 1 = cc in absurd (omega arith)
+one_found (Err e) q = let z : ◌≡◌ {A = ℕ} 0 1 = cc in absurd (omega arith)
 
-none_found : (r : PartReply) → part_told r ≡ accepted (absent_part 1) → r ≡ Absent 1
-none_found (Found at size rows heads) q = let z : ◌≡◌ {A = ℕ} 0 1 = cc in absurd (omega arith)
-none_found (Absent heads) q = cc
-none_found (Refused e) q = let z : ◌≡◌ {A = ℕ} 0 1 = cc in absurd (omega arith)
+none_found : (r : Result (Option Part × ℕ) Refusal) → part_told r ≡ accepted (absent_part 1) → r ≡ Ok (None, 1)
+none_found (Ok (Some p, heads)) q = let z : ◌≡◌ {A = ℕ} 0 1 = cc in absurd (omega arith)
+none_found (Ok (None, heads)) q = cc
+none_found (Err e) q = let z : ◌≡◌ {A = ℕ} 0 1 = cc in absurd (omega arith)
 
 pub not_made_up : NotMadeUp
 unfolding alone behind
@@ -71,13 +76,13 @@ not_made_up live t u r r' t' u' l m p q =
 
 -- ---- the table
 
-zeros_absent : (numbers n : ℕ) (x : Search) → part_told (Absent n) ≡ reply_of x → table_of numbers x ≡ zeros numbers
+zeros_absent : (numbers n : ℕ) (x : Search) → part_told (Ok (None, n)) ≡ reply_of x → table_of numbers x ≡ zeros numbers
 unfolding table_of
 zeros_absent numbers n (found at size heads f) q = let z : ◌≡◌ {A = ℕ} 0 1 = cc in absurd (omega arith)
 zeros_absent numbers n (absent heads) q = refl
 zeros_absent numbers n (refused e) q = refl
 
-zeros_refused : (numbers : ℕ) (e : Refusal) (x : Search) → part_told (Refused e) ≡ reply_of x
+zeros_refused : (numbers : ℕ) (e : Refusal) (x : Search) → part_told (Err e) ≡ reply_of x
     → table_of numbers x ≡ zeros numbers
 unfolding table_of
 zeros_refused numbers e (found at size heads f) q = let z : ◌≡◌ {A = ℕ} 0 1 = cc in absurd (omega arith)

@@ -18,8 +18,8 @@ use Rattle.seekchain_rules.specs.Theorems.{IsAt}
 use Rattle.seekchain_rules.specs.Faults.{HeadsCome}
 use Rattle.segments_rules.specs.Segment.{segment_of, stretch_of, overruns, lookup_of}
 use Rattle.search_rules.specs.Part.{parent_of, PartPromise}
-use Rattle.search_rules.specs.declared.part.PartReply.TheVariants.{Refused}
 use Rattle.std.specs.Prelude.{Result, Option, Ok, Some, None}
+use Rattle.std.specs.Prelude.{Err}
 
 -- A walk from a place on, by a step to each element and a way past it, comes to a place: over elements that are passed
 -- over.
@@ -98,4 +98,4 @@ pub data SearchComes (live : Bool) (s : List ℕ) (part numbers : ℕ) : ℕ →
 abbrev pub SearchHonest : Type 0
 SearchHonest =
     (live : Bool) (s : List ℕ) (part : ℕ) (t : List ℕ) (e : Refusal) (t' : List ℕ)
-    → PartPromise live s part t (Refused e) t' → Honest s (SearchComes live s part (length t)) e
+    → PartPromise live s part t (Err e) t' → Honest s (SearchComes live s part (length t)) e

@@ -12,9 +12,9 @@ use Rattle.seekchain_rules.specs.Answers.{on_outcome}
 use Rattle.seekchain_rules.specs.Lookup.{Lookup}
 use Rattle.seekchain_rules.specs.Lookup.{found as found_at, absent as absent_at, stopped as stopped_at}
 use Rattle.segments_rules.specs.Segment.{lookup_of}
-use Rattle.search_rules.specs.declared.part.PartReply.{PartReply}
-use Rattle.search_rules.specs.declared.part.PartReply.TheVariants.{Found, Absent, Refused}
 use Rattle.std.specs.Prelude.{Option, Some, None}
+use Rattle.std.specs.Prelude.{Result, Ok, Err}
+use Rattle.search_rules.specs.declared.part.Part.{Part}
 
 -- The parts, each with the id that its children are read under (document 01, Kinds): Tracks, Attachments, Chapters and
 -- Tags.
@@ -75,12 +75,12 @@ table_of numbers (found at size heads f) = read_table at numbers (done f)
 table_of numbers (absent heads) = zeros numbers
 table_of numbers (refused e) = zeros numbers
 
--- Document 01's values for each case of `PartReply`, or the refusal.
-abbrev pub part_told : PartReply → Reply PartTold
-part_told (Found at size rows heads) = accepted (found_part at size rows heads)
-part_told (Absent heads) = accepted (absent_part heads)
-part_told (Refused e) = refusal e
+-- Document 01's values for each case of a reply, or the refusal.
+abbrev pub part_told : Result (Option Part × ℕ) Refusal → Reply PartTold
+part_told (Ok (Some p, heads)) = accepted (found_part p.at p.size p.rows heads)
+part_told (Ok (None, heads)) = accepted (absent_part heads)
+part_told (Err e) = refusal e
 
-pub record PartPromise (live : Bool) (s : List ℕ) (part : ℕ) (t : List ℕ) (r : PartReply) (t' : List ℕ) : Type 0 where
+pub record PartPromise (live : Bool) (s : List ℕ) (part : ℕ) (t : List ℕ) (r : Result (Option Part × ℕ) Refusal) (t' : List ℕ) : Type 0 where
   pub reply : part_told r ≡ reply_of (search_of live s part (length t))
   pub table : t' ≡ table_of (length t) (search_of live s part (length t))

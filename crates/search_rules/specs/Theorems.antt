@@ -8,21 +8,21 @@ use Rattle.seekhead_rules.specs.Seeks.{seek_head_id}
 use Rattle.seekchain_rules.specs.Theorems.{IsAt, GoodHeads, Named}
 use Rattle.segments_rules.specs.Segment.{segment_of}
 use Rattle.search_rules.specs.Part.{parent_of, search_of, heads_of, PartPromise}
-use Rattle.search_rules.specs.declared.part.PartReply.{PartReply}
-use Rattle.search_rules.specs.declared.part.PartReply.TheVariants.{Found, Absent, Refused}
 use Rattle.std.specs.Prelude.{Ok, Some}
+use Rattle.std.specs.Prelude.{Result, Option, Err, None}
+use Rattle.search_rules.specs.declared.part.Part.{Part}
 
 -- Any two replies and tables that the promise permits to one question are equal (document 01, Strength of the
 -- promises). The numbers that stood in the lent table do not matter, only how many there are.
 abbrev pub OnePart : Type 0
 OnePart =
-    (live : Bool) (s : List ℕ) (part : ℕ) (t u : List ℕ) (r r' : PartReply) (t' u' : List ℕ) → length t ≡ length u
+    (live : Bool) (s : List ℕ) (part : ℕ) (t u : List ℕ) (r r' : Result (Option Part × ℕ) Refusal) (t' u' : List ℕ) → length t ≡ length u
     → PartPromise live s part t r t' → PartPromise live s part u r' u' → (r ≡ r') × (t' ≡ u')
 
 -- A refusal that the promise permits is one of the list (`Listed`).
 abbrev pub RefusesListed : Type 0
 RefusesListed = (live : Bool) (s : List ℕ) (part : ℕ) (t : List ℕ) (e : Refusal) (t' : List ℕ)
-    → PartPromise live s part t (Refused e) t' → Listed e
+    → PartPromise live s part t (Err e) t' → Listed e
 
 -- The heads of an accepted search: a seek head was read at each address, no address comes twice, and there are at most
 -- 64.
@@ -33,9 +33,9 @@ HeadsAllowed = (live : Bool) (s : List ℕ) (part numbers : ℕ) → GoodHeads l
 abbrev pub HeadsCounted : Type 0
 HeadsCounted =
     (live : Bool) (s : List ℕ) (part : ℕ) (t t' : List ℕ)
-    → ((at size rows heads : ℕ) → PartPromise live s part t (Found at size rows heads) t'
+    → ((at size rows heads : ℕ) → PartPromise live s part t (Ok (Some (record { at = at; size = size; rows = rows }), heads)) t'
     → heads ≡ length (heads_of (search_of live s part (length t))))
-    × ((heads : ℕ) → PartPromise live s part t (Absent heads) t'
+    × ((heads : ℕ) → PartPromise live s part t (Ok (None, heads)) t'
     → heads ≡ length (heads_of (search_of live s part (length t))))
 
 -- What a found part is: an element of the wanted id, with no head read; or the element at the position that the last
@@ -59,7 +59,7 @@ pub record FoundBy (live : Bool) (s : List ℕ) (wanted at size : ℕ) (heads : 
 abbrev pub FoundIsPart : Type 0
 FoundIsPart =
     (live : Bool) (s : List ℕ) (part : ℕ) (t : List ℕ) (at size rows heads : ℕ) (t' : List ℕ)
-    → PartPromise live s part t (Found at size rows heads) t'
+    → PartPromise live s part t (Ok (Some (record { at = at; size = size; rows = rows }), heads)) t'
     → FoundBy live s part at size (heads_of (search_of live s part (length t)))
 
 -- It is read as the public read would read it, so that every theorem on an accepted read holds of it: the table loses
@@ -67,15 +67,15 @@ FoundIsPart =
 abbrev pub FoundIsRead : Type 0
 FoundIsRead =
     (live : Bool) (s : List ℕ) (part parent : ℕ) (t : List ℕ) (at size rows heads : ℕ) (t' : List ℕ)
-    → PartPromise live s part t (Found at size rows heads) t' → parent_of part ≡ Some parent
+    → PartPromise live s part t (Ok (Some (record { at = at; size = size; rows = rows }), heads)) t' → parent_of part ≡ Some parent
     → ReadPromise live s at size parent t (Ok rows) t'
 
 -- The table is written whatever happens: zeros for an absent part, and after a refusal.
 abbrev pub NotUntouched : Type 0
 NotUntouched =
     (live : Bool) (s : List ℕ) (part : ℕ) (t t' : List ℕ)
-    → ((heads : ℕ) → PartPromise live s part t (Absent heads) t' → t' ≡ zeros (length t))
-    × ((e : Refusal) → PartPromise live s part t (Refused e) t' → t' ≡ zeros (length t))
+    → ((heads : ℕ) → PartPromise live s part t (Ok (None, heads)) t' → t' ≡ zeros (length t))
+    × ((e : Refusal) → PartPromise live s part t (Err e) t' → t' ≡ zeros (length t))
 
 -- ---- the useless reader that reports a made-up count of heads (document 01, Strength of the promises)
 
@@ -91,6 +91,6 @@ tags_behind_a_head =
 -- every recording.
 abbrev pub NotMadeUp : Type 0
 NotMadeUp =
-    (live : Bool) (t u : List ℕ) (r r' : PartReply) (t' u' : List ℕ) → length t ≡ 0 → length u ≡ 0
+    (live : Bool) (t u : List ℕ) (r r' : Result (Option Part × ℕ) Refusal) (t' u' : List ℕ) → length t ≡ 0 → length u ≡ 0
     → PartPromise live tags_alone 0x1254C367 t r t' → PartPromise live tags_behind_a_head 0x1254C367 u r' u'
-    → (r ≡ Found 10 0 0 0) × (r' ≡ Absent 1)
+    → (r ≡ Ok (Some (record { at = 10; size = 0; rows = 0 }), 0)) × (r' ≡ Ok (None, 1))

@@ -4,4 +4,4 @@
 
 mod part;
 
-pub use part::PartReply;
+pub use part::Part;

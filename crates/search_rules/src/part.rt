@@ -1,18 +1,9 @@
-// The reply of `find_part`.
-use refusals::Refusal;
+// What `find_part` tells of a part.
 
-// The payload's address and size, how many rows it has, and how many seek heads were read; or that the part is absent;
-// or a refusal.
+// Where a part's payload is, its size, and how many rows it has.
 #[derive(Clone, Copy)]
-pub enum PartReply {
-    Found {
-        at: u64,
-        size: u64,
-        rows: u64,
-        heads: u64,
-    },
-    Absent {
-        heads: u64,
-    },
-    Refused(Refusal),
+pub struct Part {
+    pub at: u64,
+    pub size: u64,
+    pub rows: u64,
 }

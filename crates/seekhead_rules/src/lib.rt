@@ -3,7 +3,6 @@
 
 mod head;
 mod seek;
-mod skim;
 
 pub use head::{Positions, Seektable, Wanted};
 pub use seek::Seek;

@@ -6,23 +6,24 @@ ghost use Rattle.viewer_rules.specs.Promise.{UzOpenPromise};
 
 use crate::mode::chosen_mode;
 use open::open;
-use open_rules::{Part, Parts};
+use open_rules::Parts;
 use refusals::{Cause, Refusal};
 use rowstore::clear;
+use search_rules::Part;
 use viewer_rules::{UzFound, UzOpened};
 
 // How one of the parts crosses to C.
-fn found_face(part: Part) -> UzFound
+fn found_face(part: Option<Part>) -> UzFound
     ensures { result ≡ found_face part }
 {
     match part {
-        Part::Absent => UzFound {
+        None => UzFound {
             found: 0,
             at: 0,
             size: 0,
             rows: 0,
         },
-        Part::Found { at, size, rows } => UzFound {
+        Some(Part { at, size, rows }) => UzFound {
             found: 1,
             at,
             size,
@@ -64,7 +65,7 @@ fn opened_face(reply: Result<(Parts, u64), Refusal>) -> UzOpened
             let cause = refusal.cause;
             let number = cause.number();
             let id = cause.id() as u64;
-            let none = found_face(Part::Absent);
+            let none = found_face(None);
             UzOpened {
                 refused: number,
                 id,

@@ -8,20 +8,15 @@ use crate::mode::chosen_mode;
 use refusals::{Cause, Refusal};
 use rowstore::clear;
 use search::find_part;
-use search_rules::PartReply;
+use search_rules::Part;
 use viewer_rules::UzPart;
 
 // How the reply crosses to C.
-fn part_face(reply: PartReply) -> UzPart
+fn part_face(reply: Result<(Option<Part>, u64), Refusal>) -> UzPart
     ensures { result ≡ part_face (part_told reply) }
 {
     match reply {
-        PartReply::Found {
-            at,
-            size,
-            rows,
-            heads,
-        } => UzPart {
+        Ok((Some(Part { at, size, rows }), heads)) => UzPart {
             refused: 0,
             id: 0,
             refused_at: 0,
@@ -31,7 +26,7 @@ fn part_face(reply: PartReply) -> UzPart
             rows,
             heads,
         },
-        PartReply::Absent { heads } => UzPart {
+        Ok((None, heads)) => UzPart {
             refused: 0,
             id: 0,
             refused_at: 0,
@@ -41,7 +36,7 @@ fn part_face(reply: PartReply) -> UzPart
             rows: 0,
             heads,
         },
-        PartReply::Refused(refusal) => {
+        Err(refusal) => {
             let cause = refusal.cause;
             let number = cause.number();
             let id = cause.id() as u64;
@@ -67,7 +62,7 @@ pub fn uz_find_part(recording: &[u8], part: u32, table: &mut [u64], mode: u32) -
         Some(live) => part_face(find_part(recording, live, part, table)),
         None => {
             clear(table);
-            part_face(PartReply::Refused(Refusal {
+            part_face(Err(Refusal {
                 address: 0,
                 cause: Cause::BadArgument,
             }))

@@ -12,8 +12,6 @@ use Rattle.places_rules.specs.Promise.{whose_told}
 use Rattle.owner_rules.specs.Promise.{links_of, OwnerPromise, ChainPromise}
 use Rattle.search_rules.specs.Part.{PartPromise, part_told}
 use Rattle.search_rules.specs.Part.{table_of as search_table}
-use Rattle.search_rules.specs.declared.part.PartReply.{PartReply}
-use Rattle.search_rules.specs.declared.part.PartReply.TheVariants.{Refused as NoPart}
 use Rattle.open_rules.specs.Tables.{Tables, sizes_of, zeroed}
 use Rattle.open_rules.specs.Promise.{OpenPromise}
 use Rattle.shown_rules.specs.Promise.{TextPromise}
@@ -27,9 +25,11 @@ use Rattle.open_rules.specs.declared.parts.Parts.{Parts}
 use Rattle.bodies_rules.specs.declared.body.Range.{Range}
 use Rattle.refusals.specs.declared.refusal.Refusal.{Refusal}
 use Rattle.places_rules.specs.declared.whose.WhoseRow.{WhoseRow}
+use Rattle.std.proofs.Common.{Option}
+use Rattle.search_rules.specs.declared.part.Part.{Part}
 
 pub part_crosses :
-    (mode : ℕ) (live : Bool) (s : List ℕ) (part : ℕ) (t : List ℕ) (r : PartReply) (t' : List ℕ)
+    (mode : ℕ) (live : Bool) (s : List ℕ) (part : ℕ) (t : List ℕ) (r : Result (Option Part × ℕ) Refusal) (t' : List ℕ)
     → chosen_mode mode ≡ Some live → PartPromise live s part t r t'
     → UzPartPromise mode s part t (part_face (part_told r)) t'
 part_crosses mode live s part t r t' i p = record { reply = rw i (ap part_face p.reply); table = rw i p.table }
@@ -74,7 +74,7 @@ open_crosses mode live s t r t' i p =
 -- ---- where no mode is named
 
 pub part_unnamed : (mode : ℕ) (s : List ℕ) (part : ℕ) (t t' : List ℕ) → chosen_mode mode ≡ None
-    → t' ≡ zeros (length t) → UzPartPromise mode s part t (part_face (part_told (NoPart bad_argument))) t'
+    → t' ≡ zeros (length t) → UzPartPromise mode s part t (part_face (part_told (Err bad_argument))) t'
 unfolding search_table
 part_unnamed mode s part t t' i z = record { reply = rw i refl; table = z ∙ rw i refl }
 

@@ -10,10 +10,6 @@ use Rattle.elements_rules.specs.Promise.{table_of as read_table}
 use Rattle.owner_rules.specs.Promise.{links_of}
 use Rattle.search_rules.specs.Part.{part_told}
 use Rattle.search_rules.specs.Part.{table_of as search_table}
-use Rattle.search_rules.specs.declared.part.PartReply.{PartReply}
-use Rattle.search_rules.specs.declared.part.PartReply.TheVariants.{Found, Absent, Refused as NoPart}
-use Rattle.open_rules.specs.declared.parts.Part.{Part}
-use Rattle.open_rules.specs.declared.parts.Part.TheVariants.{Found as IsPart, Absent as NoSuch}
 use Rattle.viewer_rules.specs.Modes.{chosen_mode}
 use Rattle.viewer_rules.specs.Faces.{part_face, range_face, place_face, owned_face, found_face, opened_face}
 use Rattle.viewer_rules.specs.Theorems.{part_named, range_named, place_named, PartNamed, RangeNamed, TextNamed}
@@ -25,11 +21,13 @@ use Rattle.bodies_rules.specs.declared.body.Range.{Range}
 use Rattle.refusals.specs.declared.refusal.Refusal.{Refusal}
 use Rattle.places_rules.specs.declared.whose.WhoseRow.{WhoseRow}
 use Prim.Native.Nat.{ℕ}
+use Rattle.std.proofs.Common.{Option, None}
+use Rattle.search_rules.specs.declared.part.Part.{Part}
 
-part_face_law : (q : PartReply) → part_face (part_told q) ≡ part_named q
-part_face_law (Found at size rows heads) = refl
-part_face_law (Absent heads) = refl
-part_face_law (NoPart e) = refl
+part_face_law : (q : Result (Option (Option Part) × ℕ) Refusal) → part_face (part_told q) ≡ part_named q
+part_face_law (Ok (Some p, heads)) = refl
+part_face_law (Ok (None, heads)) = refl
+part_face_law (Err e) = refl
 
 range_face_law : (q : Result Ok Refusal) → range_face (range_told q) ≡ range_named q
 range_face_law (Ok r) = refl
@@ -61,9 +59,9 @@ pub chain_named : ChainNamed
 chain_named mode live s start size parent x t q r t' u' i p u =
     (u.reply ∙ rw i (ap owned_face (sym p.reply)), u.links ∙ rw i (sym p.links))
 
-found_face_law : (q : Part) → found_face q ≡ found_named q
-found_face_law NoSuch = refl
-found_face_law (IsPart at size rows) = refl
+found_face_law : (q : Option Part) → found_face q ≡ found_named q
+found_face_law None = refl
+found_face_law (Some p) = refl
 
 open_face : (q : Result (Parts × ℕ) Refusal) → opened_face q ≡ open_named q
 open_face (Err e) = refl

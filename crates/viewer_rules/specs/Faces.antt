@@ -6,8 +6,6 @@ use Rattle.bodies_rules.specs.declared.body.Range.{Range}
 use Rattle.places_rules.specs.Whose.{Whose, by_header, by_payload}
 use Rattle.owner_rules.specs.declared.owner.Owner.TheVariants.{Header, Payload}
 use Rattle.search_rules.specs.Part.{PartTold, found_part, absent_part}
-use Rattle.open_rules.specs.declared.parts.Part.{Part}
-use Rattle.open_rules.specs.declared.parts.Part.TheVariants.{Absent, Found}
 use Rattle.viewer_rules.specs.declared.opened.UzFound.{UzFound}
 use Rattle.viewer_rules.specs.declared.opened.UzOpened.{UzOpened}
 use Rattle.viewer_rules.specs.declared.owned.UzOwned.{UzOwned}
@@ -19,6 +17,8 @@ use Rattle.owner_rules.specs.declared.owner.Owner.{Owner}
 use Rattle.open_rules.specs.declared.parts.Parts.{Parts}
 use Rattle.refusals.specs.declared.refusal.Refusal.{Refusal}
 use Rattle.std.specs.Prelude.{ℕ}
+use Rattle.std.specs.Prelude.{Option, None}
+use Rattle.search_rules.specs.declared.part.Part.{Part}
 
 abbrev pub part_face : Reply PartTold → UzPart
 part_face (accepted (found_part at size rows heads)) =
@@ -58,9 +58,9 @@ owned_face (Err e) =
     record { refused = cause_number e.cause; refused_at = e.address; at = 0; in_payload = 0; depth = 0 }
 
 -- One of the five parts: an absent one is zeros.
-abbrev pub found_face : Part → UzFound
-found_face Absent = record { found = 0; at = 0; size = 0; rows = 0 }
-found_face (Found at size rows) = record { found = 1; at = at; size = size; rows = rows }
+abbrev pub found_face : Option Part → UzFound
+found_face None = record { found = 0; at = 0; size = 0; rows = 0 }
+found_face (Some p) = record { found = 1; at = p.at; size = p.size; rows = p.rows }
 
 abbrev pub opened_face : Result (Parts × ℕ) Refusal → UzOpened
 opened_face (Ok (parts, heads)) = record {
@@ -79,9 +79,9 @@ opened_face (Err e) = record {
   id = cause_id e.cause;
   refused_at = e.address;
   heads = 0;
-  info = found_face Absent;
-  tracks = found_face Absent;
-  attachments = found_face Absent;
-  chapters = found_face Absent;
-  tags = found_face Absent;
+  info = found_face None;
+  tracks = found_face None;
+  attachments = found_face None;
+  chapters = found_face None;
+  tags = found_face None;
 }

@@ -15,14 +15,10 @@ use Rattle.owner_rules.specs.Promise.{OwnerPromise, ChainPromise}
 use Rattle.owner_rules.specs.Way.{OwnerComes}
 use Rattle.search_rules.specs.Part.{reply_of, PartPromise}
 use Rattle.search_rules.specs.Faults.{SearchComes}
-use Rattle.search_rules.specs.declared.part.PartReply.{PartReply}
-use Rattle.search_rules.specs.declared.part.PartReply.TheVariants.{Found, Absent, Refused as NoPart}
 use Rattle.open_rules.specs.Tables.{Tables, sizes_of, zeroed}
 use Rattle.open_rules.specs.Promise.{OpenPromise}
 use Rattle.open_rules.specs.Faults.{OpenComes}
 use Rattle.open_rules.specs.Promise.{reply_of as open_reply}
-use Rattle.open_rules.specs.declared.parts.Part.{Part}
-use Rattle.open_rules.specs.declared.parts.Part.TheVariants.{Found as IsPart, Absent as NoSuch}
 use Rattle.open_rules.specs.declared.parts.Parts.{Parts}
 use Rattle.shown_rules.specs.Shown.{text_range}
 use Rattle.shown_rules.specs.Promise.{TextPromise}
@@ -40,6 +36,7 @@ use Rattle.std.specs.Prelude.{Result, Option, Ok, Err, Some, None}
 use Rattle.owner_rules.specs.declared.owner.Owner.{Owner}
 use Rattle.bodies_rules.specs.declared.body.Range.{Range}
 use Rattle.places_rules.specs.declared.whose.WhoseRow.{WhoseRow}
+use Rattle.search_rules.specs.declared.part.Part.{Part}
 
 -- Any two answers and tables that a promise permits to one question are equal (document 01, Strength of the promises).
 -- The numbers that stood in the lent table do not matter, only how many there are.
@@ -205,12 +202,12 @@ OpenTellsWhere =
 -- ---- each number crosses under its own name
 
 -- The reply of the call behind each function, name by name.
-abbrev pub part_named : PartReply → UzPart
-part_named (Found at size rows heads) =
-    record { refused = 0; id = 0; refused_at = 0; found = 1; at = at; size = size; rows = rows; heads = heads }
-part_named (Absent heads) =
+abbrev pub part_named : Result (Option (Option Part) × ℕ) Refusal → UzPart
+part_named (Ok (Some p, heads)) =
+    record { refused = 0; id = 0; refused_at = 0; found = 1; at = p.at; size = p.size; rows = p.rows; heads = heads }
+part_named (Ok (None, heads)) =
     record { refused = 0; id = 0; refused_at = 0; found = 0; at = 0; size = 0; rows = 0; heads = heads }
-part_named (NoPart e) =
+part_named (Err e) =
     record {
       refused = cause_number e.cause;
       id = cause_id e.cause;
@@ -234,7 +231,7 @@ place_named (Err e) =
 
 abbrev pub PartNamed : Type 0
 PartNamed =
-    (mode : ℕ) (live : Bool) (s : List ℕ) (part : ℕ) (t : List ℕ) (q : PartReply) (r : UzPart) (t' u' : List ℕ)
+    (mode : ℕ) (live : Bool) (s : List ℕ) (part : ℕ) (t : List ℕ) (q : Result (Option (Option Part) × ℕ) Refusal) (r : UzPart) (t' u' : List ℕ)
     → chosen_mode mode ≡ Some live → PartPromise live s part t q t' → UzPartPromise mode s part t r u' → r ≡ part_named q
 
 abbrev pub RangeNamed : Type 0
@@ -270,9 +267,9 @@ ChainNamed =
     → (r ≡ owned_face q) × (u' ≡ t')
 
 -- The five parts, each under its own name.
-abbrev pub found_named : Part → UzFound
-found_named NoSuch = record { found = 0; at = 0; size = 0; rows = 0 }
-found_named (IsPart at size rows) = record { found = 1; at = at; size = size; rows = rows }
+abbrev pub found_named : Option Part → UzFound
+found_named None = record { found = 0; at = 0; size = 0; rows = 0 }
+found_named (Some p) = record { found = 1; at = p.at; size = p.size; rows = p.rows }
 
 abbrev pub open_named : Result (Parts × ℕ) Refusal → UzOpened
 open_named (Ok (parts, heads)) = record {
@@ -291,11 +288,11 @@ open_named (Err e) = record {
   id = cause_id e.cause;
   refused_at = e.address;
   heads = 0;
-  info = found_named NoSuch;
-  tracks = found_named NoSuch;
-  attachments = found_named NoSuch;
-  chapters = found_named NoSuch;
-  tags = found_named NoSuch;
+  info = found_named None;
+  tracks = found_named None;
+  attachments = found_named None;
+  chapters = found_named None;
+  tags = found_named None;
 }
 
 -- The five tables are the very same too.

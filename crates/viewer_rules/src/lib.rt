@@ -1,7 +1,6 @@
 // What the C face tells: the structs that cross, and what their numbers are of the calls' replies.
 #![tactic(auto)]
 
-mod mode;
 mod opened;
 mod owned;
 mod part;

@@ -2,7 +2,6 @@
 // element, where an element of unknown size ends, and the place behind an element.
 #![tactic(auto)]
 
-mod pass;
 mod step;
 
 pub use step::Stretch;

@@ -8,7 +8,7 @@ use Rattle.listing.proofs.listed.part_lines.Goals as goal
 pub row_lines-requires : goal.row_lines-requires
 row_lines-requires c =
     let p = c.requires in
-    let f = rw c.in-Found.is at c.find_part.ensures in
+    let f = rw c.in-Ok.is at c.find_part.ensures in
     let k = found_few _ _ _ _ _ p.table_len _ _ _ _ f in
     let t = c.find_part.auto.table in
     let id = c.put_hexadecimal-named.ensures in
@@ -17,8 +17,8 @@ row_lines-requires c =
     let n = place.wrote.long in
     record { rows_in_bounds = omega arith; line_room_in_bounds = omega arith }
 
-pub put-requires-in-Refused : goal.put-requires-in-Refused
-put-requires-in-Refused c =
+pub put-requires-in-Err : goal.put-requires-in-Err
+put-requires-in-Err c =
     let p = c.requires in
     let id = c.put_hexadecimal-named.ensures in
     let number = c.put_decimal-number.ensures in
@@ -28,10 +28,10 @@ put-requires-in-Refused c =
     let o = address.wrote.long in
     omega arith
 
-pub returns-in-Absent : goal.returns-in-Absent
-returns-in-Absent c =
+pub returns-in-Ok : goal.returns-in-Ok
+returns-in-Ok c =
     let p = c.requires in
-    let f = rw c.in-Absent.is at c.find_part.ensures in
+    let f = rw c.in-Ok.is at c.find_part.ensures in
     let id = c.put_hexadecimal-named.ensures in
     let end = c.put.ensures in
     let e = end.ends in
@@ -41,14 +41,14 @@ returns-in-Absent c =
       upper_bound = omega arith;
     }
 
-pub returns-in-Refused : goal.returns-in-Refused
-returns-in-Refused c =
+pub returns-in-Err : goal.returns-in-Err
+returns-in-Err c =
     let p = c.requires in
-    let f = rw c.in-Refused.is at c.find_part.ensures in
+    let f = rw c.in-Err.is at c.find_part.ensures in
     let id = c.put_hexadecimal-named.ensures in
     let number = rw c.number.ensures at c.put_decimal-number.ensures in
     let address = c.put_decimal-address.ensures in
-    let end = c.put-in-Refused.ensures in
+    let end = c.put-in-Err.ensures in
     let e = end.ends in
     let m = id.wrote.long in
     let n = number.wrote.long in
@@ -60,10 +60,10 @@ returns-in-Refused c =
       upper_bound = omega arith;
     }
 
-pub returns-in-Found : goal.returns-in-Found
-returns-in-Found c =
+pub returns-in-Ok : goal.returns-in-Ok
+returns-in-Ok c =
     let p = c.requires in
-    let f = rw c.in-Found.is at c.find_part.ensures in
+    let f = rw c.in-Ok.is at c.find_part.ensures in
     let k = found_few _ _ _ _ _ p.table_len _ _ _ _ f in
     let id = c.put_hexadecimal-named.ensures in
     let place = c.place_text-placed.ensures in

@@ -1,3 +1,0 @@
-// The reply of `open`.
-use crate::parts::Parts;
-use refusals::Refusal;

@@ -1,1 +1,0 @@
-// The mode that a C caller names.

@@ -1,2 +1,0 @@
-// What passing over an element gives.
-use refusals::Refusal;
