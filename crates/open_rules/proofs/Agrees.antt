@@ -30,7 +30,7 @@ use Rattle.segments_rules.specs.Segment.{stretch_of, part_ids, aims_at, meets, m
 use Rattle.segments_rules.specs.Segment.{lookup_of}
 use Rattle.segments_rules.specs.declared.walk.Aim.{Aim}
 use Rattle.segments_rules.specs.declared.walk.Aim.TheVariants.{One}
-use Rattle.segments_rules.specs.declared.walk.Met.TheVariants.{Head, Part as PartIs, End}
+use Rattle.segments_rules.specs.declared.walk.Met.TheVariants.{Head, Part as PartIs}
 use Rattle.segments_rules.proofs.Meetings.{Reached, passed, visited, along_unfolds, less, head_met, search_as}
 use Rattle.search_rules.specs.Part.{PartPromise}
 use Rattle.search_rules.specs.Part.{parent_of as searched_under}
@@ -99,7 +99,7 @@ module _ (live : Bool) (s : List ℕ) (n : Sizes) (segment : Headed) (which : Wh
 
   abbrev Leads : ℕ → Type 0
   Leads at =
-      (ps : Parts) → met_from live s aim segment at ≡ Ok (Head head) → children_from live s n segment at ps ≡ read qs hs
+      (ps : Parts) → met_from live s aim segment at ≡ Ok (Some (Head head)) → children_from live s n segment at ps ≡ read qs hs
       → Comes ps
 
   by_turn : (at : ℕ)
@@ -115,7 +115,7 @@ module _ (live : Bool) (s : List ℕ) (n : Sizes) (segment : Headed) (which : Wh
       -- Behind a child that both pass over.
       by_pass : (e : Headed) → child_at live s (stretch_of live s segment) at ≡ Ok (Some e)
           → (rs : Parts) → part_of rs which ≡ part_of ps which → (y : Result ℕ Refusal) → passed live s segment e ≡ y
-          → on_passed y Err (λ next. met_from live s aim segment next) ≡ Ok (Head head)
+          → on_passed y Err (λ next. met_from live s aim segment next) ≡ Ok (Some (Head head))
           → on_passed y refused (λ next. children_from live s n segment next rs) ≡ read qs hs → Comes ps
       by_pass e q rs j (Ok next) p m k =
           let c = more e next q p rs m k in
@@ -124,7 +124,7 @@ module _ (live : Bool) (s : List ℕ) (n : Sizes) (segment : Headed) (which : Wh
 
       by_read : (e : Headed) → child_at live s (stretch_of live s segment) at ≡ Ok (Some e)
           → eqb e.header.id (id_of which) ≡ false → member e.header.id part_ids ≡ true
-          → on_passed (passed live s segment e) Err (λ next. met_from live s aim segment next) ≡ Ok (Head head)
+          → on_passed (passed live s segment e) Err (λ next. met_from live s aim segment next) ≡ Ok (Some (Head head))
           → (o : Outcome)
           → visited live s segment (opening live s n segment) e
           (on_outcome o (λ r. ends (refused r)) (λ f.
@@ -141,8 +141,8 @@ module _ (live : Bool) (s : List ℕ) (n : Sizes) (segment : Headed) (which : Wh
       by_id : (e : Headed) → child_at live s (stretch_of live s segment) at ≡ Ok (Some e)
           → (b : Bool) → eqb e.header.id seek_head_id ≡ b → (c : Bool) → eqb e.header.id (id_of which) ≡ c
           → (d : Bool) → member e.header.id part_ids ≡ d
-          → visited live s segment (meeting aim) e (cond b (ends (Ok (Head e))) (cond c (ends (Ok (PartIs e))) (over tt)))
-          ≡ Ok (Head head)
+          → visited live s segment (meeting aim) e (cond b (ends (Ok (Some (Head e)))) (cond c (ends (Ok (Some (PartIs e)))) (over tt)))
+          ≡ Ok (Some (Head head))
           → visited live s segment (opening live s n segment) e
           (cond b (ends (by_heads_all live s n start e ps))
           (cond d (taken live s n (which_of e.header.id) e ps (λ r. ends (refused r)) over) (over ps)))
@@ -161,7 +161,7 @@ module _ (live : Bool) (s : List ℕ) (n : Sizes) (segment : Headed) (which : Wh
       by_id e q false h false i false j m k = by_pass e q ps refl (passed live s segment e) refl m k
 
       by : (x : Result (Option Headed) Refusal) → child_at live s (stretch_of live s segment) at ≡ x
-          → on_child x (Ok End) Err (λ e. visited live s segment (meeting aim) e (meets aim e)) ≡ Ok (Head head)
+          → on_child x (Ok None) Err (λ e. visited live s segment (meeting aim) e (meets aim e)) ≡ Ok (Some (Head head))
           → on_child x (read ps []) refused (λ e.
           visited live s segment (opening live s n segment) e (visit live s n segment ps e))
           ≡ read qs hs
@@ -357,7 +357,7 @@ module _ (live : Bool) (s : List ℕ) (t : Tables) (ps : Parts) (k : ℕ) (t' : 
     looks : lookup_of live s id ≡ is
     unfolding lookup_of
     looks =
-        rw h.is_segment (search_as live s id h.segment (Ok (Head h.head)) h.is_first
+        rw h.is_segment (search_as live s id h.segment (Ok (Some (Head h.head))) h.is_first
         ∙ looked_up live s (sizes_of t) h.segment h.head is_head reached.0.child heads c which)
 
     -- The place has the heads of the chain.

@@ -30,7 +30,7 @@ use Rattle.seekchain_rules.specs.declared.heads.HeadsRead.{HeadsRead}
 use Rattle.segments_rules.specs.Segment.{stretch_of, past_child, aims_at, met_from}
 use Rattle.segments_rules.specs.Contract.{PastIn}
 use Rattle.segments_rules.specs.declared.walk.Aim.TheVariants.{Every}
-use Rattle.segments_rules.specs.declared.walk.Met.TheVariants.{Head, Part as PartIs, End}
+use Rattle.segments_rules.specs.declared.walk.Met.TheVariants.{Head, Part as PartIs}
 use Rattle.segments_rules.proofs.Meetings.{visited, first_met, after, Reached, head_met, part_met, less, passed}
 use Rattle.open_rules.specs.Parts.{id_of, which_of, order, placed}
 use Rattle.open_rules.specs.Tables.{Sizes, part_read}
@@ -237,7 +237,7 @@ module _ (live : Bool) (s : List ℕ) (n : Sizes) (segment : Headed) (at : ℕ) 
   unfolding visit aims_at
   skips e h a = rw (h, a) refl
 
-  by_met : (m : Result Met Refusal) → met_from live s Every segment at ≡ m
+  by_met : (m : Result (Option Met) Refusal) → met_from live s Every segment at ≡ m
       → o ≡ after live s segment Every w ps (read ps []) (λ place. refl) skips m
   by_met m k =
       q ∙ first_met live s segment Every w ps (read ps []) (λ place. refl) skips at
@@ -246,15 +246,15 @@ module _ (live : Bool) (s : List ℕ) (n : Sizes) (segment : Headed) (at : ℕ) 
   pub met_refused : (r : Refusal) → met_from live s Every segment at ≡ Err r → o ≡ refused r
   met_refused r k = by_met (Err r) k
 
-  pub met_end : met_from live s Every segment at ≡ (Ok End) → o ≡ read ps []
-  met_end k = by_met (Ok End) k
+  pub met_end : met_from live s Every segment at ≡ (Ok None) → o ≡ read ps []
+  met_end k = by_met (Ok None) k
 
-  pub met_head : (e : Headed) → met_from live s Every segment at ≡ Ok (Head e)
+  pub met_head : (e : Headed) → met_from live s Every segment at ≡ Ok (Some (Head e))
       → o ≡ by_heads_all live s n segment.payload.at e ps
   unfolding visit
-  met_head e k = by_met (Ok (Head e)) k ∙ rw (head_met live s segment Every at e k).1 refl
+  met_head e k = by_met (Ok (Some (Head e))) k ∙ rw (head_met live s segment Every at e k).1 refl
 
-  module _ (e : Headed) (k : met_from live s Every segment at ≡ Ok (PartIs e)) where
+  module _ (e : Headed) (k : met_from live s Every segment at ≡ Ok (Some (PartIs e))) where
     -- A part is read, and what stands behind it.
     abbrev passing : Parts → Opening
     passing qs =
@@ -265,7 +265,7 @@ module _ (live : Bool) (s : List ℕ) (n : Sizes) (segment : Headed) (at : ℕ) 
     unfolding visit aims_at
     met_taken =
         let m = part_met live s segment Every at e k in
-        by_met (Ok (PartIs e)) k ∙ rw (m.1, m.2)
+        by_met (Ok (Some (PartIs e))) k ∙ rw (m.1, m.2)
         (by (part_read live s n (which_of e.header.id) e.payload.at e.header.size))
       where
         by : (x : Outcome)
@@ -376,16 +376,16 @@ module _ (live : Bool) (s : List ℕ) (segment : Headed) (at : ℕ) (ps : Parts)
       → TurnsMet live s segment at ps (Over (Err r))
   meet_refused r k n o q = ends_refused live s n ps o r (met_refused live s n segment at ps o q r k)
 
-  pub meet_end : met_from live s Every segment at ≡ (Ok End) → TurnsMet live s segment at ps (Over (Ok (ps, 0)))
+  pub meet_end : met_from live s Every segment at ≡ (Ok None) → TurnsMet live s segment at ps (Over (Ok (ps, 0)))
   meet_end k n o q = ends_read live s n ps o [] 0 (met_end live s n segment at ps o q k) refl
 
-  pub meet_head : (e : Headed) → met_from live s Every segment at ≡ Ok (Head e) → (t : Turn)
+  pub meet_head : (e : Headed) → met_from live s Every segment at ≡ Ok (Some (Head e)) → (t : Turn)
       → TurnsHead live s segment.payload.at e ps t → TurnsMet live s segment at ps t
   meet_head e k t u n o q =
       turns_more live s n ps o 5 (left_of live s (From segment at)) (omega arith) t
       (u n o (met_head live s n segment at ps o q e k))
 
-  pub meet_part : (e : Headed) → met_from live s Every segment at ≡ Ok (PartIs e) → (which : Which)
+  pub meet_part : (e : Headed) → met_from live s Every segment at ≡ Ok (Some (PartIs e)) → (which : Which)
       → which ≡ which_of e.header.id → Readable s segment
       → TurnsMet live s segment at ps (Read which e (Behind segment e))
   meet_part e k which x r n o q = met_part live s n segment at ps o q e k which x r

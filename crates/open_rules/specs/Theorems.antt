@@ -110,7 +110,7 @@ pub record HeadFirst (live : Bool) (s : List ℕ) (id : ℕ) : Type 0 where
   pub segment : Headed
   pub is_segment : segment_of live s ≡ Ok segment
   pub head : Headed
-  pub is_first : met_from live s (One id) segment segment.payload.at ≡ Ok (Head head)
+  pub is_first : met_from live s (One id) segment segment.payload.at ≡ Ok (Some (Head head))
 
 -- Where `open` accepts and a head was reached, each of the four that the search knows and that was not met before that
 -- head has the search's own reply and table. It shuts out a call that takes the first entry of an id, or that looks

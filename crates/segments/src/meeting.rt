@@ -42,18 +42,20 @@ pub fn past_child(
     }
 }
 
+// The ids of the parts of a recording.
+const PARTS: [u32; 5] = [
+    ids::INFO,
+    ids::TRACKS,
+    ids::ATTACHMENTS,
+    ids::CHAPTERS,
+    ids::TAGS,
+];
+
 // Whether an id is that of a part of a recording.
 fn is_part(id: u32) -> bool
     ensures { result ≡ member id part_ids }
 {
-    match id {
-        ids::INFO => true,
-        ids::TRACKS => true,
-        ids::ATTACHMENTS => true,
-        ids::CHAPTERS => true,
-        ids::TAGS => true,
-        _ => false,
-    }
+    PARTS.contains(&id)
 }
 
 // Whether a walk looks for an id.
@@ -74,38 +76,21 @@ pub fn meet(
     aim: Aim,
     segment: Headed,
     from: u64,
-) -> Result<Met, Refusal>
+) -> Result<Option<Met>, Refusal>
     requires { Readable recording.now segment }
     ensures { result ≡ met_from live recording.now aim segment from }
 {
     let stretch = stretch_of(recording, live, segment);
     let mut at = from;
-    loop {
-        let place = Cursor { at };
-        match child_at(recording, live, place, stretch) {
-            Err(refusal) => {
-                return Err(refusal);
-            }
-            Ok(None) => {
-                return Ok(Met::End);
-            }
-            Ok(Some(child)) => {
-                let id = child.header.id;
-                if id == ids::SEEKHEAD {
-                    return Ok(Met::Head(child));
-                }
-                if aims_at(aim, id) {
-                    return Ok(Met::Part(child));
-                }
-                match past_child(recording, live, stretch, child) {
-                    Err(refusal) => {
-                        return Err(refusal);
-                    }
-                    Ok(next) => {
-                        at = next;
-                    }
-                }
-            }
+    while let Some(child) = child_at(recording, live, Cursor { at }, stretch)? {
+        let id = child.header.id;
+        if id == ids::SEEKHEAD {
+            return Ok(Some(Met::Head(child)));
         }
+        if aims_at(aim, id) {
+            return Ok(Some(Met::Part(child)));
+        }
+        at = past_child(recording, live, stretch, child)?;
     }
+    Ok(None)
 }

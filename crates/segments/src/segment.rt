@@ -17,31 +17,14 @@ pub fn segment_of(recording: &[u8], live: bool) -> Result<Headed, Refusal>
     let end = recording.len() as u64;
     let stretch = Stretch::Sized(end);
     let mut at: u64 = 0;
-    loop {
-        let place = Cursor { at };
-        match child_at(recording, live, place, stretch) {
-            Err(refusal) => {
-                return Err(refusal);
-            }
-            Ok(None) => {
-                return Err(Refusal {
-                    address: at,
-                    cause: Cause::PastEnd,
-                });
-            }
-            Ok(Some(element)) => {
-                if element.header.id == ids::SEGMENT {
-                    return Ok(element);
-                }
-                match pass_over(recording, live, end, element) {
-                    Err(refusal) => {
-                        return Err(refusal);
-                    }
-                    Ok(next) => {
-                        at = next;
-                    }
-                }
-            }
+    while let Some(element) = child_at(recording, live, Cursor { at }, stretch)? {
+        if element.header.id == ids::SEGMENT {
+            return Ok(element);
         }
+        at = pass_over(recording, live, end, element)?;
     }
+    Err(Refusal {
+        address: at,
+        cause: Cause::PastEnd,
+    })
 }

@@ -13,7 +13,6 @@ use header::{Cursor, Headed};
 use kinds::ids;
 use refusals::{Cause, Refusal};
 use seekchain::by_heads;
-use segments_rules::Visit;
 use sizes::is_unknown;
 use walks::{child_at, pass_over};
 use walks_rules::Stretch;
@@ -57,19 +56,26 @@ fn overruns(recording: &[u8], live: bool, segment: Headed, child: Headed) -> boo
     segment.payload.at + segment.header.size < child.payload.at + child.header.size
 }
 
-// What a child does to the search: a seek head leads on by its entries, the wanted part is found.
-fn visit_child(recording: &[u8], live: bool, wanted: u32, segment: Headed, child: Headed) -> Visit
+// What the search tells at a child: by the entries of a seek head, or that the child is the wanted part; none where it
+// goes on.
+fn visit_child(
+    recording: &[u8],
+    live: bool,
+    wanted: u32,
+    segment: Headed,
+    child: Headed,
+) -> Option<Result<(Option<Headed>, u64), Refusal>>
     requires { Readable recording.now child }
     ensures { result ≡ visit_told (visit_of live recording.now wanted segment child) }
 {
     let id = child.header.id;
     if id == ids::SEEKHEAD {
-        return Visit::Ends(by_heads(recording, live, wanted, segment.payload.at, child));
+        return Some(by_heads(recording, live, wanted, segment.payload.at, child));
     }
     if id == wanted {
-        return Visit::Ends(Ok((Some(child), 0)));
+        return Some(Ok((Some(child), 0)));
     }
-    Visit::Over
+    None
 }
 
 // The children of a segment whose header was read, in turn. The bytes of a child that is passed over need not exist; 3
@@ -86,38 +92,19 @@ fn walk(
     let stretch = stretch_of(recording, live, segment);
     let end = end_of(stretch);
     let mut at = segment.payload.at;
-    loop {
-        let place = Cursor { at };
-        match child_at(recording, live, place, stretch) {
-            Err(refusal) => {
-                return Err(refusal);
-            }
-            Ok(None) => {
-                return Ok((None, 0));
-            }
-            Ok(Some(child)) => match visit_child(recording, live, wanted, segment, child) {
-                Visit::Ends(found) => {
-                    return found;
-                }
-                Visit::Over => {
-                    if overruns(recording, live, segment, child) {
-                        return Err(Refusal {
-                            address: child.place.at,
-                            cause: Cause::Overrun,
-                        });
-                    }
-                    match pass_over(recording, live, end, child) {
-                        Err(refusal) => {
-                            return Err(refusal);
-                        }
-                        Ok(next) => {
-                            at = next;
-                        }
-                    }
-                }
-            },
+    while let Some(child) = child_at(recording, live, Cursor { at }, stretch)? {
+        if let Some(found) = visit_child(recording, live, wanted, segment, child) {
+            return found;
         }
+        if overruns(recording, live, segment, child) {
+            return Err(Refusal {
+                address: child.place.at,
+                cause: Cause::Overrun,
+            });
+        }
+        at = pass_over(recording, live, end, child)?;
     }
+    Ok((None, 0))
 }
 
 // Where the wanted part is.
@@ -125,8 +112,6 @@ pub fn look_up(recording: &[u8], live: bool, wanted: u32) -> Result<(Option<Head
     requires { length recording.now ≤ most_bytes }
     ensures { result ≡ place_told (lookup_of live recording.now wanted) }
 {
-    match segment_of(recording, live) {
-        Err(refusal) => Err(refusal),
-        Ok(segment) => walk(recording, live, wanted, segment),
-    }
+    let segment = segment_of(recording, live)?;
+    walk(recording, live, wanted, segment)
 }

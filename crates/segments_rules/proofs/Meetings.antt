@@ -27,7 +27,7 @@ use Rattle.segments_rules.specs.Segment.{meets, meeting, met_from, visit, search
 use Rattle.segments_rules.specs.Theorems.{after_met, SearchMeets}
 use Rattle.segments_rules.specs.declared.walk.Aim.{Aim}
 use Rattle.segments_rules.specs.declared.walk.Aim.TheVariants.{One}
-use Rattle.segments_rules.specs.declared.walk.Met.TheVariants.{Head, Part, End}
+use Rattle.segments_rules.specs.declared.walk.Met.TheVariants.{Head, Part}
 use Rattle.std.proofs.Common.{Result, Option, Ok, Err, Some, None}
 use Rattle.segments_rules.specs.declared.walk.Met.{Met}
 
@@ -100,10 +100,10 @@ module _ (live : Bool) (s : List ℕ) (segment : Headed) (aim : Aim) {A B : Type
     (skips :
     (e : Headed) → eqb e.header.id seek_head_id ≡ false → aims_at aim e.header.id ≡ false → w.visit a e ≡ over a)
   where
-    abbrev pub after : Result Met Refusal → B
-    after (Ok (Head e)) = visited live s segment w e (w.visit a e)
-    after (Ok (Part e)) = visited live s segment w e (w.visit a e)
-    after (Ok End) = z
+    abbrev pub after : Result (Option Met) Refusal → B
+    after (Ok (Some (Head e))) = visited live s segment w e (w.visit a e)
+    after (Ok (Some (Part e))) = visited live s segment w e (w.visit a e)
+    after (Ok None) = z
     after (Err r) = w.stop r
 
     abbrev Meets : ℕ → Type 0
@@ -128,7 +128,7 @@ module _ (live : Bool) (s : List ℕ) (segment : Headed) (aim : Aim) {A B : Type
         by_id : (e : Headed) → child_at live s (stretch_of live s segment) at ≡ Ok (Some e)
             → (b : Bool) → eqb e.header.id seek_head_id ≡ b → (c : Bool) → aims_at aim e.header.id ≡ c
             → visited live s segment w e (w.visit a e)
-            ≡ after (visited live s segment (meeting aim) e (cond b (ends (Ok (Head e))) (cond c (ends (Ok (Part e))) (over tt))))
+            ≡ after (visited live s segment (meeting aim) e (cond b (ends (Ok (Some (Head e)))) (cond c (ends (Ok (Some (Part e)))) (over tt))))
         by_id e q true p c o = refl
         by_id e q false p true o = refl
         by_id e q false p false o =
@@ -136,7 +136,7 @@ module _ (live : Bool) (s : List ℕ) (segment : Headed) (aim : Aim) {A B : Type
 
         by : (x : Result (Option Headed) Refusal) → child_at live s (stretch_of live s segment) at ≡ x
             → on_child x (w.ended at a) w.stop (λ e. visited live s segment w e (w.visit a e))
-            ≡ after (on_child x (Ok End) Err (λ e. visited live s segment (meeting aim) e (meets aim e)))
+            ≡ after (on_child x (Ok None) Err (λ e. visited live s segment (meeting aim) e (meets aim e)))
         by (Ok (Some e)) q = by_id e q (eqb e.header.id seek_head_id) refl (aims_at aim e.header.id) refl
         by (Ok None) q = at_end at
         by (Err r) q = refl
@@ -162,11 +162,11 @@ pub record Reached (live : Bool) (s : List ℕ) (segment : Headed) (from : ℕ) 
   pub room : room_of s (stretch_of live s segment) e.place.at ≤ room_of s (stretch_of live s segment) from
 
 module _ (live : Bool) (s : List ℕ) (segment : Headed) (aim : Aim) (from : ℕ) where
-  abbrev pub IsMet : Result Met Refusal → Type 0
-  IsMet (Ok (Head e)) = Reached live s segment from e × (eqb e.header.id seek_head_id ≡ true)
-  IsMet (Ok (Part e)) =
+  abbrev pub IsMet : Result (Option Met) Refusal → Type 0
+  IsMet (Ok (Some (Head e))) = Reached live s segment from e × (eqb e.header.id seek_head_id ≡ true)
+  IsMet (Ok (Some (Part e))) =
       Reached live s segment from e × (eqb e.header.id seek_head_id ≡ false) × (aims_at aim e.header.id ≡ true)
-  IsMet (Ok End) = Unit
+  IsMet (Ok None) = Unit
   IsMet (Err r) = Unit
 
   abbrev stretch' : Stretch
@@ -203,7 +203,7 @@ module _ (live : Bool) (s : List ℕ) (segment : Headed) (aim : Aim) (from : ℕ
       by_id : (e : Headed) → Reached live s segment from e
           → (b : Bool) → eqb e.header.id seek_head_id ≡ b → (c : Bool) → aims_at aim e.header.id ≡ c
           → HoldsEnded {A = Unit} IsMet
-          (on_visit (cond b (ends (Ok (Head e))) (cond c (ends (Ok (Part e))) (over tt))) ends (λ more.
+          (on_visit (cond b (ends (Ok (Some (Head e)))) (cond c (ends (Ok (Some (Part e)))) (over tt))) ends (λ more.
           cond (overruns live segment e) (ends (Err (overrun e.place.at))) (over more)))
       by_id e r true p c o = (r, p)
       by_id e r false p true o = (r, p, o)
@@ -211,13 +211,13 @@ module _ (live : Bool) (s : List ℕ) (segment : Headed) (aim : Aim) (from : ℕ
 
 -- What an element that is met is.
 pub head_met : (live : Bool) (s : List ℕ) (segment : Headed) (aim : Aim) (from : ℕ) (e : Headed)
-    → met_from live s aim segment from ≡ Ok (Head e)
+    → met_from live s aim segment from ≡ Ok (Some (Head e))
     → Reached live s segment from e × (eqb e.header.id seek_head_id ≡ true)
 head_met live s segment aim from e q =
     subst (IsMet live s segment aim from) q (is_met live s segment aim from)
 
 pub part_met : (live : Bool) (s : List ℕ) (segment : Headed) (aim : Aim) (from : ℕ) (e : Headed)
-    → met_from live s aim segment from ≡ Ok (Part e)
+    → met_from live s aim segment from ≡ Ok (Some (Part e))
     → Reached live s segment from e × (eqb e.header.id seek_head_id ≡ false) × (aims_at aim e.header.id ≡ true)
 part_met live s segment aim from e q =
     subst (IsMet live s segment aim from) q (is_met live s segment aim from)
@@ -238,17 +238,17 @@ search_meets live s wanted segment at =
     (λ e p o. rw (p, o) refl) at
     ∙ by (met_from live s (One wanted) segment at) (is_met live s segment (One wanted) at)
   where
-    by : (m : Result Met Refusal) → IsMet live s segment (One wanted) at m
+    by : (m : Result (Option Met) Refusal) → IsMet live s segment (One wanted) at m
         → after live s segment (One wanted) (searching live s wanted segment) tt (absent []) (λ place. refl)
         (λ e p o. rw (p, o) refl) m
         ≡ after_met live s wanted segment m
-    by (Ok (Head e)) (r, p) = rw p refl
-    by (Ok (Part e)) (r, p, o) = rw (p, o) refl
-    by (Ok End) m = refl
+    by (Ok (Some (Head e))) (r, p) = rw p refl
+    by (Ok (Some (Part e))) (r, p, o) = rw (p, o) refl
+    by (Ok None) m = refl
     by (Err r) m = refl
 
 -- The search in a segment, by what is met from its start on.
-pub search_as : (live : Bool) (s : List ℕ) (wanted : ℕ) (segment : Headed) (m : Result Met Refusal)
+pub search_as : (live : Bool) (s : List ℕ) (wanted : ℕ) (segment : Headed) (m : Result (Option Met) Refusal)
     → met_from live s (One wanted) segment segment.payload.at ≡ m
     → segment_children live s wanted segment ≡ after_met live s wanted segment m
 unfolding segment_children

@@ -13,7 +13,7 @@ use Rattle.seekhead_rules.specs.Seeks.{seek_head_id}
 use Rattle.segments_rules.specs.Segment.{stretch_of, aims_at, meets, meeting, met_from}
 use Rattle.segments_rules.specs.Contract.{PastIn}
 use Rattle.segments_rules.specs.declared.walk.Aim.{Aim}
-use Rattle.segments_rules.specs.declared.walk.Met.TheVariants.{Head, Part, End}
+use Rattle.segments_rules.specs.declared.walk.Met.TheVariants.{Head, Part}
 use Rattle.segments_rules.proofs.Meetings.{passed, along_unfolds, less}
 use Rattle.std.proofs.Common.{Result, Option, Ok, Err, Some, None}
 
@@ -29,16 +29,16 @@ module _ (live : Bool) (s : List ℕ) (aim : Aim) (segment : Headed) (stretch : 
   pub turn_refused : (r : Refusal) → child_at live s stretch at ≡ Err r → Err r ≡ met_from live s aim segment from
   turn_refused r q = rw (g, along_unfolds live s segment (meeting aim) at tt, steps (Err r) q) refl
 
-  pub turn_ended : child_at live s stretch at ≡ (Ok None) → (Ok End) ≡ met_from live s aim segment from
+  pub turn_ended : child_at live s stretch at ≡ (Ok None) → (Ok None) ≡ met_from live s aim segment from
   turn_ended q = rw (g, along_unfolds live s segment (meeting aim) at tt, steps (Ok None) q) refl
 
   module _ (e : Headed) (q : child_at live s stretch at ≡ Ok (Some e)) where
-    pub turn_head : eqb e.header.id seek_head_id ≡ true → Ok (Head e) ≡ met_from live s aim segment from
+    pub turn_head : eqb e.header.id seek_head_id ≡ true → Ok (Some (Head e)) ≡ met_from live s aim segment from
     unfolding meets
     turn_head h = rw (g, along_unfolds live s segment (meeting aim) at tt, steps (Ok (Some e)) q, h) refl
 
     module _ (h : eqb e.header.id seek_head_id ≡ false) where
-      pub turn_part : aims_at aim e.header.id ≡ true → Ok (Part e) ≡ met_from live s aim segment from
+      pub turn_part : aims_at aim e.header.id ≡ true → Ok (Some (Part e)) ≡ met_from live s aim segment from
       unfolding meets
       turn_part o = rw (g, along_unfolds live s segment (meeting aim) at tt, steps (Ok (Some e)) q, h, o) refl
 

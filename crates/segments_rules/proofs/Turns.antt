@@ -14,7 +14,6 @@ use Rattle.walks_rules.proofs.Endings.{pass_onward}
 use Rattle.seekchain_rules.specs.Contract.{place_told}
 use Rattle.segments_rules.specs.Segment.{stretch_of, overruns, visit, segment_children_from, segment_children}
 use Rattle.segments_rules.specs.Contract.{visit_told}
-use Rattle.segments_rules.specs.declared.walk.Visit.TheVariants.{Ends, Over}
 use Rattle.segments_rules.proofs.Walks.{children_unfold, child_ends, child_over}
 use Rattle.std.proofs.Common.{Result, Option, Ok, Err, Some, None}
 
@@ -38,10 +37,10 @@ module _ (live : Bool) (s : List ℕ) (wanted : ℕ) (segment : Headed) (stretch
   turn_ended q = rw (g, children_unfold live s wanted segment at, steps (Ok None) q) refl
 
   module _ (e : Headed) (q : child_at live s stretch at ≡ Ok (Some e)) where
-    pub turn_ends : (p : Result (Option Headed × ℕ) Refusal) → Ends p ≡ visit_told (visit live s wanted segment e) → p ≡ told
+    pub turn_ends : (p : Result (Option Headed × ℕ) Refusal) → Some p ≡ visit_told (visit live s wanted segment e) → p ≡ told
     turn_ends p w = child_ends live s wanted segment at e (steps (Ok (Some e)) q) p w ∙ sym (ap place_told g)
 
-    module _ (o : Over ≡ visit_told (visit live s wanted segment e)) where
+    module _ (o : None ≡ visit_told (visit live s wanted segment e)) where
       pub turn_overruns : overruns live segment e ≡ true → Err (overrun e.place.at) ≡ told
       turn_overruns b = rw (g, child_over live s wanted segment at e (steps (Ok (Some e)) q) o, b) refl
 

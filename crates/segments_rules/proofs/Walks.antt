@@ -25,7 +25,6 @@ use Rattle.segments_rules.specs.Segment.{seeking, segment_from, segment_of, stre
 use Rattle.segments_rules.specs.Segment.{visit, searching, segment_children_from}
 use Rattle.segments_rules.specs.Theorems.{SegmentUnfolds, ChildrenUnfold}
 use Rattle.segments_rules.specs.Contract.{visit_told}
-use Rattle.segments_rules.specs.declared.walk.Visit.TheVariants.{Ends, Over}
 use Rattle.std.proofs.Common.{Result, Option, Ok, Err, Some, None}
 
 pub segment_unfolds : SegmentUnfolds
@@ -113,20 +112,20 @@ module _ (live : Bool) (s : List ℕ) (wanted : ℕ) (segment : Headed) (at : �
       ≡ seen_as live s wanted segment e (visit live s wanted segment e)
   visited = turned live s wanted segment at ∙ rw q refl
 
-  pub child_ends : (p : Result (Option Headed × ℕ) Refusal) → Ends p ≡ visit_told (visit live s wanted segment e)
+  pub child_ends : (p : Result (Option Headed × ℕ) Refusal) → Some p ≡ visit_told (visit live s wanted segment e)
       → p ≡ place_told (segment_children_from live s wanted segment at)
   child_ends p w = go (visit live s wanted segment e) w ∙ sym (ap place_told visited)
     where
-      go : (v : Visit Unit Lookup) → Ends p ≡ visit_told v → p ≡ place_told (seen_as live s wanted segment e v)
+      go : (v : Visit Unit Lookup) → Some p ≡ visit_told v → p ≡ place_told (seen_as live s wanted segment e v)
       go (ends x) w = cc
       go (over known) w = let z : ◌≡◌ {A = ℕ} 0 1 = cc in absurd (omega arith)
 
-  pub child_over : Over ≡ visit_told (visit live s wanted segment e)
+  pub child_over : None ≡ visit_told (visit live s wanted segment e)
       → segment_children_from live s wanted segment at
       ≡ cond (overruns live segment e) (stopped (overrun e.place.at)) (rest_behind live s wanted segment e)
   child_over w = visited ∙ go (visit live s wanted segment e) w
     where
-      go : (v : Visit Unit Lookup) → Over ≡ visit_told v
+      go : (v : Visit Unit Lookup) → None ≡ visit_told v
           → seen_as live s wanted segment e v
           ≡ cond (overruns live segment e) (stopped (overrun e.place.at)) (rest_behind live s wanted segment e)
       go (over known) w = by_over live s wanted segment e (overruns live segment e)

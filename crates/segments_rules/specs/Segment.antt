@@ -15,8 +15,8 @@ use Rattle.seekhead_rules.specs.Seeks.{segment_id, seek_head_id}
 use Rattle.seekchain_rules.specs.Lookup.{Lookup, found, absent, stopped, by_heads}
 use Rattle.segments_rules.specs.declared.walk.Aim.{Aim}
 use Rattle.segments_rules.specs.declared.walk.Aim.TheVariants.{One, Every}
-use Rattle.segments_rules.specs.declared.walk.Met.TheVariants.{Head, Part, End}
-use Rattle.std.specs.Prelude.{Result, Ok, Err}
+use Rattle.segments_rules.specs.declared.walk.Met.TheVariants.{Head, Part}
+use Rattle.std.specs.Prelude.{Result, Option, Ok, Err, Some, None}
 use Rattle.segments_rules.specs.declared.walk.Met.{Met}
 use Rattle.refusals.specs.declared.refusal.Refusal.{Refusal}
 
@@ -81,16 +81,16 @@ aims_at (One part) id = eqb id part
 aims_at Every id = member id part_ids
 
 -- A seek head ends the walk, and a part that is looked for; anything else is passed over.
-unfoldable pub meets : Aim → Headed → Visit Unit (Result Met Refusal)
+unfoldable pub meets : Aim → Headed → Visit Unit (Result (Option Met) Refusal)
 meets aim e =
-    cond (eqb e.header.id seek_head_id) (ends (Ok (Head e)))
-    (cond (aims_at aim e.header.id) (ends (Ok (Part e))) (over tt))
+    cond (eqb e.header.id seek_head_id) (ends (Ok (Some (Head e))))
+    (cond (aims_at aim e.header.id) (ends (Ok (Some (Part e)))) (over tt))
 
-abbrev pub meeting : Aim → Walk Unit (Result Met Refusal)
-meeting aim = record { visit = λ known e. meets aim e; ended = λ at known. (Ok End); stop = Err }
+abbrev pub meeting : Aim → Walk Unit (Result (Option Met) Refusal)
+meeting aim = record { visit = λ known e. meets aim e; ended = λ at known. (Ok None); stop = Err }
 
 -- What is met first from an address on.
-abbrev pub met_from : (live : Bool) → List ℕ → Aim → (segment : Headed) (at : ℕ) → Result Met Refusal
+abbrev pub met_from : (live : Bool) → List ℕ → Aim → (segment : Headed) (at : ℕ) → Result (Option Met) Refusal
 met_from live s aim segment at =
     walk_from live s (stretch_of live s segment) (within_segment live segment (meeting aim)) at tt
 

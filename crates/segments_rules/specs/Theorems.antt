@@ -11,8 +11,8 @@ use Rattle.seekhead_rules.specs.Seeks.{segment_id, seek_head_id}
 use Rattle.seekchain_rules.specs.Lookup.{Lookup, found, absent, stopped, by_heads}
 use Rattle.segments_rules.specs.Segment.{segment_from, stretch_of, overruns, met_from, segment_children_from}
 use Rattle.segments_rules.specs.declared.walk.Aim.TheVariants.{One}
-use Rattle.segments_rules.specs.declared.walk.Met.TheVariants.{Head, Part, End}
-use Rattle.std.specs.Prelude.{Result, Ok, Err}
+use Rattle.segments_rules.specs.declared.walk.Met.TheVariants.{Head, Part}
+use Rattle.std.specs.Prelude.{Result, Option, Ok, Err, Some, None}
 use Rattle.segments_rules.specs.declared.walk.Met.{Met}
 use Rattle.refusals.specs.declared.refusal.Refusal.{Refusal}
 
@@ -38,10 +38,10 @@ ChildrenUnfold =
     (segment_children_from live s wanted segment)))))
 
 -- What the search does with what is met first.
-abbrev pub after_met : (live : Bool) → List ℕ → (wanted : ℕ) (segment : Headed) → Result Met Refusal → Lookup
-after_met live s wanted segment (Ok (Head e)) = by_heads live s wanted segment.payload.at e
-after_met live s wanted segment (Ok (Part e)) = found e []
-after_met live s wanted segment (Ok End) = absent []
+abbrev pub after_met : (live : Bool) → List ℕ → (wanted : ℕ) (segment : Headed) → Result (Option Met) Refusal → Lookup
+after_met live s wanted segment (Ok (Some (Head e))) = by_heads live s wanted segment.payload.at e
+after_met live s wanted segment (Ok (Some (Part e))) = found e []
+after_met live s wanted segment (Ok None) = absent []
 after_met live s wanted segment (Err e) = stopped e
 
 -- The search for a part is by the first child that the walk meets which every search and `open` share. It shuts out a

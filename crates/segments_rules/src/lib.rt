@@ -3,4 +3,4 @@
 
 mod walk;
 
-pub use walk::{Aim, Met, Visit};
+pub use walk::{Aim, Met};

@@ -5,9 +5,9 @@ use Rattle.header.specs.declared.cursor.Headed.{Headed}
 use Rattle.segments_rules.specs.Segment.{stretch_of, met_from}
 use Rattle.segments.proofs.meeting.meet.Given as goal
 
-abbrev pub invariant-loop-refusal : goal.invariant-loop-refusal
-invariant-loop-refusal l = (segment : Headed) → l.stretch ≡ stretch_of l.live l.recording segment
+abbrev pub invariant-loop-child : goal.invariant-loop-child
+invariant-loop-child l = (segment : Headed) → l.stretch ≡ stretch_of l.live l.recording segment
     → met_from l.live l.recording l.aim segment l.from ≡ met_from l.live l.recording l.aim segment l.at
 
-abbrev pub decreases-loop-refusal : goal.decreases-loop-refusal
-decreases-loop-refusal l = room_of l.recording l.stretch l.at
+abbrev pub decreases-loop-child : goal.decreases-loop-child
+decreases-loop-child l = room_of l.recording l.stretch l.at

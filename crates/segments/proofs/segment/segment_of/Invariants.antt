@@ -4,8 +4,8 @@ use mathlib.Core.Path.{◌≡◌}
 use Rattle.segments_rules.specs.Segment.{segment_from, segment_of}
 use Rattle.segments.proofs.segment.segment_of.Given as goal
 
-abbrev pub invariant-loop-refusal : goal.invariant-loop-refusal
-invariant-loop-refusal l = segment_of l.live l.recording ≡ segment_from l.live l.recording l.at
+abbrev pub invariant-loop-element : goal.invariant-loop-element
+invariant-loop-element l = segment_of l.live l.recording ≡ segment_from l.live l.recording l.at
 
-abbrev pub decreases-loop-refusal : goal.decreases-loop-refusal
-decreases-loop-refusal l = l.end - l.at
+abbrev pub decreases-loop-element : goal.decreases-loop-element
+decreases-loop-element l = l.end - l.at

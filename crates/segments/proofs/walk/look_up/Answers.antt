@@ -1,4 +1,5 @@
 -- `look_up`: the segment, then the walk over its children. Assumes nothing.
+use Rattle.booleans.proofs.Handed.{handed}
 use mathlib.Core.Path.{refl, sym, ◌∙◌}
 use Rattle.segments_rules.specs.Segment.{lookup_of}
 use Rattle.segments_rules.proofs.Walks.{segment_there}
@@ -8,14 +9,15 @@ pub walk-requires : goal.walk-requires
 walk-requires c =
     record {
       small = c.requires;
-      there = segment_there _ _ _ (sym c.segment_of.ensures ∙ c.in-Ok.is);
+      there = segment_there _ _ _ (sym c.segment_of.ensures ∙ c.in_ok-segment.was);
     }
 
-pub returns-in-Err : goal.returns-in-Err
+pub returns-in_err-segment : goal.returns-in_err-segment
 unfolding lookup_of
-returns-in-Err c = rw (sym c.segment_of.ensures ∙ c.in-Err.is) refl
+returns-in_err-segment c =
+    handed _ c.from_residual.ensures.1 ∙ rw (sym c.segment_of.ensures ∙ c.in_err-segment.was) refl
 
-pub returns-in-Ok : goal.returns-in-Ok
+pub returns : goal.returns
 unfolding lookup_of
-returns-in-Ok c =
-    rw (sym c.segment_of.ensures ∙ c.in-Ok.is) c.walk.ensures
+returns c =
+    rw (sym c.segment_of.ensures ∙ c.in_ok-segment.was) c.walk.ensures
