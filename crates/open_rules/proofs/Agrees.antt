@@ -391,7 +391,7 @@ module _ (live : Bool) (s : List ℕ) (t : Tables) (ps : Parts) (k : ℕ) (t' : 
     agrees (absent_at hs) q w =
         subst (λ (y : Option Part). PartPromise live s id (of t which) (as_searched y k) (of t' which)) (sym w)
         (find_absent live s id (of t which) fits parent u k (of t' which)
-        (ap Ok (None, absent_heads hs q) ∙ sym (ap place_told (looks ∙ q)))
+        (ap (λ (m : ℕ). Ok (None, m)) (absent_heads hs q) ∙ sym (ap place_told (looks ∙ q)))
         (all_zeroed.absent live s t ps k t' p which w))
     agrees (stopped_at r) q w = absurd w
 

@@ -1,4 +1,5 @@
 -- What `open` comes to from one part that it reads to the next, over plain values. Assumes nothing.
+use Rattle.booleans.proofs.Pairs.{ok_halves}
 use Prim.Native.Nat.{ℕ, zero, suc, ◌+◌, ◌-◌, ◌≤◌, ◌<◌}
 use mathlib.Core.Path.{◌≡◌, refl, sym, ap, ◌∙◌, subst}
 use mathlib.Core.List.{List, [], ◌∷◌}
@@ -168,7 +169,8 @@ module _ (live : Bool) (s : List ℕ) (n : Sizes) (seeking : Seeking) (ps : Part
         where
           by : (p : Lookup) → Ok (None, k) ≡ place_told p
               → on_lookup live s n p (λ e. taken live s n which e ps refused rest) (rest ps) ≡ rest ps
-          by (found_at a b) h = let z : ◌≡◌ {A = ℕ} 0 1 = cc in absurd (omega arith)
+          by (found_at a b) h =
+              let g = (ok_halves h).0 in let z : ◌≡◌ {A = ℕ} 0 1 = cc in absurd (omega arith)
           by (absent_at b) h = refl
           by (stopped_at e') h = let z : ◌≡◌ {A = ℕ} 0 1 = cc in absurd (omega arith)
 
@@ -189,8 +191,12 @@ module _ (live : Bool) (s : List ℕ) (n : Sizes) (seeking : Seeking) (ps : Part
           by : (p : Lookup) → Ok (Some e, k) ≡ place_told p
               → on_lookup live s n p (λ e. taken live s n which e ps refused rest) (rest ps)
               ≡ taken live s n which e ps refused rest
-          by (found_at a b) h = cc
-          by (absent_at b) h = let z : ◌≡◌ {A = ℕ} 0 1 = cc in absurd (omega arith)
+          by (found_at a b) h =
+              let g = (ok_halves h).0 in
+              let c : e ≡ a = cc in
+              ap (λ (x : Headed). taken live s n which x ps refused rest) (sym c)
+          by (absent_at b) h =
+              let g = (ok_halves h).0 in let z : ◌≡◌ {A = ℕ} 0 1 = cc in absurd (omega arith)
           by (stopped_at e') h = let z : ◌≡◌ {A = ℕ} 0 1 = cc in absurd (omega arith)
 
           found : o ≡ taken live s n which e ps refused rest
@@ -213,17 +219,29 @@ module _ (live : Bool) (s : List ℕ) (n : Sizes) (start : ℕ) (first : Headed)
       by (chained heads) h = let z : ◌≡◌ {A = ℕ} 0 1 = cc in absurd (omega arith)
       by (broken e) h = cc
 
-  pub heads_read : (links : Positions) (k last : ℕ)
-      → Ok (record { parts = links; heads = k; last = last }) ≡ heads_told every (linked_heads live s start first)
-      → Stands live s n (Sought (record { start = start; links = links; heads = k; last = last }) 0) ps o
+  pub heads_read : (h : HeadsRead) → Ok h ≡ heads_told every (linked_heads live s start first)
+      → Stands live s n (Sought (record { start = start; links = h.parts; heads = h.heads; last = h.last }) 0) ps o
   unfolding by_heads_all
-  heads_read links k last h = by (linked_heads live s start first) h q
+  heads_read h k = by (linked_heads live s start first) k q
     where
-      by : (c : Chain) → Ok (record { parts = links; heads = k; last = last }) ≡ heads_told every c
+      by : (c : Chain) → Ok h ≡ heads_told every c
           → o ≡ on_chain live s n c (λ heads. sought_from live s n start heads order ps)
-          → Stands live s n (Sought (record { start = start; links = links; heads = k; last = last }) 0) ps o
-      by (chained heads) h w = (heads, record { links = cc; counted = cc; last = cc }, w)
-      by (broken e) h w = let z : ◌≡◌ {A = ℕ} 0 1 = cc in absurd (omega arith)
+          → Stands live s n (Sought (record { start = start; links = h.parts; heads = h.heads; last = h.last }) 0) ps o
+      by (chained heads) k w =
+          let e : h ≡ record {
+            parts = positions every heads.entries;
+            heads = length heads.addresses;
+            last = last_head heads.addresses;
+          } = cc in (
+            heads,
+            record {
+              links = ap (λ (x : HeadsRead). x.parts) e;
+              counted = sym (ap (λ (x : HeadsRead). x.heads) e);
+              last = sym (ap (λ (x : HeadsRead). x.last) e);
+            },
+            w,
+          )
+      by (broken e) k w = let z : ◌≡◌ {A = ℕ} 0 1 = cc in absurd (omega arith)
 
 -- ---- before the heads
 
@@ -365,11 +383,10 @@ module _ (live : Bool) (s : List ℕ) (start : ℕ) (first : Headed) (ps : Parts
       → TurnsHead live s start first ps (Over (Err r))
   head_broken r h n o q = ends_refused live s n ps o r (heads_broken live s n start first ps o q r h)
 
-  pub head_read : (links : Positions) (k last : ℕ)
-      → Ok (record { parts = links; heads = k; last = last }) ≡ heads_told every (linked_heads live s start first) → (t : Turn)
-      → TurnsSought live s (record { start = start; links = links; heads = k; last = last }) 0 ps t
+  pub head_read : (h : HeadsRead) → Ok h ≡ heads_told every (linked_heads live s start first) → (t : Turn)
+      → TurnsSought live s (record { start = start; links = h.parts; heads = h.heads; last = h.last }) 0 ps t
       → TurnsHead live s start first ps t
-  head_read links k last h t u n o q = u n o (heads_read live s n start first ps o q links k last h)
+  head_read h k t u n o q = u n o (heads_read live s n start first ps o q h k)
 
 module _ (live : Bool) (s : List ℕ) (segment : Headed) (at : ℕ) (ps : Parts) where
   pub meet_refused : (r : Refusal) → met_from live s Every segment at ≡ Err r

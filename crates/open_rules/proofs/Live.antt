@@ -341,10 +341,11 @@ table_same s t ps k t' u' p q which = by (part_of ps which) refl
 
     by : (x : Option Part) → part_of ps which ≡ x → of u' which ≡ of t' which
     by None e = all_zeroed.absent true s t ps k u' q which e ∙ sym (all_zeroed.absent false s t ps k t' p which e)
-    by (Some p) e =
-        read_same p.rows
-        (live_reads s p.at p.size (parent_of which) (of t which) (Ok p.rows) (Ok p.rows) (of t' which) (of u' which)
-        (open_is_read false s t ps k t' p which p.at p.size p.rows e) (open_is_read true s t ps k u' q which p.at p.size p.rows e))
+    by (Some part) e =
+        read_same part.rows
+        (live_reads s part.at part.size (parent_of which) (of t which) (Ok part.rows) (Ok part.rows) (of t' which)
+        (of u' which) (open_is_read false s t ps k t' p which part.at part.size part.rows e)
+        (open_is_read true s t ps k u' q which part.at part.size part.rows e))
 
 pub equal_opens : EqualOpens
 equal_opens s t r r' t' u' k p q =

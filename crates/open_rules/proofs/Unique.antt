@@ -1,5 +1,6 @@
 -- Any two replies and tables that the promise of `open` permits are equal (`OneOpen`), its refusals are listed
 -- (`OpenRefusesListed`), and what is not found is zeros (`AllZeroed`). Assumes nothing.
+use Rattle.booleans.proofs.Pairs.{ok_halves}
 use Prim.Native.Nat.{ℕ}
 use mathlib.Core.Path.{◌≡◌, refl, sym, ap, ◌∙◌}
 use mathlib.Core.List.{List}
@@ -32,7 +33,8 @@ open_refuses_listed live s t e t' p = listed e
 
 pub reply_read : (ps : Parts) (k : ℕ) (o : Opening) → Ok (ps, k) ≡ reply_of o
     → (heads : List ℕ) × (o ≡ read ps heads) × (k ≡ length heads)
-reply_read ps k (read qs heads) q = (heads, ap (λ (x : Parts). read x heads) cc, cc)
+reply_read ps k (read qs heads) q =
+    let (a, b) = ok_halves q in (heads, ap (λ (x : Parts). read x heads) (sym a), b)
 reply_read ps k (refused e) q = let z : ◌≡◌ {A = ℕ} 0 1 = cc in absurd (omega arith)
 
 pub reply_refused : (e : Refusal) (o : Opening) → Err e ≡ reply_of o → o ≡ refused e

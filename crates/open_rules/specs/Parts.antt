@@ -4,7 +4,7 @@ use Rattle.std.specs.Prelude.{ℕ, List, [], ◌∷◌, cond, eqb}
 use Rattle.open_rules.specs.declared.parts.Which.{Which}
 use Rattle.open_rules.specs.declared.parts.Which.TheVariants.{Info, Tracks, Attachments, Chapters, Tags}
 use Rattle.open_rules.specs.declared.parts.Parts.{Parts}
-use Rattle.std.specs.Prelude.{Option, None}
+use Rattle.std.specs.Prelude.{Option, Some, None}
 use Rattle.search_rules.specs.declared.part.Part.{Part}
 
 abbrev pub id_of : Which → ℕ

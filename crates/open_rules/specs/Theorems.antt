@@ -101,9 +101,8 @@ OpenIsPart =
 -- ---- beside the search
 
 -- A part as the search tells it.
-abbrev pub as_searched : Option Part → (heads : ℕ) → Result (Option (Option Part) × ℕ) Refusal
-as_searched None heads = Ok (None, heads)
-as_searched (Some p) heads = Ok (Some (record { at = p.at; size = p.size; rows = p.rows }), heads)
+abbrev pub as_searched : Option Part → (heads : ℕ) → Result (Option Part × ℕ) Refusal
+as_searched p heads = Ok (p, heads)
 
 -- The segment's first seek head stands before any part of that id.
 pub record HeadFirst (live : Bool) (s : List ℕ) (id : ℕ) : Type 0 where

@@ -40,22 +40,18 @@ pub fn find_part(
             cause: Cause::BadArgument,
         });
     }
-    match parent_of(part) {
-        None => Err(Refusal {
+    let Some(parent) = parent_of(part) else {
+        return Err(Refusal {
             address: 0,
             cause: Cause::BadArgument,
-        }),
-        Some(parent) => match look_up(recording, live, part) {
-            Err(refusal) => Err(refusal),
-            Ok((None, heads)) => Ok((None, heads)),
-            Ok((Some(found), heads)) => {
-                let at = found.payload.at;
-                let size = found.header.size;
-                match fill(recording, live, at, size, parent, table) {
-                    Err(refusal) => Err(refusal),
-                    Ok(rows) => Ok((Some(Part { at, size, rows }), heads)),
-                }
-            }
-        },
-    }
+        });
+    };
+    let (found, heads) = look_up(recording, live, part)?;
+    let Some(element) = found else {
+        return Ok((None, heads));
+    };
+    let at = element.payload.at;
+    let size = element.header.size;
+    let rows = fill(recording, live, at, size, parent, table)?;
+    Ok((Some(Part { at, size, rows }), heads))
 }
