@@ -78,13 +78,7 @@ pub fn rows_of(parts: Parts, which: Which) -> u64
 {
     match part_of(parts, which) {
         None => 0,
-        Some(
-            Part {
-                at: _,
-                size: _,
-                rows: rows,
-            },
-        ) => rows,
+        Some(part) => part.rows,
     }
 }
 

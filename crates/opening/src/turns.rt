@@ -9,8 +9,8 @@ use header::Headed;
 use kinds::ids;
 use open_rules::{Parts, Seeking, Stage, Turn, Which};
 use refusals::Refusal;
+use search_rules::Part;
 use seekchain::{linked_heads, part_at};
-use seekchain_rules::HeadsRead;
 use seekhead_rules::Wanted;
 use segments::{meet, past_child, stretch_of};
 use segments_rules::{Aim, Met};
@@ -66,13 +66,13 @@ fn from_head(recording: &[u8], live: bool, start: u64, first: Headed, known: Par
         fifth: ids::TAGS,
     };
     match linked_heads(recording, live, wanted, start, first) {
-        HeadsRead::Refused(refusal) => Turn::Over(Err(refusal)),
-        HeadsRead::Read { parts, heads, last } => {
+        Err(refusal) => Turn::Over(Err(refusal)),
+        Ok(found) => {
             let seeking = Seeking {
                 start,
-                links: parts,
-                heads,
-                last,
+                links: found.parts,
+                heads: found.heads,
+                last: found.last,
             };
             next_sought(recording, live, seeking, 0, known)
         }
@@ -86,9 +86,9 @@ fn next_met(recording: &[u8], live: bool, segment: Headed, at: u64, known: Parts
 {
     match meet(recording, live, Aim::Every, segment, at) {
         Err(refusal) => Turn::Over(Err(refusal)),
-        Ok(Met::End) => Turn::Over(Ok((known, 0))),
-        Ok(Met::Head(first)) => from_head(recording, live, segment.payload.at, first, known),
-        Ok(Met::Part(part)) => Turn::Read {
+        Ok(None) => Turn::Over(Ok((known, 0))),
+        Ok(Some(Met::Head(first))) => from_head(recording, live, segment.payload.at, first, known),
+        Ok(Some(Met::Part(part))) => Turn::Read {
             which: which_of(part.header.id),
             part,
             next: Stage::Behind {
@@ -128,7 +128,7 @@ pub fn known_after(known: Parts, which: Which, part: Headed, reply: Result<u64, 
             let found = Some(Part {
                 at: part.payload.at,
                 size: part.header.size,
-                rows: rows,
+                rows,
             });
             placed(known, which, found)
         }

@@ -7,6 +7,6 @@ pub returns-in-Err : goal.returns-in-Err
 returns-in-Err c =
     head_broken _ _ _ _ _ _ (sym c.in-Err.is ∙ c.linked_heads.ensures)
 
-pub returns-in-Read : goal.returns-in-Read
-returns-in-Read c =
-    head_read _ _ _ _ _ _ _ _ (sym c.in-Read.is ∙ c.linked_heads.ensures) c.next_sought.result c.next_sought.ensures
+pub returns-in-Ok : goal.returns-in-Ok
+returns-in-Ok c =
+    head_read _ _ _ _ _ _ (sym c.in-Ok.is ∙ c.linked_heads.ensures) c.next_sought.result c.next_sought.ensures

@@ -22,10 +22,10 @@ pub returns-in-From : goal.returns-in-From
 returns-in-From c =
     turn_from _ _ _ _ _ _ c.in-From.is c.next_met.result c.next_met.ensures
 
-pub returns-in-Err-past_child : goal.returns-in-Err-past_child
-returns-in-Err-past_child c =
+pub returns-in-Err : goal.returns-in-Err
+returns-in-Err c =
     turn_lost _ _ _ _ _ _ c.in-Behind.is _ c.stretch_of-stretch.ensures _ c.past_child.ensures _
-    c.in-Err-past_child.is
+    c.in-Err.is
 
 pub returns-in-Ok : goal.returns-in-Ok
 returns-in-Ok c =
@@ -36,6 +36,6 @@ pub returns-in-Sought : goal.returns-in-Sought
 returns-in-Sought c =
     turn_sought _ _ _ _ _ _ c.in-Sought.is c.next_sought.result c.next_sought.ensures
 
-pub returns-in-Err : goal.returns-in-Err
-returns-in-Err c =
-    turn_refused _ _ _ _ _ c.in-Err.is
+pub returns-in-Refused : goal.returns-in-Refused
+returns-in-Refused c =
+    turn_refused _ _ _ _ _ c.in-Refused.is
