@@ -2,6 +2,5 @@
 #![tactic(auto)]
 
 mod body;
-mod reply;
 
 pub use body::{Body, Range, Value};

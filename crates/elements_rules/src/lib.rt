@@ -4,7 +4,6 @@
 #![tactic(auto)]
 
 mod element;
-mod reply;
 mod row;
 
 pub use element::Above;

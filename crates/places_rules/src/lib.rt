@@ -2,7 +2,6 @@
 // holds an address.
 #![tactic(auto)]
 
-mod payload;
 mod whose;
 
 pub use whose::{Holder, WhoseRow};

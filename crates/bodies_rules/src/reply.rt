@@ -1,3 +1,0 @@
-// The reply of `body_at`.
-use crate::body::Body;
-use refusals::Refusal;

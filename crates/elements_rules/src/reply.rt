@@ -1,2 +1,0 @@
-// The reply of `read`.
-use refusals::Refusal;

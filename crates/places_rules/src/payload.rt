@@ -1,3 +1,0 @@
-// The reply of `payload_range`.
-use bodies_rules::Range;
-use refusals::Refusal;
