@@ -1,11 +1,13 @@
 -- How the definition goes for each kind: a size that is not taken, octets that are missing, a value. Assumes nothing.
-use mathlib.Core.Path.{◌≡◌}
+use mathlib.Core.Path.{◌≡◌, refl}
 use mathlib.Core.List.{List}
-use mathlib.Core.Bool.{true, false}
+use mathlib.Core.Bool.{Bool, true, false, ◌||◌}
+use mathlib.Core.Logic.{◌⊎◌, inl, inr}
+use native.Mathlib.Omega.{arith}
 use Prim.Native.Nat.{ℕ, ◌+◌, ◌≤◌, ◌<◌}
 use lib.ListN.{length}
-use lib.Dec.{leb}
-use lib.Ieee.{Float, binary32, binary64, of_bits}
+use lib.Dec.{leb, eqb}
+use lib.Ieee.{binary32, binary64, of_bits}
 use borrow.Author.Tests.{le-leb, lt-leb, eq-eqb, ne_eqb}
 use Rattle.refusals.specs.declared.refusal.Cause.TheVariants as C
 use Rattle.header.specs.declared.cursor.Cursor.{Cursor}
@@ -18,6 +20,10 @@ use Rattle.bodies_rules.specs.declared.body.Body.TheVariants as B
 use Rattle.bodies_rules.specs.declared.body.Value.TheVariants as W
 use Rattle.bodies_rules.proofs.Found.{Found}
 use Rattle.std.proofs.Common.{Ok, Err}
+
+or_true : (b : Bool) → (b || true) ≡ true
+or_true true = refl
+or_true false = refl
 
 module _ (s : List ℕ) (at n : ℕ) where
   pub int_long : 8 < n → Err C.InvalidUint ≡ body_read K.Int s at n
@@ -50,6 +56,11 @@ module _ (s : List ℕ) (at n : ℕ) where
     unfolding body_read body_of
     date_ends h = rw (eq-eqb n 8 h, missing)
 
+    pub float_ends : (n ≡ 4) ⊎ (n ≡ 8) → Err C.PastEnd ≡ body_read K.Float s at n
+    unfolding body_read body_of
+    float_ends (inl h) = rw (eq-eqb n 4 h, missing)
+    float_ends (inr h) = rw (eq-eqb n 8 h, or_true (eqb n 4), missing)
+
     pub text_ends : Err C.PastEnd ≡ body_read K.Utf8 s at n
     unfolding body_read body_of
     text_ends = rw missing
@@ -72,6 +83,14 @@ module _ (s : List ℕ) (at n : ℕ) where
     unfolding body_read body_of
     date_there h = rw (eq-eqb n 8 h, f.there, f.value, f.place)
 
+    pub float_there_4 : n ≡ 4 → Ok (B.Value (W.Float (of_bits binary32 v)), next) ≡ body_read K.Float s at n
+    unfolding body_read body_of float_of
+    float_there_4 h = rw (eq-eqb n 4 h, f.there, f.value, f.place)
+
+    pub float_there_8 : n ≡ 8 → Ok (B.Value (W.Float (of_bits binary64 v)), next) ≡ body_read K.Float s at n
+    unfolding body_read body_of float_of
+    float_there_8 h = rw (eq-eqb n 8 h, ne_eqb n 4 (λ e. absurd (omega arith)), f.there, f.value, f.place)
+
   -- The octets are there.
   module _ (there : leb (at + n) (length s) ≡ true) where
     pub text_bad : utf8 (payload s at n) ≡ false → Err C.NotUtf8 ≡ body_read K.Utf8 s at n
@@ -88,24 +107,3 @@ module _ (s : List ℕ) (at n : ℕ) where
         Ok (B.Value (W.Bytes (record { at = at; length = n })), record { at = at + n }) ≡ body_read K.Binary s at n
     unfolding body_read body_of
     bytes_there = rw there
-
--- A float, by its two sizes.
-module _ (s : List ℕ) (at : ℕ) where
-  pub float_ends_4 : leb (at + 4) (length s) ≡ false → Err C.PastEnd ≡ body_read K.Float s at 4
-  unfolding body_read body_of
-  float_ends_4 missing = rw missing
-
-  pub float_ends_8 : leb (at + 8) (length s) ≡ false → Err C.PastEnd ≡ body_read K.Float s at 8
-  unfolding body_read body_of
-  float_ends_8 missing = rw missing
-
-  module _ (v : ℕ) (next : Cursor) where
-    pub float_there_4 :
-        Found s at 4 v next → Ok (B.Value (W.Float (of_bits binary32 v)), next) ≡ body_read K.Float s at 4
-    unfolding body_read body_of float_of
-    float_there_4 f = rw (f.there, f.value, f.place)
-
-    pub float_there_8 :
-        Found s at 8 v next → Ok (B.Value (W.Float (of_bits binary64 v)), next) ≡ body_read K.Float s at 8
-    unfolding body_read body_of float_of
-    float_there_8 f = rw (f.there, f.value, f.place)

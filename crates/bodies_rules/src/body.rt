@@ -1,6 +1,4 @@
 // What a body is: a value by its kind, or a master.
-use header::Cursor;
-use refusals::Cause;
 
 // A part of the recording: the address of its first byte, and how many bytes it has.
 #[derive(Clone, Copy)]

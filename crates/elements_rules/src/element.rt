@@ -1,6 +1,4 @@
 // What the readers of elements take and give.
-use header::Cursor;
-use refusals::Refusal;
 
 // What stands above elements: their parent's id, its row number plus 1 (0 for none), and their own depth.
 #[derive(Clone, Copy)]

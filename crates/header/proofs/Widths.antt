@@ -2,17 +2,21 @@
 use mathlib.Core.Path.{◌≡◌, refl, ap, ◌∙◌, sym}
 use mathlib.Core.List.{List, [], ◌∷◌, ◌++◌}
 use mathlib.Core.Bool.{Bool, true, false, ◌||◌}
-use Prim.Native.Nat.{ℕ, suc, ◌+◌, ◌≤◌, ◌<◌}
+use Prim.Native.Nat.{ℕ, zero, suc, ◌+◌, ◌≤◌, ◌<◌}
 use native.Mathlib.Numerals.{add-one}
 use native.Mathlib.Omega.{arith}
 use lib.ListN.{length, drop, get_or, drop_of_length-le}
 use lib.Seq.{drop-cons}
 use lib.Dec.{T, eqb, eqb→eq}
 use lib.Count.{count_leading_zeros}
-use borrow.Author.Tests.{ne_eqb}
+use borrow.Author.Tests.{ne_eqb, lt-ltb, le-ltb}
 use Rattle.booleans.proofs.Computed.{below, at}
 use Rattle.header.specs.Vint.{Width, unmarked, zeros, one_more, width_of, octet_bits, bits}
 use Rattle.header.specs.Reads.{width_at, marked, octets_of}
+use Rattle.header.specs.Theorems.{Octets}
+use Rattle.header.specs.declared.cursor.VintFault.TheVariants.{Ends, Long}
+use Rattle.std.proofs.Common.{Ok, Err, not}
+use Rattle.std.specs.List.{list_any}
 
 -- ---- one octet
 
@@ -58,6 +62,11 @@ eight w = one_more (one_more (one_more (one_more (one_more (one_more (one_more (
 
 -- ---- octets one after another
 
+pub marked_eight : (w : Width) → marked (eight w) ≡ marked w
+unfolding marked one_more
+marked_eight unmarked = refl
+marked_eight (zeros z) = refl
+
 pub width_end : (s : List ℕ) (i : ℕ) → length s ≤ i → width_at s i ≡ unmarked
 unfolding width_of bits
 width_end s i h = rw (drop_of_length-le s h)
@@ -74,23 +83,39 @@ width_one s i h l n =
     let w = width_octet (get_or s i 0) l n in
     rw (drop-cons s i 0 h) (width_append (octet_bits (get_or s i 0)) (bits (drop (suc i) s)) (ap marked w) ∙ w)
 
+eqb_no : (x : ℕ) → eqb x 0 ≡ false → x ≡ 0 → ⊥
+eqb_no zero e z = cc
+eqb_no (suc x) e z = cc
+
+-- octets hold a marker where any of them is not 0
+pub marked_any : (xs : List ℕ) → Octets xs → list_any (λ b. not (eqb b 0)) xs ≡ marked (width_of (bits xs))
+unfolding bits octet_bits width_of marked
+marked_any [] o = refl
+marked_any (x ∷ xs) o = go (eqb x 0) refl (marked_any xs (λ i. o (suc i)))
+  where
+    go : (b : Bool) → eqb x 0 ≡ b → list_any (λ b. not (eqb b 0)) xs ≡ marked (width_of (bits xs))
+        → (not b || list_any (λ b. not (eqb b 0)) xs) ≡ marked (width_of (octet_bits x ++ bits xs))
+    go true e h = rw (eqb→eq x 0 (rw e tt)) (h ∙ sym (marked_eight (width_of (bits xs))))
+    go false e h =
+        let w = width_octet x (o 0) (eqb_no x e) in
+        sym (ap marked (width_append (octet_bits x) (bits xs) (ap marked w) ∙ w))
+
 -- ---- what a width past an octet that is 0 tells
 
-pub marked_eight : (w : Width) → marked (eight w) ≡ marked w
-unfolding marked one_more
-marked_eight unmarked = refl
-marked_eight (zeros z) = refl
+octets_more : (z : ℕ) → 8 ≤ z → octets_of (zeros z) ≡ Err Long
+unfolding octets_of
+octets_more z h = rw (le-ltb z 8 h)
 
-pub octets_nine : (w : Width) → marked w ≡ true → 9 ≡ octets_of (eight w)
+pub octets_long : (w : Width) → marked w ≡ true → octets_of (eight w) ≡ Err Long
 unfolding marked one_more octets_of
-octets_nine unmarked m = let z : ◌≡◌ {A = ℕ} 0 1 = cc in absurd (omega arith)
-octets_nine (zeros z) m = omega arith
+octets_long unmarked m = absurd cc
+octets_long (zeros z) m = octets_more (suc (suc (suc (suc (suc (suc (suc (suc z)))))))) (omega arith)
 
-pub octets_none : (w : Width) → marked w ≡ false → 0 ≡ octets_of (eight w)
+pub octets_none : (w : Width) → marked w ≡ false → octets_of (eight w) ≡ Err Ends
 unfolding marked one_more octets_of
 octets_none unmarked m = refl
-octets_none (zeros z) m = let z : ◌≡◌ {A = ℕ} 0 1 = cc in absurd (omega arith)
+octets_none (zeros z) m = absurd cc
 
-pub octets_few : (z : ℕ) → z ≤ 8 → z + 1 ≡ octets_of (zeros z)
+pub octets_few : (z : ℕ) → z < 8 → octets_of (zeros z) ≡ Ok (z + 1)
 unfolding octets_of
-octets_few z h = omega arith
+octets_few z h = rw (lt-ltb z 8 h)

@@ -1,8 +1,9 @@
 // A place in a recording, and what can be read there. Each read takes the place by value and answers
 // the value with the next place.
 ghost use Rattle.std.specs.Prelude.{◌≡◌, ◌+◌, ◌*◌, ◌%◌, ◌^◌, ◌≤◌, ◌<◌, length, take, drop};
-ghost use Rattle.header.specs.Vint.{big_endian};
-ghost use Rattle.header.specs.Reads.{width_at, number_at, vint_at, header_at, octets_of, marked, NumberFits, VintFits};
+ghost use Rattle.header.specs.Vint.{big_endian, bits, width_of};
+ghost use Rattle.header.specs.Reads.{width_at, number_at, vint_at, header_at, octets_of, marked, cause_of};
+ghost use Rattle.header.specs.Reads.{NumberFits, VintFits};
 
 use refusals::{Cause, Refusal};
 
@@ -29,25 +30,33 @@ pub struct Headed {
     pub header: Header,
 }
 
-// A variable-size integer: its octets, and all their bits as one number.
+// A variable-size integer: its octets, all their bits as one number, and the place behind it.
 #[derive(Clone, Copy)]
-pub enum VintRead {
-    Vint {
-        octets: u64,
-        value: u64,
-        next: Cursor,
-    },
+pub struct Vint {
+    pub octets: u64,
+    pub value: u64,
+    pub next: Cursor,
+}
+
+// Why there is no variable-size integer.
+#[derive(Clone, Copy)]
+pub enum VintFault {
     // The recording ends before its marker or before its last octet.
     Ends,
     // It has more octets than it may.
     Long,
 }
 
-// A byte as a wider number; apart, so that a byte that was read asks for no proof that it fits.
-fn wide(x: u8) -> u64
-    ensures { result ≡ x }
-{
-    x as u64
+impl VintFault {
+    // The cause of a refusal, where `more` is that of more octets than there may be.
+    fn cause(self, more: Cause) -> Cause
+        ensures { result ≡ cause_of more self }
+    {
+        match self {
+            VintFault::Ends => Cause::PastEnd,
+            VintFault::Long => more,
+        }
+    }
 }
 
 // The low 7 bits for each octet: a variable-size integer's data, without its marker.
@@ -58,55 +67,43 @@ fn vint_data(octets: u64, value: u64) -> u64
     value % (1u64 << (7 * octets))
 }
 
+// Whether any bit of the octets is a one.
+fn is_marked(octets: &[u8]) -> bool
+    ensures { result ≡ marked (width_of (bits octets.now)) }
+{
+    octets.iter().any(|octet| *octet != 0)
+}
+
 // The n bytes from `at` on as one big-endian number.
 pub fn big_endian(recording: &[u8], at: usize, n: usize) -> u64
     requires { (n ≤ 8) × (at + n ≤ length recording.now) }
     ensures { (result ≡ big_endian (take n (drop at recording.now))) × (result < 2 ^ (8 * n)) }
 {
     let mut value: u64 = 0;
-    let mut i: usize = 0;
-    while i < n {
-        value = value * 256 + wide(recording[at + i]);
-        i += 1;
+    for octet in &recording[at..at + n] {
+        value = value * 256 + u64::from(*octet);
     }
     value
 }
 
 impl Cursor {
-    // Whether a one bit stands at this place or after it.
-    fn is_marked(self, recording: &[u8]) -> bool
-        ensures { result ≡ marked (width_at recording.now self.at) }
-    {
-        let mut i = self.at;
-        while i < recording.len() as u64 {
-            let at = i as usize;
-            if recording[at] != 0 {
-                return true;
-            }
-            i += 1;
-        }
-        false
-    }
-
-    // How many octets the variable-size integer here has, 1 to 8; 9 where it has more, and 0 where
-    // the recording ends before a one bit.
-    fn octets(self, recording: &[u8]) -> u64
+    // How many octets the variable-size integer here has, where it has no more than 8.
+    fn octets(self, recording: &[u8]) -> Result<u64, VintFault>
         ensures { result ≡ octets_of (width_at recording.now self.at) }
     {
-        let at = self.at;
-        if recording.len() as u64 <= at {
-            return 0;
+        let length = recording.len() as u64;
+        if length <= self.at {
+            return Err(VintFault::Ends);
         }
-        let first = recording[at as usize];
-        if first == 0 {
-            let second = at + 1;
-            let after = Cursor { at: second };
-            if after.is_marked(recording) {
-                return 9;
-            }
-            return 0;
+        let at = self.at as usize;
+        let first = recording[at];
+        if first != 0 {
+            return Ok(u64::from(first.leading_zeros()) + 1);
         }
-        u8::leading_zeros(first) as u64 + 1
+        if is_marked(&recording[at + 1..]) {
+            return Err(VintFault::Long);
+        }
+        Err(VintFault::Ends)
     }
 
     // The big-endian number of the next n bytes.
@@ -115,81 +112,52 @@ impl Cursor {
         ensures { (result ≡ number_at recording.now self.at n) × NumberFits n result }
     {
         let at = self.at;
-        let length = recording.len() as u64;
-        if length < at {
-            return None;
-        }
-        if length - at < n {
+        let left = (recording.len() as u64).checked_sub(at)?;
+        if left < n {
             return None;
         }
         let value = big_endian(recording, at as usize, n as usize);
-        let next = at + n;
-        Some((value, Cursor { at: next }))
+        Some((value, Cursor { at: at + n }))
     }
 
     // The variable-size integer here, of at most `most` octets.
-    fn vint(self, recording: &[u8], most: u64) -> VintRead
+    fn vint(self, recording: &[u8], most: u64) -> Result<Vint, VintFault>
         requires { most ≤ 8 }
         ensures { (result ≡ vint_at recording.now self.at most) × VintFits most result }
     {
-        let octets = self.octets(recording);
-        if octets == 0 {
-            return VintRead::Ends;
-        }
+        let octets = self.octets(recording)?;
         if most < octets {
-            return VintRead::Long;
+            return Err(VintFault::Long);
         }
-        match self.number(recording, octets) {
-            None => VintRead::Ends,
-            Some((value, next)) => VintRead::Vint {
-                octets,
-                value,
-                next,
-            },
-        }
+        let (value, next) = self.number(recording, octets).ok_or(VintFault::Ends)?;
+        Ok(Vint {
+            octets,
+            value,
+            next,
+        })
     }
 
     // The header here: its id, then its size.
     pub fn header(self, recording: &[u8]) -> Result<Headed, Refusal>
         ensures { result ≡ header_at recording.now self.at }
     {
-        match self.vint(recording, 4) {
-            VintRead::Ends => Err(Refusal {
-                address: self.at,
-                cause: Cause::PastEnd,
-            }),
-            VintRead::Long => Err(Refusal {
-                address: self.at,
-                cause: Cause::InvalidId,
-            }),
-            VintRead::Vint {
-                octets: id_octets,
-                value: id_value,
-                next: after_id,
-            } => match after_id.vint(recording, 8) {
-                VintRead::Ends => Err(Refusal {
-                    address: self.at,
-                    cause: Cause::PastEnd,
-                }),
-                VintRead::Long => Err(Refusal {
-                    address: self.at,
-                    cause: Cause::InvalidSize,
-                }),
-                VintRead::Vint {
-                    octets: size_octets,
-                    value: size_value,
-                    next: after_size,
-                } => {
-                    let id = id_value as u32;
-                    let size = vint_data(size_octets, size_value);
-                    let length = id_octets + size_octets;
-                    Ok(Headed {
-                        place: self,
-                        payload: after_size,
-                        header: Header { id, size, length },
-                    })
-                }
-            },
-        }
+        let at = self.at;
+        let id = self
+            .vint(recording, 4)
+            .map_err(|fault| fault.cause(Cause::InvalidId).at(at))?;
+        let size = id
+            .next
+            .vint(recording, 8)
+            .map_err(|fault| fault.cause(Cause::InvalidSize).at(at))?;
+        let header = Header {
+            id: id.value as u32,
+            size: vint_data(size.octets, size.value),
+            length: id.octets + size.octets,
+        };
+        Ok(Headed {
+            place: self,
+            payload: size.next,
+            header,
+        })
     }
 }

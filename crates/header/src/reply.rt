@@ -12,24 +12,8 @@ pub fn header_at(recording: &[u8], at: u64) -> Result<Header, Refusal>
     ensures { HeaderPromise recording.now at result }
 {
     let length = recording.len() as u64;
-    if MOST_BYTES < length {
-        return Err(Refusal {
-            address: 0,
-            cause: Cause::BadArgument,
-        });
+    if MOST_BYTES < length || length < at {
+        return Err(Cause::BadArgument.at(0));
     }
-    if length < at {
-        return Err(Refusal {
-            address: 0,
-            cause: Cause::BadArgument,
-        });
-    }
-    let cursor = Cursor { at };
-    match cursor.header(recording) {
-        Ok(element) => {
-            let header = element.header;
-            Ok(header)
-        }
-        Err(refusal) => Err(refusal),
-    }
+    Ok(Cursor { at }.header(recording)?.header)
 }

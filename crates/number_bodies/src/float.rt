@@ -15,7 +15,7 @@ pub fn float_of_4(pattern: u64) -> f64
 {
     let bits = pattern as u32;
     if bits % 0x8000_0000 > 0x7F80_0000 {
-        return 0.0 / 0.0;
+        return f64::NAN;
     }
     std::num::f32_to_f64_with_nan(f32::from_bits(bits))
 }
@@ -25,7 +25,7 @@ pub fn float_of_8(pattern: u64) -> f64
     ensures { result ≡ from_bits binary64 pattern }
 {
     if pattern % 0x8000_0000_0000_0000 > 0x7FF0_0000_0000_0000 {
-        return 0.0 / 0.0;
+        return f64::NAN;
     }
     f64::from_bits(pattern)
 }
@@ -34,17 +34,14 @@ pub fn float_of_8(pattern: u64) -> f64
 pub fn read_float(place: Cursor, recording: &[u8], size: u64) -> Result<(Body, Cursor), Cause>
     ensures { result ≡ body_read Float recording.now place.at size }
 {
-    if size == 4 {
-        return match place.number(recording, 4) {
-            None => Err(Cause::PastEnd),
-            Some((pattern, next)) => Ok((Body::Value(Value::Float(float_of_4(pattern))), next)),
-        };
-    }
-    if size != 8 {
+    if size != 4 && size != 8 {
         return Err(Cause::InvalidFloat);
     }
-    match place.number(recording, 8) {
-        None => Err(Cause::PastEnd),
-        Some((pattern, next)) => Ok((Body::Value(Value::Float(float_of_8(pattern))), next)),
-    }
+    let (pattern, next) = place.number(recording, size).ok_or(Cause::PastEnd)?;
+    let float = if size == 4 {
+        float_of_4(pattern)
+    } else {
+        float_of_8(pattern)
+    };
+    Ok((Body::Value(Value::Float(float)), next))
 }

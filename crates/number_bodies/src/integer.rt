@@ -32,10 +32,8 @@ pub fn read_int(place: Cursor, recording: &[u8], size: u64) -> Result<(Body, Cur
     if 8 < size {
         return Err(Cause::InvalidUint);
     }
-    match place.number(recording, size) {
-        None => Err(Cause::PastEnd),
-        Some((value, next)) => Ok((Body::Value(Value::Integer(signed(value, size))), next)),
-    }
+    let (value, next) = place.number(recording, size).ok_or(Cause::PastEnd)?;
+    Ok((Body::Value(Value::Integer(signed(value, size))), next))
 }
 
 // An unsigned integer of 0 to 8 bytes.
@@ -45,10 +43,8 @@ pub fn read_uint(place: Cursor, recording: &[u8], size: u64) -> Result<(Body, Cu
     if 8 < size {
         return Err(Cause::InvalidUint);
     }
-    match place.number(recording, size) {
-        None => Err(Cause::PastEnd),
-        Some((value, next)) => Ok((Body::Value(Value::Unsigned(value)), next)),
-    }
+    let (value, next) = place.number(recording, size).ok_or(Cause::PastEnd)?;
+    Ok((Body::Value(Value::Unsigned(value)), next))
 }
 
 // A date of 8 bytes: a signed integer that counts nanoseconds.
@@ -58,8 +54,6 @@ pub fn read_date(place: Cursor, recording: &[u8], size: u64) -> Result<(Body, Cu
     if size != 8 {
         return Err(Cause::InvalidDate);
     }
-    match place.number(recording, size) {
-        None => Err(Cause::PastEnd),
-        Some((value, next)) => Ok((Body::Value(Value::Date(signed(value, size))), next)),
-    }
+    let (value, next) = place.number(recording, size).ok_or(Cause::PastEnd)?;
+    Ok((Body::Value(Value::Date(signed(value, size))), next))
 }

@@ -1,5 +1,4 @@
 // The reply of `owner` and `owner_chain`.
-use refusals::Refusal;
 
 // The element that holds the address by its header or by its payload: where its header is, and its depth, which is how
 // many masters stand around it; or a refusal.

@@ -1,5 +1,4 @@
 // The reply of `whose_byte`.
-use refusals::Refusal;
 
 // The row that holds the address by its header or by its payload, and how many rows there are; or a refusal.
 #[derive(Clone, Copy)]

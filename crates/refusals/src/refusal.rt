@@ -1,5 +1,7 @@
 // A refusal, and its cause with document 01's number.
+ghost use Rattle.std.specs.Prelude.{◌≡◌};
 ghost use Rattle.refusals.specs.Promise.{NumberPromise, IdPromise};
+ghost use Rattle.refusals.specs.Refusals.{because};
 
 // One case for each number of document 01's list, as document 02 (C-18) extends it, and two for 3.
 #[derive(Clone, Copy)]
@@ -51,6 +53,16 @@ pub struct Refusal {
 }
 
 impl Cause {
+    // The refusal for this cause, of what stands at an address.
+    pub fn at(self, address: u64) -> Refusal
+        ensures { result ≡ because self address }
+    {
+        Refusal {
+            address,
+            cause: self,
+        }
+    }
+
     // Document 01's number.
     pub fn number(self) -> u64
         ensures { NumberPromise self result }

@@ -1,3 +1,2 @@
 -- The laws that the proofs of `sizes` share, and its theorems.
-pub mod Ones
 pub mod Octets

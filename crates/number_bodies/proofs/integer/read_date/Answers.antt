@@ -1,32 +1,29 @@
 -- `read_date` meets its contract: not 8 bytes, the bytes missing, or a value. Assumes nothing.
-use Rattle.std.proofs.Common.{ℤ, sym, ap, ◌∙◌, arith, to_z-of_z, w64}
+use Rattle.std.proofs.Common.{ℤ, ap, ◌∙◌, arith, to_z-of_z, w64, Ok}
+use Rattle.std.specs.Result.{result_ok}
+use Rattle.std.proofs.lemmas.Result.{err_from_is_err_and}
 use Rattle.bodies_rules.specs.declared.body.Body.TheVariants.{Value}
 use Rattle.bodies_rules.specs.declared.body.Value.TheVariants.{Date}
-use Rattle.bodies_rules.proofs.Found.{found, ended}
+use Rattle.bodies_rules.proofs.Found.{found_ok, ended_err}
 use Rattle.bodies_rules.proofs.ByKind.{date_other, date_ends, date_there}
 use Rattle.number_bodies.proofs.integer.read_date.Goals as goal
-use Rattle.std.proofs.Common.{Ok}
+
+pub returns-in_err-value : goal.returns-in_err-value
+returns-in_err-value c =
+    let p = err_from_is_err_and c.from_residual.result c.from_residual.ensures.1 in
+    let m = ended_err _ _ _ _ _ _ _ c.number.ensures.0 c.ok_or.ensures.value c.in_err-value.was in
+    rw (p.1, p.2, m.0) (date_ends _ _ _ m.1 c.if-size-ne8.false)
 
 pub signed-requires : goal.signed-requires
 signed-requires c =
-    let fits = rw c.in-Some.is at c.number.ensures.1 in
-    (omega arith, fits)
+    let told = c.ok_or.ensures.ok_part ∙ ap result_ok c.in_ok-value.was in
+    (omega arith, rw told at c.number.ensures.1)
 
-pub returns-in-None : goal.returns-in-None
-returns-in-None c =
-    let read = c.number.ensures.0 in
-    let missing = ended _ _ _ (sym read ∙ c.in-None.is) in
-    date_ends _ _ _ missing c.if-size-ne8.false
-
-pub returns-in-Some : goal.returns-in-Some
-returns-in-Some c =
-    let told = c.in-Some.is in
-    let read = c.number.ensures.0 in
-    let next = c.in-Some.next in
+pub returns : goal.returns
+returns c =
+    let there = found_ok _ _ _ _ _ _ _ c.number.ensures.0 c.ok_or.ensures.ok_part c.in_ok-value.was in
     let value = to_z-of_z {w = w64} (record { sfits = c.signed.type_inv }) ∙ c.signed.ensures in
-    let there = found _ _ _ _ _ (sym read ∙ told) in
-    let eight = c.if-size-ne8.false in
-    ap (λ (z : ℤ). Ok (Value (Date z), next)) value ∙ date_there _ _ _ _ _ there eight
+    ap (λ (z : ℤ). Ok (Value (Date z), c.in_ok-value.next)) value ∙ date_there _ _ _ _ _ there c.if-size-ne8.false
 
 pub returns-then-size-ne8 : goal.returns-then-size-ne8
 returns-then-size-ne8 c = date_other _ _ _ c.if-size-ne8.true

@@ -1,66 +1,61 @@
 -- `Cursor::header` meets its contract: the id's VINT, then the size's. Assumes nothing.
-use mathlib.Core.Path.{◌≡◌, refl, ap, ◌∙◌, sym}
-use mathlib.Core.List.{List}
-use native.Mathlib.Omega.{arith}
+use mathlib.Core.Path.{ap, ◌∙◌, sym}
 use Prim.Native.Nat.{ℕ, ◌+◌}
-use Rattle.header.specs.Reads.{vint_at, header_at, VintFits}
-use Rattle.header.specs.declared.cursor.Cursor.{Cursor}
-use Rattle.header.specs.declared.cursor.VintRead.{VintRead}
-use Rattle.header.specs.declared.cursor.VintRead.TheVariants.{Vint}
+use Rattle.std.proofs.Common.{Ok, rules}
+use Rattle.std.proofs.lemmas.Result.{err_from_is_err_and}
+use Rattle.refusals.specs.declared.refusal.Cause.TheVariants.{InvalidId, InvalidSize}
+use Rattle.header.specs.Reads.{VintFits}
 use Rattle.header.proofs.BigEndian.{fits_in}
-use Rattle.header.proofs.Headers.{with_size, by_id, by_size}
+use Rattle.header.proofs.Headers.{with_size, by_id, mapped, id_refused, size_refused, taken}
 use Rattle.header.proofs.cursor.Cursor.header.Goals as goal
-use Rattle.std.proofs.Common.{Ok}
 
--- Where the id's VINT was read, and what the size's is: that decides the header.
-sized : (s : List ℕ) (at octets id : ℕ) (after : Cursor) (x y : VintRead)
-    → x ≡ vint_at s at 4 → x ≡ Vint octets id after → vint_at s after.at 8 ≡ y
-    → header_at s at ≡ with_size at id octets y
-sized s at octets id after x y e q p =
-    by_id s at e q ∙ by_size s after.at at id octets {r = y} {x = y} (sym p) refl
+pub returns-in_err-id : goal.returns-in_err-id
+returns-in_err-id c =
+    let a = c.args in
+    let p = err_from_is_err_and c.from_residual.result c.from_residual.ensures.1 in
+    let m = mapped InvalidId a.self.at c.vint.result c.map_err.result _ (λ fault e k. search rules) c.map_err.ensures.cases in
+    let e = id_refused a.recording.now a.self.at c.vint.result _ (sym m ∙ c.in_err-id.was) in
+    rw (p.1, p.2) (sym (by_id a.recording.now a.self.at c.vint.ensures.0 ∙ e))
 
-pub overflow_cast-id : goal.overflow_cast-id
-overflow_cast-id c =
-    let k : VintFits 4 (Vint c.in-Vint.id_octets c.in-Vint.id_value c.in-Vint.after_id)
-    = rw c.in-Vint.is at c.vint.ensures.1 in
-    record { fits = fits_in c.in-Vint.id_octets 4 c.in-Vint.id_value k.0 k.1 }
+pub returns-in_err-size : goal.returns-in_err-size
+returns-in_err-size c =
+    let a = c.args in
+    let id = c.in_ok-id.id in
+    let v = taken InvalidId a.self.at c.vint.result c.map_err.result _ (λ fault e k. search rules) c.map_err.ensures.cases id c.in_ok-id.was in
+    let p = err_from_is_err_and c.from_residual-in_err-size.result c.from_residual-in_err-size.ensures.1 in
+    let m = mapped InvalidSize a.self.at c.vint-2.result c.map_err-2.result _ (λ fault e k. search rules) c.map_err-2.ensures.cases in
+    let e = size_refused a.self.at id.value id.octets c.vint-2.result _ (sym m ∙ c.in_err-size.was) in
+    rw (p.1, p.2)
+    (sym (by_id a.recording.now a.self.at (sym v ∙ c.vint.ensures.0)
+    ∙ ap (with_size a.self.at id.value id.octets) (sym c.vint-2.ensures.0) ∙ e))
 
-pub vint_data-size-requires : goal.vint_data-size-requires
-vint_data-size-requires c = (rw c.in-Vint-vint.is at c.vint-in-Vint.ensures.1).0
+pub overflow_cast-header : goal.overflow_cast-header
+overflow_cast-header c =
+    let a = c.args in
+    let id = c.in_ok-id.id in
+    let v = taken InvalidId a.self.at c.vint.result c.map_err.result _ (λ fault e k. search rules) c.map_err.ensures.cases id c.in_ok-id.was in
+    let k : VintFits 4 (Ok id) = rw v at c.vint.ensures.1 in
+    record { fits = fits_in id.octets 4 id.value k.0 k.1 }
 
-pub overflow_add-length : goal.overflow_add-length
-overflow_add-length c =
-    omega (arith, rw c.in-Vint-vint.is at c.vint-in-Vint.ensures.1, rw c.in-Vint.is at c.vint.ensures.1)
+pub vint_data-requires : goal.vint_data-requires
+vint_data-requires c =
+    let v = taken InvalidSize c.args.self.at c.vint-2.result c.map_err-2.result _ (λ fault e k. search rules) c.map_err-2.ensures.cases c.in_ok-size.size c.in_ok-size.was in
+    (rw v at c.vint-2.ensures.1).0
 
-pub returns-in-Ends : goal.returns-in-Ends
-returns-in-Ends c = sym (by_id c.args.recording.now c.args.self.at c.vint.ensures.0 c.in-Ends.is)
-
-pub returns-in-Long : goal.returns-in-Long
-returns-in-Long c = sym (by_id c.args.recording.now c.args.self.at c.vint.ensures.0 c.in-Long.is)
-
-pub returns-in-Ends-vint : goal.returns-in-Ends-vint
-returns-in-Ends-vint c =
-    let v = c.in-Vint in
-    sym (sized c.args.recording.now c.args.self.at v.id_octets v.id_value v.after_id _ _ c.vint.ensures.0 v.is
-    (sym c.vint-in-Vint.ensures.0 ∙ c.in-Ends-vint.is))
-
-pub returns-in-Long-vint : goal.returns-in-Long-vint
-returns-in-Long-vint c =
-    let v = c.in-Vint in
-    sym (sized c.args.recording.now c.args.self.at v.id_octets v.id_value v.after_id _ _ c.vint.ensures.0 v.is
-    (sym c.vint-in-Vint.ensures.0 ∙ c.in-Long-vint.is))
-
-pub returns-in-Vint-vint : goal.returns-in-Vint-vint
-returns-in-Vint-vint c =
-    let v = c.in-Vint in
-    let z = c.in-Vint-vint in
+pub returns : goal.returns
+returns c =
+    let a = c.args in
+    let id = c.in_ok-id.id in
+    let size = c.in_ok-size.size in
+    let v = taken InvalidId a.self.at c.vint.result c.map_err.result _ (λ fault e k. search rules) c.map_err.ensures.cases id c.in_ok-id.was in
+    let w = taken InvalidSize a.self.at c.vint-2.result c.map_err-2.result _ (λ fault e k. search rules) c.map_err-2.ensures.cases size c.in_ok-size.was in
     ap
     (λ (n : ℕ).
     Ok (record {
-      place = record { at = c.args.self.at };
-      payload = z.after_size;
-      header = record { id = v.id_value; size = n; length = v.id_octets + z.size_octets };
+      place = record { at = a.self.at };
+      payload = size.next;
+      header = record { id = id.value; size = n; length = id.octets + size.octets };
     }))
-    c.vint_data-size.ensures
-    ∙ sym (sized c.args.recording.now c.args.self.at v.id_octets v.id_value v.after_id _ _ c.vint.ensures.0 v.is
-    (sym c.vint-in-Vint.ensures.0 ∙ z.is))
+    c.vint_data.ensures
+    ∙ sym (by_id a.recording.now a.self.at (sym v ∙ c.vint.ensures.0)
+    ∙ ap (with_size a.self.at id.value id.octets) (sym c.vint-2.ensures.0 ∙ w))
