@@ -22,6 +22,7 @@ use Rattle.chapters.specs.Records.{display_of}
 use Rattle.chapters.specs.First.{string_of, string_row, or_later, first_from, first_string}
 use Rattle.chapters.specs.Told.{display_told}
 use Rattle.chapters.specs.Theorems.{string_told, First, FirstOfDisplays}
+use Rattle.booleans.proofs.Pairs.{some_halves}
 use Rattle.std.proofs.Common.{Result, Option, Ok, Err, Some, None}
 use Rattle.chapters.specs.declared.display.ChapterDisplay.{ChapterDisplay}
 use Rattle.refusals.specs.declared.refusal.Refusal.{Refusal}
@@ -96,16 +97,16 @@ told_first v told w _ (some k i h p q u) =
       none = ((λ e j. cc), (λ e. cc (w i, q, e i)));
     }
   where
-    there : (j : ℕ) (g : Range) → Some (k, h) ≡ Some (j, g) → (told j ≡ Some g) × ((m : ℕ) → m < j → told m ≡ None)
+    there : (j : ℕ) (g : Range) → ◌≡◌ {A = Option (ℕ × Range)} (Some (k, h)) (Some (j, g)) → (told j ≡ Some g) × ((m : ℕ) → m < j → told m ≡ None)
     there j g e =
-        let a : k ≡ j = cc in
-        let b : i ≡ j = omega arith in
-        let c : h ≡ g = cc in (
+        let (a, c) = some_halves e in
+        let b : i ≡ j = omega (arith, a) in (
           content_once (told j) (Some g) (w j ∙ ap v (sym b) ∙ q ∙ ap (λ (x : Range). content_told (Some x)) c),
           λ m l. content_once (told m) None (w m ∙ u m (omega arith)),
         )
 
-    back : (j : ℕ) (g : Range) → (told j ≡ Some g) × ((m : ℕ) → m < j → told m ≡ None) → Some (k, h) ≡ Some (j, g)
+    back : (j : ℕ) (g : Range) → (told j ≡ Some g) × ((m : ℕ) → m < j → told m ≡ None)
+        → ◌≡◌ {A = Option (ℕ × Range)} (Some (k, h)) (Some (j, g))
     back j g e =
         either i j (λ l. cc (w i, q, e.1 i l))
         (λ l. either j i (λ o. cc (w j, u j o, e.0))

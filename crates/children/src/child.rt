@@ -36,21 +36,67 @@ pub fn is_child(row: Row, parent: usize, id: u32, kind: Kind) -> bool
     row.kind == kind.number()
 }
 
+// The direct children of a master of one id and kind, in order: the number of each one's row, and the row.
+#[derive(Clone, Copy)]
+pub struct Children<'a> {
+    table: &'a [u64],
+    master: Below,
+    id: u32,
+    kind: Kind,
+    // The row that is looked at next.
+    next: usize,
+    ghost within: { Within table.now master },
+    ghost low: { master.parent ≤ next },
+    ghost high: { next ≤ master.end },
+}
+
+impl<'a> Children<'a> {
+    ghost use Rattle.children.specs.Left.{left};
+
+    pub fn of(table: &'a [u64], master: Below, id: u32, kind: Kind) -> Children<'a>
+        requires { Within table.now master }
+        ensures { left result ≡ children master.parent id kind (rows_in table.now master) }
+    {
+        Children {
+            table,
+            master,
+            id,
+            kind,
+            next: master.parent,
+        }
+    }
+}
+
+impl<'a> Iterator for Children<'a> {
+    ghost use Rattle.children.specs.Left.{left};
+    ghost use Rattle.std.specs.Prelude.{Some};
+    ghost use Rattle.std.specs.Iterator.{YieldsFirstBy, item_count};
+
+    type Item = (usize, Row);
+
+    ghost next_gives = { YieldsFirstBy (λ c. Some c) left };
+
+    ghost remaining = { item_count left };
+
+    fn next(&mut self) -> Option<(usize, Row)> {
+        while self.next < self.master.end {
+            let n = self.next;
+            let row = row_at(self.table, n);
+            self.next = row.after as usize;
+            if is_child(row, self.master.parent, self.id, self.kind) {
+                return Some((n, row));
+            }
+        }
+        None
+    }
+}
+
 // The last direct child of an id and kind.
 pub fn last_child(table: &[u64], master: Below, id: u32, kind: Kind) -> Option<(usize, Row)>
     requires { Within table.now master }
     ensures { result ≡ last_of (children master.parent id kind (rows_in table.now master)) }
 {
-    let mut last = None;
-    let mut n = master.parent;
-    while n < master.end {
-        let row = row_at(table, n);
-        if is_child(row, master.parent, id, kind) {
-            last = Some((n, row));
-        }
-        n = row.after as usize;
-    }
-    last
+    Children::of(table, master, id, kind).last()
 }
 
 // The k-th direct child of an id and kind, counted from 0.
@@ -58,19 +104,7 @@ pub fn nth_child(table: &[u64], master: Below, id: u32, kind: Kind, k: u64) -> O
     requires { Within table.now master }
     ensures { result ≡ nth_of k (children master.parent id kind (rows_in table.now master)) }
 {
-    let mut left = k;
-    let mut n = master.parent;
-    while n < master.end {
-        let row = row_at(table, n);
-        if is_child(row, master.parent, id, kind) {
-            if left == 0 {
-                return Some((n, row));
-            }
-            left -= 1;
-        }
-        n = row.after as usize;
-    }
-    None
+    Children::of(table, master, id, kind).nth(k as usize)
 }
 
 // How many direct children of an id and kind there are.
@@ -78,14 +112,5 @@ pub fn count_children(table: &[u64], master: Below, id: u32, kind: Kind) -> u64
     requires { Within table.now master }
     ensures { result ≡ length (children master.parent id kind (rows_in table.now master)) }
 {
-    let mut count: u64 = 0;
-    let mut n = master.parent;
-    while n < master.end {
-        let row = row_at(table, n);
-        if is_child(row, master.parent, id, kind) {
-            count += 1;
-        }
-        n = row.after as usize;
-    }
-    count
+    Children::of(table, master, id, kind).count() as u64
 }

@@ -4,4 +4,4 @@
 
 mod child;
 
-pub use child::{count_children, is_child, last_child, nth_child, rows_below};
+pub use child::{Children, count_children, is_child, last_child, nth_child, rows_below};

@@ -1,6 +1,6 @@
 -- What is left of a master's children at each row that a loop comes to. Assumes nothing.
 use Prim.Native.Nat.{ℕ, zero, suc, ◌+◌, ◌-◌, ◌*◌, ◌≤◌, ◌<◌}
-use mathlib.Core.Path.{◌≡◌, refl, sym, ap, ◌∙◌, subst}
+use mathlib.Core.Path.{◌≡◌, refl, sym, ap, ◌∙◌}
 use mathlib.Core.List.{List, [], ◌∷◌}
 use mathlib.Core.Bool.{Bool, true, false}
 use native.Mathlib.Omega.{arith}
@@ -12,7 +12,7 @@ use Rattle.kinds.specs.Kinds.{number_of}
 use Rattle.kinds.specs.declared.kind.Kind.{Kind}
 use Rattle.elements_rules.specs.Rows.{width, row_at, rows_of}
 use Rattle.elements_rules.specs.declared.row.Row.{Row}
-use Rattle.fields_rules.specs.Children.{fits, children_from, children, nth_of, rows_in}
+use Rattle.fields_rules.specs.Children.{fits, children_from}
 use Rattle.fields_rules.specs.Contract.{Steps, Within}
 use Rattle.fields_rules.specs.declared.child.Below.{Below}
 use Rattle.std.proofs.Common.{Option, Some}
@@ -91,79 +91,27 @@ module _ (t : List ℕ) (parent id : ℕ) (kind : Kind) (e : ℕ) where
       passed (r.after - (n + 1)) (n + 1) (omega (arith, s.ahead, s.held))
       (λ j x y w. omega (arith, s.over j (omega arith) (omega (arith, s.ahead)))) ∙ ap rest z
 
--- ---- a loop over the rows of a master
+-- ---- one turn: a row that is a child is the first of those that were left; the rows below the row are passed over
 
--- It has come to row n, and P holds of the children that are left.
-pub record Left (t : List ℕ) (b : Below) (id : ℕ) (kind : Kind) (P : List (Option (ℕ × Row)) → Type 0) (n : ℕ) : Type 0 where
-  pub low : b.parent ≤ n
-  pub high : n ≤ b.end
-  pub left : P (rest t b.parent id kind b.end n)
-
-pub at_first : (t : List ℕ) (b : Below) (id : ℕ) (kind : Kind) (P : List (Option (ℕ × Row)) → Type 0) → Within t b
-    → P (children b.parent id kind (rows_in t b)) → Left t b id kind P b.parent
-at_first t b id kind P w p = record { low = omega arith; high = w.some; left = p }
-
-pub at_end : {t : List ℕ} {b : Below} {id : ℕ} {kind : Kind} {P : List (Option (ℕ × Row)) → Type 0} {n : ℕ}
-    → Left t b id kind P n → b.end ≤ n → P []
-at_end {t} {b} {id} {kind} {P} {n} l e = subst P (rest_end t b.parent id kind b.end n e) l.left
-
--- One turn: a row that is a child is the first of those that were left; the rows below the row are passed over.
-module _ {t : List ℕ} {b : Below} (w : Within t b) {id : ℕ} {kind : Kind} {P : List (Option (ℕ × Row)) → Type 0} {n : ℕ}
-    (l : Left t b id kind P n) (m : n < b.end) {r : Row} (q : r ≡ row_at t n) where
+module _ {t : List ℕ} {b : Below} (w : Within t b) (id : ℕ) (kind : Kind) {n : ℕ} (k : b.parent ≤ n) (l : n < b.end) {r : Row}
+    (q : r ≡ row_at t n) where
   abbrev steps : Steps t b.end n
-  steps = w.steps n l.low m
+  steps = w.steps n k l
 
-  ahead : (n < r.after) × (r.after ≤ b.end)
+  -- It goes on behind the row, among the same rows.
+  pub ahead : (n < r.after) × (r.after ≤ b.end)
   ahead =
       let a : r.after ≡ (row_at t n).after = ap (λ (x : Row). x.after) q in
       omega (arith, steps.ahead, steps.held)
 
-  pub nearer : b.end - r.after < b.end - n
-  nearer = omega (arith, ahead)
-
-  -- No more rows are counted than are passed.
-  pub counts_one : {x : ℕ} → x ≤ n → x + 1 ≤ r.after
-  counts_one k = omega (arith, ahead)
-
-  pub counts_none : {x : ℕ} → x ≤ n → x ≤ r.after
-  counts_none k = omega (arith, ahead)
-
   over : rest t b.parent id kind b.end (n + 1) ≡ rest t b.parent id kind b.end r.after
-  over = onward t b.parent id kind b.end n r q l.low steps
+  over = onward t b.parent id kind b.end n r q k steps
 
   module _ {ok : Bool} (o : ok ≡ fits b.parent id kind r) where
-    pub turn_hit : ok ≡ true → {Q : List (Option (ℕ × Row)) → Type 0} → ((cs : List (Option (ℕ × Row))) → P (Some (n, r) ∷ cs) → Q cs)
-        → Left t b id kind Q r.after
-    turn_hit f more =
-        record {
-          low = omega (arith, l.low, ahead);
-          high = ahead.1;
-          left =
-              more _
-              (subst P
-              (rest_hit t b.parent id kind b.end n m r q (sym f ∙ o) ∙ ap (λ (cs : List (Option (ℕ × Row))). Some (n, r) ∷ cs) over)
-              l.left);
-        }
+    pub turn_hit : ok ≡ true
+        → rest t b.parent id kind b.end n ≡ Some (n, r) ∷ rest t b.parent id kind b.end r.after
+    turn_hit f =
+        rest_hit t b.parent id kind b.end n l r q (sym f ∙ o) ∙ ap (λ (cs : List (Option (ℕ × Row))). Some (n, r) ∷ cs) over
 
-    pub turn_miss : ok ≡ false → Left t b id kind P r.after
-    turn_miss f =
-        record {
-          low = omega (arith, l.low, ahead);
-          high = ahead.1;
-          left = subst P (rest_miss t b.parent id kind b.end n m r q (sym f ∙ o) ∙ over) l.left;
-        }
-
-    -- Where the loop ends at a child.
-    pub turn_here : ok ≡ true → P (Some (n, r) ∷ rest t b.parent id kind b.end (n + 1))
-    turn_here f = subst P (rest_hit t b.parent id kind b.end n m r q (sym f ∙ o)) l.left
-
--- ---- the k-th child: of those that are left, k is the first, or the one before it is passed
-
-module _ (c d : Option (ℕ × Row)) (cs : List (Option (ℕ × Row))) (k : ℕ) (e : c ≡ nth_of k (d ∷ cs)) where
-  pub nth_here : k ≡ 0 → d ≡ c
-  unfolding nth_of
-  nth_here z = sym (e ∙ ap (λ (x : ℕ). nth_of x (d ∷ cs)) z)
-
-  pub nth_later : (k ≡ 0 → ⊥) → c ≡ nth_of (k - 1) cs
-  unfolding nth_of
-  nth_later z = let m : k ≡ suc (k - 1) = omega arith in e ∙ ap (λ (x : ℕ). nth_of x (d ∷ cs)) m
+    pub turn_miss : ok ≡ false → rest t b.parent id kind b.end n ≡ rest t b.parent id kind b.end r.after
+    turn_miss f = rest_miss t b.parent id kind b.end n l r q (sym f ∙ o) ∙ over

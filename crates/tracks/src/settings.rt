@@ -42,15 +42,12 @@ pub fn settings_in(recording: &[u8], table: &[u64], rows: usize, master: Below) 
 {
     let video = last_child(table, master, ids::VIDEO, Kind::Master);
     let audio = last_child(table, master, ids::AUDIO, Kind::Master);
-    match later(video, audio) {
-        None => None,
-        Some(Deciding::Video(number)) => {
-            let inner = rows_below(table, rows, number + 1);
-            Some(Settings::Video(video_in(recording, table, inner)))
+    Some(match later(video, audio)? {
+        Deciding::Video(number) => {
+            Settings::Video(video_in(recording, table, rows_below(table, rows, number + 1)))
         }
-        Some(Deciding::Audio(number)) => {
-            let inner = rows_below(table, rows, number + 1);
-            Some(Settings::Audio(audio_in(recording, table, inner)))
+        Deciding::Audio(number) => {
+            Settings::Audio(audio_in(recording, table, rows_below(table, rows, number + 1)))
         }
-    }
+    })
 }

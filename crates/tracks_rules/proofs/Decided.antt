@@ -71,19 +71,20 @@ module _ (P : ℕ → Type 0) where
 
 module _ {s t : List ℕ} {rows : ℕ} {b : Below} (h : Stands s t rows b) {v a : (Option (ℕ × Row))}
     (p : v ≡ last_inner t b 0xE0) (q : a ≡ last_inner t b 0xE1) {d : (Option Deciding)} (e : d ≡ decided v a) where
-  pub video_known : {n : ℕ} → d ≡ Some (Video n) → n + 1 ≤ rows
-  video_known {n} w =
-      video_is (λ m. m + 1 ≤ rows) v a n (λ m r f. inner_known h 0xE0 p (sym f)) (sym w ∙ e)
+  module _ {n : ℕ} {x : Deciding} (w : d ≡ Some x) where
+    pub video_known : x ≡ Video n → n + 1 ≤ rows
+    video_known g =
+        video_is (λ m. m + 1 ≤ rows) v a n (λ m r f. inner_known h 0xE0 p (sym f)) (sym (w ∙ ap Some g) ∙ e)
 
-  pub audio_known : {n : ℕ} → d ≡ Some (Audio n) → n + 1 ≤ rows
-  audio_known {n} w =
-      audio_is (λ m. m + 1 ≤ rows) v a n (λ m r f. inner_known h 0xE1 q (sym f)) (sym w ∙ e)
+    pub audio_known : x ≡ Audio n → n + 1 ≤ rows
+    audio_known g =
+        audio_is (λ m. m + 1 ≤ rows) v a n (λ m r f. inner_known h 0xE1 q (sym f)) (sym (w ∙ ap Some g) ∙ e)
 
-  pub video_fits : {n : ℕ} → d ≡ Some (Video n) → rows < 2 ^ 64 → n + 1 < 2 ^ 64
-  video_fits w u = let k = video_known w in omega arith
+    pub video_fits : x ≡ Video n → rows < 2 ^ 64 → n + 1 < 2 ^ 64
+    video_fits g u = let k = video_known g in omega arith
 
-  pub audio_fits : {n : ℕ} → d ≡ Some (Audio n) → rows < 2 ^ 64 → n + 1 < 2 ^ 64
-  audio_fits w u = let k = audio_known w in omega arith
+    pub audio_fits : x ≡ Audio n → rows < 2 ^ 64 → n + 1 < 2 ^ 64
+    audio_fits g u = let k = audio_known g in omega arith
 
   settings_by : (c : Option Deciding) → d ≡ c
       → settings_in s (rows_of t rows) b.parent c ≡ settings_of s (rows_of t rows) b.parent
@@ -95,16 +96,19 @@ module _ {s t : List ℕ} {rows : ℕ} {b : Below} (h : Stands s t rows b) {v a 
   pub no_settings : d ≡ None → unset ∷ [] ≡ settings_of s (rows_of t rows) b.parent
   no_settings w = settings_by None w
 
-  module _ {n : ℕ} {inner : Below} (i : BelowIs t rows (n + 1) inner) {vs : List FieldValue} where
-    pub video_settings : d ≡ Some (Video n) → vs ≡ video_of s inner.parent (rows_in t inner)
+  module _ {n : ℕ} {x : Deciding} (w : d ≡ Some x) {inner : Below} (i : BelowIs t rows (n + 1) inner)
+      {vs : List FieldValue} where
+    pub video_settings : x ≡ Video n → vs ≡ video_of s inner.parent (rows_in t inner)
         → number 1 ∷ vs ≡ settings_of s (rows_of t rows) b.parent
-    video_settings w f =
-        ap (λ (x : List FieldValue). number 1 ∷ x) (inner_fields (video_of s) t rows n i f) ∙ settings_by (Some (Video n)) w
+    video_settings g f =
+        ap (λ (y : List FieldValue). number 1 ∷ y) (inner_fields (video_of s) t rows n i f)
+        ∙ settings_by (Some (Video n)) (w ∙ ap Some g)
 
-    pub audio_settings : d ≡ Some (Audio n) → vs ≡ audio_of s inner.parent (rows_in t inner)
+    pub audio_settings : x ≡ Audio n → vs ≡ audio_of s inner.parent (rows_in t inner)
         → number 2 ∷ vs ≡ settings_of s (rows_of t rows) b.parent
-    audio_settings w f =
-        ap (λ (x : List FieldValue). number 2 ∷ x) (inner_fields (audio_of s) t rows n i f) ∙ settings_by (Some (Audio n)) w
+    audio_settings g f =
+        ap (λ (y : List FieldValue). number 2 ∷ y) (inner_fields (audio_of s) t rows n i f)
+        ∙ settings_by (Some (Audio n)) (w ∙ ap Some g)
 
 -- ---- the track itself
 

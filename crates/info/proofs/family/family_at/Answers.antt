@@ -12,5 +12,5 @@ returns-in-Err c = search family_refused
 pub returns-in-None : goal.returns-in-None
 returns-in-None c = search family_none
 
-pub returns-in-Ok-family_in : goal.returns-in-Ok-family_in
-returns-in-Ok-family_in c = search family_found
+pub returns-in-Some : goal.returns-in-Some
+returns-in-Some c = search family_found

@@ -11,5 +11,5 @@ returns-in-Err c = search read_refused
 pub returns-in-None : goal.returns-in-None
 returns-in-None c = search found_none
 
-pub returns-in-Ok : goal.returns-in-Ok
-returns-in-Ok c = search found_at
+pub returns-in-Some : goal.returns-in-Some
+returns-in-Some c = search found_at

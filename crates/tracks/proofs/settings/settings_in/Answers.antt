@@ -13,28 +13,28 @@ pub last_child-audio-requires : goal.last_child-audio-requires
 last_child-audio-requires c = search within
 
 pub overflow_add-number : goal.overflow_add-number
-overflow_add-number c = search (video_fits, arith)
+overflow_add-number c = let is = c.in_ok-number.was in search (video_fits, arith)
 
-pub rows_below-inner-requires : goal.rows_below-inner-requires
-rows_below-inner-requires c = search video_known
+pub rows_below-requires : goal.rows_below-requires
+rows_below-requires c = let is = c.in_ok-number.was in search video_known
 
 pub video_in-requires : goal.video_in-requires
 video_in-requires c = search inner_readable
 
-pub overflow_add-number-in-Some-Audio : goal.overflow_add-number-in-Some-Audio
-overflow_add-number-in-Some-Audio c = search (audio_fits, arith)
+pub overflow_add-number-in-Audio : goal.overflow_add-number-in-Audio
+overflow_add-number-in-Audio c = let is = c.in_ok-number.was in search (audio_fits, arith)
 
-pub rows_below-inner-requires-in-Some-Audio : goal.rows_below-inner-requires-in-Some-Audio
-rows_below-inner-requires-in-Some-Audio c = search audio_known
+pub rows_below-requires-in-Audio : goal.rows_below-requires-in-Audio
+rows_below-requires-in-Audio c = let is = c.in_ok-number.was in search audio_known
 
 pub audio_in-requires : goal.audio_in-requires
 audio_in-requires c = search inner_readable
 
-pub returns-in-None : goal.returns-in-None
-returns-in-None c = search no_settings
+pub returns-in_err-number : goal.returns-in_err-number
+returns-in_err-number c = rw c.from_residual.ensures (no_settings c.requires c.last_child-video.ensures c.last_child-audio.ensures c.later.ensures (c.in_err-number.was))
 
-pub returns-in-Some-Video : goal.returns-in-Some-Video
-returns-in-Some-Video c = search video_settings
+pub returns-in-Video : goal.returns-in-Video
+returns-in-Video c = let is = c.in_ok-number.was in search video_settings
 
-pub returns-in-Some-Audio : goal.returns-in-Some-Audio
-returns-in-Some-Audio c = search audio_settings
+pub returns-in-Audio : goal.returns-in-Audio
+returns-in-Audio c = let is = c.in_ok-number.was in search audio_settings

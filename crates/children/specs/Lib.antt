@@ -1,0 +1,2 @@
+-- What is said of the children that an iterator still has to give.
+pub mod Left
