@@ -19,33 +19,25 @@ const UTF8: u64 = 5;
 fn is_text(kind: u64) -> bool
     ensures { result ≡ is_text kind }
 {
-    if kind == STRING {
-        return true;
-    }
-    kind == UTF8
+    kind == STRING || kind == UTF8
 }
 
 // The range of a text row's shown text. 14: as `payload_range` has it, or the row is no text row.
 pub fn text_range(recording: &[u8], table: &[u64], row: u64) -> Result<Range, Refusal>
     ensures { TextPromise recording.now table.now row result }
 {
-    match payload_range(recording, table, row) {
-        Err(refusal) => Err(refusal),
-        Ok(range) => {
-            let found = row_at(table, row as usize);
-            if !is_text(found.kind) {
-                return Err(Refusal {
-                    address: 0,
-                    cause: Cause::BadArgument,
-                });
-            }
-            let text = shown_part(row_payload(recording, table, row));
-            Ok(Range {
-                at: range.at,
-                length: text.len() as u64,
-            })
-        }
+    let range = payload_range(recording, table, row)?;
+    if !is_text(row_at(table, row as usize).kind) {
+        return Err(Refusal {
+            address: 0,
+            cause: Cause::BadArgument,
+        });
     }
+    let text = shown_part(row_payload(recording, table, row));
+    Ok(Range {
+        at: range.at,
+        length: text.len() as u64,
+    })
 }
 
 // The shown text of a row as the very part of the recording; empty where `text_range` refuses.
@@ -53,13 +45,7 @@ pub fn shown_text<'a>(recording: &'a [u8], table: &[u64], row: u64) -> &'a [u8]
     ensures { ShownPromise recording.now table.now row result.now }
 {
     match text_range(recording, table, row) {
+        Ok(range) => &recording[range.at as usize..(range.at + range.length) as usize],
         Err(_) => &recording[..0],
-        Ok(range) => {
-            let at = range.at;
-            let end = at + range.length;
-            let first = at as usize;
-            let last = end as usize;
-            &recording[first..last]
-        }
     }
 }

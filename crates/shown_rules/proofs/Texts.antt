@@ -6,8 +6,6 @@ use mathlib.Core.Bool.{Bool, true, false, cond}
 use native.Mathlib.Omega.{arith}
 use lib.ListN.{length, take, drop, length-take}
 use lib.Seq.{take-take}
-use lib.Dec.{eqb}
-use borrow.Author.Tests.{eq-eqb, ne_eqb}
 use Rattle.refusals.specs.Refusals.{bad_argument}
 use Rattle.refusals.specs.Reply.{refusal}
 use Rattle.refusals.specs.declared.refusal.Refusal.{Refusal}
@@ -23,16 +21,6 @@ use Rattle.shown_rules.specs.Promise.{TextPromise, ShownPromise}
 use Rattle.shown_rules.specs.Theorems.{ShownBeforeZero, TailUnseen, TextInPayload, NoTextRefused}
 use Rattle.shown_rules.proofs.Zeros.{before_zero, tail_cut, shown_fits, shown_taken}
 use Rattle.std.proofs.Common.{Result, Ok, Err}
-
--- ---- the two kinds of text
-
-pub is_string : (k : ℕ) → k ≡ 4 → true ≡ is_text k
-unfolding is_text
-is_string k e = rw (eq-eqb k 4 e)
-
-pub by_utf8 : (k : ℕ) → (k ≡ 4 → ⊥) → eqb k 5 ≡ is_text k
-unfolding is_text
-by_utf8 k e = rw (ne_eqb k 4 e)
 
 -- ---- what is shown of a range
 

@@ -1,16 +1,18 @@
 -- A text up to its first zero octet (`BeforeZero`, `Longest`, `OneBeforeZero`). Assumes nothing.
-use Prim.Native.Nat.{ℕ, suc, ◌+◌, ◌≤◌, ◌<◌}
+use Prim.Native.Nat.{ℕ, ◌+◌, ◌≤◌}
 use mathlib.Core.Path.{◌≡◌, refl, sym, ap, ◌∙◌}
 use mathlib.Core.List.Memᴰ
 use mathlib.Core.List.{List, [], ◌∷◌, ◌++◌, Memᴰ}
 use mathlib.Core.Logic.{◌⊎◌, inl, inr, ⊎_elim}
-use mathlib.Core.Bool.{Bool, true, false}
-use native.Mathlib.Numerals.{add-one}
+use mathlib.Core.Bool.{Bool, true, false, cond}
 use native.Mathlib.Omega.{arith}
-use lib.ListN.{length, take, drop, get_or, length-append, drop_of_length-le}
-use lib.Seq.{drop-cons, take_all, take-append_seam}
-use lib.Dec.{eqb}
-use borrow.Author.Tests.{eq-eqb, ne_eqb, eqb-true, eqb-false}
+use lib.ListN.{length, take, length-append}
+use lib.Seq.{take_all, take-append_seam}
+use lib.Dec.{eqb, ltb}
+use borrow.Author.Tests.{eq-eqb, ne_eqb, eqb-true, eqb-false, ltb-false}
+use Rattle.std.proofs.Common.{Some, None}
+use Rattle.std.proofs.lemmas.List.Recursion.{is_position_or_len}
+use Rattle.std.specs.List.{position, position_or_len}
 use Rattle.shown_rules.specs.Shown.{shown}
 use Rattle.shown_rules.specs.Theorems.{BeforeZero, Longest, OneBeforeZero}
 
@@ -93,29 +95,33 @@ shown_taken text =
     let p = before_zero text in
     ap (take (length (shown text))) p.begins ∙ take-append_seam (shown text) p.rest
 
--- So far, and what is shown of the rest.
-abbrev pub Passed : List ℕ → ℕ → Type 0
-Passed text i = length (shown text) ≡ i + length (shown (drop i text))
+-- ---- the place of the first zero octet
 
-module _ (text : List ℕ) (i : ℕ) (l : i < length text) where
-  pub pass : (get_or text i 0 ≡ 0 → ⊥) → Passed text i → Passed text (i + 1)
-  pass e p =
-      let n : shown (drop i text) ≡ get_or text i 0 ∷ shown (drop (i + 1) text)
-      = rw (drop-cons text i 0 l, add-one i) (past (get_or text i 0) (drop (suc i) text) e) in
-      let m = ap length n in
-      omega arith
-
-  pub stop : get_or text i 0 ≡ 0 → Passed text i → take i text ≡ shown text
-  stop e p =
-      let n : shown (drop i text) ≡ []
-      = rw (drop-cons text i 0 l) (at_zero (get_or text i 0) (drop (suc i) text) e) in
-      let m = ap length n in
-      let k : i ≡ length (shown text) = omega arith in
-      ap (λ (x : ℕ). take x text) k ∙ shown_taken text
-
-pub all_passed : (text : List ℕ) (i : ℕ) → length text ≤ i → Passed text i → text ≡ shown text
+-- As many octets are shown as stand before the first zero octet.
+length_shown : (text : List ℕ) → length (shown text) ≡ position_or_len (λ b. eqb b 0) text
 unfolding shown
-all_passed text i l p =
-    let m : length (shown (drop i text)) ≡ 0 = rw (drop_of_length-le text l) in
-    let k : length text ≤ length (shown text) = omega arith in
-    sym (take_all (length (shown text)) text k) ∙ shown_taken text
+length_shown = is_position_or_len (λ text. length (shown text)) (λ b. eqb b 0) refl step
+  where
+    step : (b : ℕ) (text : List ℕ) → length (shown (b ∷ text)) ≡ cond (eqb b 0) 0 (1 + length (shown text))
+    step b text = by (eqb b 0)
+      where
+        by : (t : Bool) → length (cond t [] (b ∷ shown text)) ≡ cond t 0 (1 + length (shown text))
+        by true = refl
+        by false = omega arith
+
+pub before_first_zero : (text : List ℕ) (end : ℕ) → position (λ b. eqb b 0) text ≡ Some end → take end text ≡ shown text
+before_first_zero text end q = by (ltb (length (shown text)) (length text)) (rw (sym (length_shown text)) at q)
+  where
+    by : (t : Bool) → cond t (Some (length (shown text))) None ≡ Some end → take end text ≡ shown text
+    by true e = let n : end ≡ length (shown text) = cc in rw n (shown_taken text)
+    by false e = absurd (cc)
+
+pub no_zero : (text : List ℕ) → position (λ b. eqb b 0) text ≡ None → text ≡ shown text
+no_zero text q = by (ltb (length (shown text)) (length text)) refl (rw (sym (length_shown text)) at q)
+  where
+    by : (t : Bool) → ltb (length (shown text)) (length text) ≡ t → cond t (Some (length (shown text))) None ≡ None
+        → text ≡ shown text
+    by true o e = absurd (cc)
+    by false o e =
+        let n = ltb-false (length (shown text)) (length text) o in
+        sym (take_all (length (shown text)) text n) ∙ shown_taken text

@@ -25,33 +25,24 @@ pub fn is_endless(id: u32) -> bool
 fn is_child(id: u32) -> bool
     ensures { result ≡ member id child_ids }
 {
-    match id {
-        ids::SEEKHEAD => true,
-        ids::INFO => true,
-        ids::TRACKS => true,
-        ids::CHAPTERS => true,
-        CLUSTER => true,
-        CUES => true,
-        ids::ATTACHMENTS => true,
-        ids::TAGS => true,
-        _ => false,
-    }
+    matches!(
+        id,
+        ids::SEEKHEAD
+            | ids::INFO
+            | ids::TRACKS
+            | ids::CHAPTERS
+            | CLUSTER
+            | CUES
+            | ids::ATTACHMENTS
+            | ids::TAGS
+    )
 }
 
 // Whether an element of that id and of unknown size ends before one of the next id.
 fn ends_before(id: u32, next: u32) -> bool
     ensures { result ≡ ends_before id next }
 {
-    if next == ids::SEGMENT {
-        return true;
-    }
-    if next == EBML {
-        return true;
-    }
-    if id == CLUSTER {
-        return is_child(next);
-    }
-    false
+    next == ids::SEGMENT || next == EBML || (id == CLUSTER && is_child(next))
 }
 
 // Whether a place is past a stretch.
@@ -60,12 +51,7 @@ pub fn is_past(recording: &[u8], stretch: Stretch, at: u64) -> bool
 {
     match stretch {
         Stretch::Sized(end) => end <= at,
-        Stretch::Endless { id: _, end } => {
-            if end <= at {
-                return true;
-            }
-            recording.len() as u64 <= at
-        }
+        Stretch::Endless { end, .. } => end <= at || recording.len() as u64 <= at,
     }
 }
 
@@ -75,6 +61,6 @@ pub fn is_ended_by(stretch: Stretch, next: u32) -> bool
 {
     match stretch {
         Stretch::Sized(_) => false,
-        Stretch::Endless { id, end: _ } => ends_before(id, next),
+        Stretch::Endless { id, .. } => ends_before(id, next),
     }
 }

@@ -12,10 +12,7 @@ use walks_rules::Stretch;
 fn is_barred(live: bool, element: Headed) -> bool
     ensures { result ≡ barred_step live element }
 {
-    if is_unknown(live, element.header) {
-        return !is_endless(element.header.id);
-    }
-    false
+    is_unknown(live, element.header) && !is_endless(element.header.id)
 }
 
 // The element at a place of a stretch: the end, header, an id that ends it, 17.
@@ -30,19 +27,15 @@ pub fn child_at(
     if is_past(recording, stretch, place.at) {
         return Ok(None);
     }
-    match place.header(recording) {
-        Err(refusal) => Err(refusal),
-        Ok(child) => {
-            if is_ended_by(stretch, child.header.id) {
-                return Ok(None);
-            }
-            if is_barred(live, child) {
-                return Err(Refusal {
-                    address: child.place.at,
-                    cause: Cause::UnknownSize,
-                });
-            }
-            Ok(Some(child))
-        }
+    let child = place.header(recording)?;
+    if is_ended_by(stretch, child.header.id) {
+        return Ok(None);
     }
+    if is_barred(live, child) {
+        return Err(Refusal {
+            address: child.place.at,
+            cause: Cause::UnknownSize,
+        });
+    }
+    Ok(Some(child))
 }

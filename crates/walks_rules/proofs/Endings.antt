@@ -1,6 +1,6 @@
 -- The end of an element of unknown size is behind its header (`EndUnfolds`). Assumes nothing.
-use Prim.Native.Nat.{ℕ, ◌+◌, ◌-◌, ◌≤◌, ◌<◌}
-use mathlib.Core.Path.{◌≡◌, refl, sym, ap, ◌∙◌, subst}
+use Prim.Native.Nat.{ℕ, ◌-◌, ◌<◌}
+use mathlib.Core.Path.{◌≡◌, subst}
 use mathlib.Core.List.{List}
 use mathlib.Core.Bool.{Bool, true, false, cond, ◌&&◌}
 use native.Mathlib.Omega.{arith}
@@ -10,12 +10,11 @@ use Rattle.refusals.specs.declared.refusal.Refusal.{Refusal}
 use Rattle.header.specs.Reads.{behind}
 use Rattle.header.specs.declared.cursor.Headed.{Headed}
 use Rattle.sizes.specs.Unknown.{unknown}
-use Rattle.walks_rules.specs.Step.{child_at, on_child}
-use Rattle.walks_rules.specs.Walk.{walk}
+use Rattle.walks_rules.specs.Step.{child_at}
 use Rattle.walks_rules.specs.Endings.{ended_at, within, ending, end_from, pass_over, end_of}
 use Rattle.walks_rules.specs.Theorems.{EndUnfolds}
 use Rattle.walks_rules.specs.declared.step.Stretch.{Stretch}
-use Rattle.walks_rules.specs.declared.step.Stretch.TheVariants.{Sized, Endless}
+use Rattle.walks_rules.specs.declared.step.Stretch.TheVariants.{Endless}
 use Rattle.walks_rules.proofs.Bounds.{unfolds, holds}
 use Rattle.walks_rules.proofs.Steps.{Stepped, stepped_on, no_room, less_room}
 use Rattle.std.proofs.Common.{Result, Ok}

@@ -1,15 +1,15 @@
 -- Where a size is known live mode steps and passes as old mode does. Assumes nothing.
 use Prim.Native.Nat.{ℕ}
-use mathlib.Core.Path.{◌≡◌, refl, sym, ap, ◌∙◌}
+use mathlib.Core.Path.{◌≡◌, refl, ap}
 use mathlib.Core.List.{List}
-use mathlib.Core.Bool.{Bool, true, false, cond, ◌&&◌, not}
+use mathlib.Core.Bool.{Bool, true, false, cond}
 use lib.ListN.{drop}
 use Rattle.header.specs.Header.{heading, header_of}
 use Rattle.header.specs.Reads.{header_at}
 use Rattle.header.specs.declared.cursor.Headed.{Headed}
 use Rattle.header.specs.declared.cursor.Header.{Header}
 use Rattle.header.proofs.Inside.{header_there}
-use Rattle.sizes.specs.Unknown.{unknown, endless}
+use Rattle.sizes.specs.Unknown.{unknown}
 use Rattle.walks_rules.specs.Answers.{on_header}
 use Rattle.walks_rules.specs.Step.{is_past, ended_by, barred_step, stepped, child_at}
 use Rattle.walks_rules.specs.Endings.{pass_over}

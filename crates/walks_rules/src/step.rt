@@ -1,8 +1,6 @@
-// The step of a walk, and what it goes over.
-use header::Headed;
-use refusals::Refusal;
+// What a walk goes over.
 
-// What a walk goes over: elements up to an end that is known; or what an element of that id and of unknown size holds,
+// Elements up to an end that is known; or what an element of that id and of unknown size holds,
 // up to where it ends, and at the latest up to an end that is known.
 #[derive(Clone, Copy)]
 pub enum Stretch {

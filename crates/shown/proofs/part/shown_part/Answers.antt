@@ -1,34 +1,22 @@
--- `shown_part` meets its contract: the bytes passed hold no zero byte. Assumes nothing.
-use native.Mathlib.Nat.{zero-add}
-use mathlib.Core.Path.{sym}
-use native.Mathlib.Omega.{arith}
-use lib.ListN.{length-take}
-use Rattle.shown_rules.proofs.Zeros.{pass, stop, all_passed}
+-- `shown_part` meets its contract: what stands before the first zero byte. Assumes nothing.
+use mathlib.Core.Path.{sym, ◌∙◌}
+use lib.Dec.{eqb}
+use Rattle.std.proofs.Common.{rules, tests}
+use Rattle.std.proofs.lemmas.Iterator.{YieldsList-from_slice}
+use Rattle.std.proofs.lemmas.Iterator.Search.{position_from_yields_List}
+use Rattle.shown_rules.proofs.Zeros.{before_first_zero, no_zero}
 use Rattle.shown.proofs.part.shown_part.Goals as goal
 
-pub loop-i-init : goal.loop-i-init
-loop-i-init c = (omega arith, sym (zero-add _))
+pub returns-in-Some : goal.returns-in-Some
+returns-in-Some c =
+    let place =
+    position_from_yields_List (λ b. eqb b 0) _ _ c.position.result c.position.ensures.ran
+    (YieldsList-from_slice c.args.text.now cc) (λ x b q k. search (rules, tests)) in
+    before_first_zero _ _ (sym place ∙ c.in-Some.is)
 
-pub returns-then-text-i-eq0 : goal.returns-then-text-i-eq0
-returns-then-text-i-eq0 c =
-    stop _ _ (omega arith) c.if-text-i-eq0.true c.loop-i.invariant.1
-
-pub loop-i-preserved : goal.loop-i-preserved
-loop-i-preserved c =
-    (omega arith, pass _ _ (omega arith) c.if-text-i-eq0.false c.loop-i.invariant.1)
-
-pub returns : goal.returns
-returns c = all_passed _ _ (omega arith) c.loop-i.invariant.1
-
-pub slice_bounds-result-end : goal.slice_bounds-result-end
-slice_bounds-result-end c =
-    omega (arith, length-take c.loop-i.i c.args.text.now, c.loop-i.invariant.0)
-
-pub bounds-text-i : goal.bounds-text-i
-bounds-text-i c = omega arith
-
-pub overflow_add-i : goal.overflow_add-i
-overflow_add-i c = omega arith
-
-pub loop-i-smaller : goal.loop-i-smaller
-loop-i-smaller c = omega arith
+pub returns-in-None : goal.returns-in-None
+returns-in-None c =
+    let place =
+    position_from_yields_List (λ b. eqb b 0) _ _ c.position.result c.position.ensures.ran
+    (YieldsList-from_slice c.args.text.now cc) (λ x b q k. search (rules, tests)) in
+    no_zero _ (sym place ∙ c.in-None.is)

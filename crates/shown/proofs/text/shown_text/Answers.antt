@@ -3,13 +3,13 @@ use native.Mathlib.Omega.{arith}
 use Rattle.shown_rules.proofs.Texts.{shown_inside, shown_is, shown_none}
 use Rattle.shown.proofs.text.shown_text.Goals as goal
 
-pub overflow_add-end : goal.overflow_add-end
-overflow_add-end c =
+pub overflow_add-result : goal.overflow_add-result
+overflow_add-result c =
     let i = shown_inside _ _ _ c.text_range.ensures c.in-Ok.is in
     omega (arith, i.ends, i.short)
 
-pub slice_bounds-result-end-in-Ok : goal.slice_bounds-result-end-in-Ok
-slice_bounds-result-end-in-Ok c =
+pub slice_bounds-result-end : goal.slice_bounds-result-end
+slice_bounds-result-end c =
     let i = shown_inside _ _ _ c.text_range.ensures c.in-Ok.is in
     omega (arith, i.ends)
 

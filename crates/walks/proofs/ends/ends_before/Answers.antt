@@ -1,17 +1,31 @@
 -- `ends_before` meets its contract: Segment and EBML header, and for a Cluster the segment's children. Assumes nothing.
-use Rattle.walks_rules.proofs.Told.{before_segment, before_ebml, before_child, before_none}
+use Rattle.std.proofs.Common.{arith}
+use Rattle.std.proofs.lemmas.Bool.Decides.{nat_tests}
+use Rattle.kinds.specs.Kinds.{member}
+use Rattle.walks_rules.specs.Step.{ends_before}
 use Rattle.walks.proofs.ends.ends_before.Goals as goal
-
-pub returns-then-next-eq-SEGMENT : goal.returns-then-next-eq-SEGMENT
-returns-then-next-eq-SEGMENT c = before_segment _ _ c.if-next-eq-SEGMENT.true
+use Rattle.walks.proofs.ends.ends_before.Goals.{then-next-eq-SEGMENT, else-next-eq-SEGMENT}
 
 pub returns-then-next-eq-EBML : goal.returns-then-next-eq-EBML
-returns-then-next-eq-EBML c = before_ebml _ _ c.if-next-eq-SEGMENT.false c.if-next-eq-EBML.true
+unfolding ends_before member
+returns-then-next-eq-EBML c =
+    elim c.if-next-eq-SEGMENT.branch [
+      | then-next-eq-SEGMENT w ↦ grind (arith, nat_tests)
+      | else-next-eq-SEGMENT w ↦ grind (arith, nat_tests)
+    ]
 
 pub returns-then-id-eq-CLUSTER : goal.returns-then-id-eq-CLUSTER
+unfolding ends_before member
 returns-then-id-eq-CLUSTER c =
-    before_child _ _ c.if-next-eq-SEGMENT.false c.if-next-eq-EBML.false c.if-id-eq-CLUSTER.true _
-    c.is_child.ensures
+    elim c.if-next-eq-SEGMENT.branch [
+      | then-next-eq-SEGMENT w ↦ grind (arith, nat_tests)
+      | else-next-eq-SEGMENT w ↦ grind (arith, nat_tests)
+    ]
 
-pub returns : goal.returns
-returns c = before_none _ _ c.if-next-eq-SEGMENT.false c.if-next-eq-EBML.false c.if-id-eq-CLUSTER.false
+pub returns-else-id-eq-CLUSTER : goal.returns-else-id-eq-CLUSTER
+unfolding ends_before member
+returns-else-id-eq-CLUSTER c =
+    elim c.if-next-eq-SEGMENT.branch [
+      | then-next-eq-SEGMENT w ↦ grind (arith, nat_tests)
+      | else-next-eq-SEGMENT w ↦ grind (arith, nat_tests)
+    ]

@@ -1,43 +1,13 @@
 -- `is_child` meets its contract: an arm for each id. Assumes nothing.
-use mathlib.Core.Path.{refl}
+use Rattle.std.proofs.Common.{arith}
+use Rattle.std.proofs.lemmas.Bool.Decides.{nat_tests}
 use Rattle.kinds.specs.Kinds.{member}
-use Rattle.walks_rules.proofs.Told.{other_child}
-use native.Mathlib.Omega.{arith}
 use Rattle.walks.proofs.ends.is_child.Goals as goal
 
 pub returns-in-290298740 : goal.returns-in-290298740
 unfolding member
-returns-in-290298740 c = rw c.in-290298740.is refl
-
-pub returns-in-357149030 : goal.returns-in-357149030
-unfolding member
-returns-in-357149030 c = rw c.in-357149030.is refl
-
-pub returns-in-374648427 : goal.returns-in-374648427
-unfolding member
-returns-in-374648427 c = rw c.in-374648427.is refl
-
-pub returns-in-272869232 : goal.returns-in-272869232
-unfolding member
-returns-in-272869232 c = rw c.in-272869232.is refl
-
-pub returns-in-524531317 : goal.returns-in-524531317
-unfolding member
-returns-in-524531317 c = rw c.in-524531317.is refl
-
-pub returns-in-475249515 : goal.returns-in-475249515
-unfolding member
-returns-in-475249515 c = rw c.in-475249515.is refl
-
-pub returns-in-423732329 : goal.returns-in-423732329
-unfolding member
-returns-in-423732329 c = rw c.in-423732329.is refl
-
-pub returns-in-307544935 : goal.returns-in-307544935
-unfolding member
-returns-in-307544935 c = rw c.in-307544935.is refl
+returns-in-290298740 c = grind (arith, nat_tests)
 
 pub returns-in_default : goal.returns-in_default
-returns-in_default c =
-    other_child _ (omega arith) (omega arith) (omega arith) (omega arith) (omega arith) (omega arith) (omega arith)
-    (omega arith)
+unfolding member
+returns-in_default c = grind (arith, nat_tests)
