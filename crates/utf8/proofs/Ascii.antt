@@ -1,12 +1,14 @@
 -- Octets joined to one word, and a mask of their high bits that finds none. Assumes nothing.
-use mathlib.Core.Path.{◌≡◌, ap, ◌∙◌, sym}
+use mathlib.Core.Path.{◌≡◌, refl, ap, ◌∙◌, sym}
 use mathlib.Core.List.{List, [], ◌++◌}
-use Prim.Native.Nat.{ℕ, zero, suc, ◌+◌, ◌-◌, ◌*◌, ◌^◌, ◌/◌, ◌%◌, ◌<◌}
+use Prim.Native.Nat.{ℕ, zero, suc, ◌+◌, ◌-◌, ◌*◌, ◌^◌, ◌/◌, ◌%◌, ◌≤◌, ◌<◌}
 use native.Mathlib.Omega.{arith}
 use native.Mathlib.Nat.{mod-eq_of_lt}
 use lib.Bits.{bit_and, and_block, and_high}
-use lib.ListN.{length, drop, get_or, drop_of_length-le}
-use lib.Seq.{drop-cons}
+use lib.ListN.{length, take, drop, get_or, drop_of_length-le, take-append-drop, length-drop}
+use lib.Seq.{drop-cons, drop-drop}
+use Rattle.std.specs.List.{AllWithin}
+use Rattle.std.specs.Simd.{first_chunks}
 use Rattle.std.specs.Int.{w64, from_le_bytes}
 use Rattle.utf8.specs.Utf8.{goes_on}
 use Rattle.utf8.proofs.Steps.{ascii}
@@ -46,3 +48,29 @@ module _ (s : List ℕ) (octets : (j : ℕ) → get_or s j 0 < 256) (t : List �
   eight_passed h e =
       let joined : from_le_bytes w64 s ≡ word s 0 8 = omega arith in
       passed 0 8 (omega arith) (ap (λ (x : ℕ). bit_and x (highs 8)) (sym joined) ∙ e)
+
+-- Octets that decide nothing, whatever is behind them.
+abbrev pub Passed : List ℕ → Type 0
+Passed t = (s : List ℕ) → goes_on [] (t ++ s) ≡ goes_on [] s
+
+-- The first k of n eights.
+pub eights_passed :
+    (k n : ℕ) (s : List ℕ) → k ≤ n → n * 8 ≤ length s → AllWithin Passed (first_chunks 8 n s) 0 k
+    → goes_on [] s ≡ goes_on [] (drop (8 * k) s)
+eights_passed zero n s h room all = refl
+eights_passed (suc k) zero s h room all = absurd (omega arith)
+eights_passed (suc k) (suc n) s h room all =
+    let here : goes_on [] (take 8 s ++ drop 8 s) ≡ goes_on [] (drop 8 s) =
+    all 0 [] (omega arith) (omega arith) (drop 8 s) in
+    let there = eights_passed k n (drop 8 s) (omega arith) (omega (arith, length-drop 8 s))
+    (λ j d l g. all (suc j) d (omega arith) (omega arith)) in
+    let place : 8 + 8 * k ≡ 8 * suc k = omega arith in
+    ap (goes_on []) (sym (take-append-drop 8 s)) ∙ here ∙ there
+    ∙ ap (goes_on []) (drop-drop (8 * k) 8 s ∙ ap (λ (j : ℕ). drop j s) place)
+
+pub behind_eights :
+    (s : List ℕ) (eights : List (List ℕ)) (n k : ℕ) (rest : List ℕ) → eights ≡ first_chunks 8 n s → n * 8 ≤ length s
+    → k ≤ n → AllWithin Passed eights 0 k → rest ≡ drop (8 * k) s
+    → (goes_on [] s ≡ goes_on [] rest) × (length rest ≤ length s)
+behind_eights s eights n k rest e room h all r =
+    (eights_passed k n s h room (rw e at all) ∙ ap (goes_on []) (sym r), omega (arith, length-drop (8 * k) s, ap length r))

@@ -6,10 +6,10 @@ use Prim.Native.Nat.{ℕ, zero, suc, ◌≤◌, ◌<◌}
 use native.Mathlib.Omega.{arith}
 use lib.ListN.{length, get_or, replicate, length-replicate}
 use borrow.Author.Tests.{le-leb, lt-leb}
-use Rattle.std.proofs.Common.{Option, Some, None}
+use Rattle.std.proofs.Common.{Some, None}
 use Rattle.std.proofs.lemmas.Slice.{first_rest}
 use Rattle.std.specs.List.{list_all, between}
-use Rattle.utf8.specs.Utf8.{Range, range, within, utf8_tail, utf8_char, behind, any_of, goes_on}
+use Rattle.utf8.specs.Utf8.{Range, within, utf8_tail, utf8_char, behind, any_of, goes_on}
 use Rattle.utf8.specs.Leads.{others, noted}
 use Rattle.utf8.specs.declared.Lead.{Lead}
 use Rattle.utf8.proofs.Leads.{left_behind}

@@ -77,11 +77,9 @@ fn are_tails(bytes: &[u8]) -> bool
 impl Lead {
     // What stands behind the character, where the bytes behind its first one go on as they have to.
     fn past(self, bytes: &[u8]) -> Option<&[u8]>
-        ensures {
-            MatchOption result
+        ensures { MatchOption result
             (goes_on (others self) bytes.now ≡ false)
-            (λ rest. (goes_on (others self) bytes.now ≡ goes_on [] rest.now) × (length rest.now ≤ length bytes.now))
-        }
+            (λ rest. (goes_on (others self) bytes.now ≡ goes_on [] rest.now) × (length rest.now ≤ length bytes.now)) }
     {
         let [second, more @ ..] = bytes else {
             return None;
@@ -110,13 +108,11 @@ fn are_ascii(eight: &[u8; 8]) -> bool
 fn past_ascii(bytes: &[u8]) -> &[u8]
     ensures { (goes_on [] bytes.now ≡ goes_on [] result.now) × (length result.now ≤ length bytes.now) }
 {
-    let mut rest = bytes;
-    while let Some((eight, behind)) = rest.split_first_chunk::<8>()
-        && are_ascii(eight)
-    {
-        rest = behind;
+    let (eights, rest) = bytes.as_chunks::<8>();
+    match eights.iter().position(|eight| !are_ascii(eight)) {
+        Some(passed) => &bytes[8 * passed..],
+        None => rest,
     }
-    rest
 }
 
 // Whether the bytes are UTF-8.

@@ -1,7 +1,4 @@
 -- `are_ascii` meets its contract: the word is the eight octets, and its high bits are theirs. Assumes nothing.
-use mathlib.Core.Path.{◌≡◌, ap, sym, ◌∙◌}
-use native.Mathlib.Omega.{arith}
-use lib.Bits.{bit_and}
 use borrow.Author.Tests.{eqb-true}
 use Rattle.utf8.proofs.Ascii.{eight_passed}
 use Rattle.utf8.proofs.are_ascii.Goals as goal

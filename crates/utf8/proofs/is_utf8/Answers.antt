@@ -1,6 +1,5 @@
 -- `is_utf8` meets its promise: the octets that are left decide for all of them. Assumes nothing.
-use mathlib.Core.Path.{◌≡◌, refl, ◌∙◌, sym}
-use native.Mathlib.Omega.{arith}
+use mathlib.Core.Path.{refl, ◌∙◌, sym}
 use borrow.Author.Tests.{ltb-true}
 use Rattle.utf8.specs.Utf8.{utf8}
 use Rattle.utf8.proofs.Steps.{first_ascii, no_char, begins, at_end}
