@@ -1,5 +1,5 @@
 -- Any two replies that a promise permits to one question are equal. Assumes nothing.
-use Prim.Native.Nat.{ℕ, ◌<◌}
+use Prim.Native.Nat.{◌<◌}
 use mathlib.Core.Path.{◌≡◌, refl, ap, sym, ◌∙◌}
 use native.Mathlib.Omega.{arith}
 use Rattle.codes.specs.Stereo.{mode_table, mode_in, modes, stereo_number}
@@ -38,10 +38,6 @@ numbered (Interlaced RightFirst) = (refl, omega arith)
 pub mode_once : (m n : StereoMode) → stereo_number m ≡ stereo_number n → m ≡ n
 mode_once m n e = sym (numbered m).0 ∙ ap (mode_in mode_table) e ∙ (numbered n).0
 
--- By the case that a mode was found to be.
-pub number_of : {r : ℕ} {m n : StereoMode} → m ≡ n → r ≡ stereo_number n → r ≡ stereo_number m
-number_of e q = q ∙ ap stereo_number (sym e)
-
 -- ---- a track type has a number of its own
 
 type_back : (t : Tracktype) → tracktype_of (type_number t) ≡ t
@@ -57,9 +53,6 @@ type_back Unknown = refl
 
 pub type_once : (t u : Tracktype) → type_number t ≡ type_number u → t ≡ u
 type_once t u e = sym (type_back t) ∙ ap tracktype_of e ∙ type_back u
-
-pub type_at : (t : Tracktype) (n : ℕ) → n ≡ type_number t → t ≡ tracktype_of n
-type_at t n e = sym (type_back t) ∙ ap tracktype_of (sym e)
 
 -- ---- the theorems
 

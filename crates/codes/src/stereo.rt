@@ -1,6 +1,4 @@
 // How a video track is shown in stereo: the modes 0 to 14 by name, and their numbers.
-ghost use Rattle.std.specs.Prelude.{◌≡◌};
-ghost use Rattle.codes.specs.Stereo.{by_order};
 ghost use Rattle.codes.specs.Promise.{StereoModePromise};
 
 // The eye that is shown first.
@@ -29,32 +27,26 @@ pub enum StereoMode {
 }
 
 impl StereoMode {
-    // The mode's number, as it stands in the recording.
+    // The mode's number, as it stands in the recording. The promises name this call, so it is no `From`.
     pub fn number(self) -> u64
         ensures { StereoModePromise self result }
     {
         match self {
             StereoMode::Mono => 0,
-            StereoMode::SideBySide(order) => by_order(order, 1, 11),
-            StereoMode::TopBottom(order) => by_order(order, 3, 2),
-            StereoMode::Checkboard(order) => by_order(order, 5, 4),
-            StereoMode::RowInterleaved(order) => by_order(order, 7, 6),
-            StereoMode::ColumnInterleaved(order) => by_order(order, 9, 8),
-            StereoMode::Anaglyph(colors) => match colors {
-                StereoColors::CyanRed => 10,
-                StereoColors::GreenMagenta => 12,
-            },
-            StereoMode::Interlaced(order) => by_order(order, 13, 14),
+            StereoMode::SideBySide(EyeOrder::LeftFirst) => 1,
+            StereoMode::TopBottom(EyeOrder::RightFirst) => 2,
+            StereoMode::TopBottom(EyeOrder::LeftFirst) => 3,
+            StereoMode::Checkboard(EyeOrder::RightFirst) => 4,
+            StereoMode::Checkboard(EyeOrder::LeftFirst) => 5,
+            StereoMode::RowInterleaved(EyeOrder::RightFirst) => 6,
+            StereoMode::RowInterleaved(EyeOrder::LeftFirst) => 7,
+            StereoMode::ColumnInterleaved(EyeOrder::RightFirst) => 8,
+            StereoMode::ColumnInterleaved(EyeOrder::LeftFirst) => 9,
+            StereoMode::Anaglyph(StereoColors::CyanRed) => 10,
+            StereoMode::SideBySide(EyeOrder::RightFirst) => 11,
+            StereoMode::Anaglyph(StereoColors::GreenMagenta) => 12,
+            StereoMode::Interlaced(EyeOrder::LeftFirst) => 13,
+            StereoMode::Interlaced(EyeOrder::RightFirst) => 14,
         }
-    }
-}
-
-// The one number with the left eye first, the other with the right.
-fn by_order(order: EyeOrder, left: u64, right: u64) -> u64
-    ensures { result ≡ by_order order left right }
-{
-    match order {
-        EyeOrder::LeftFirst => left,
-        EyeOrder::RightFirst => right,
     }
 }

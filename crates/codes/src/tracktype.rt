@@ -14,7 +14,8 @@ pub enum Tracktype {
 }
 
 impl Tracktype {
-    // The type with this number; any other number is Unknown.
+    // The type with this number; any other number is Unknown. The promises name this call, so it is no `From`.
+    #[tactic(auto, unfolding(crate::specs::Tracktypes::type_in))]
     pub fn new(number: u64) -> Tracktype
         ensures { TracktypePromise number result }
     {

@@ -4,7 +4,7 @@ ghost use Rattle.kinds.specs.Kinds.{stays_master};
 ghost use Rattle.kinds.specs.Promise.{KindPromise};
 
 use crate::listed::listed_kind;
-use kinds::{Kind, MASTER, ids};
+use kinds::{Kind, ids};
 
 // ChapterTranslate, a member of two small master sets; the crate's src/ids.rs has no name for it.
 const CHAPTERTRANSLATE: u32 = 0x6924;
@@ -29,11 +29,8 @@ pub fn kind_of(id: u32, parent: u32) -> Kind
     ensures { KindPromise id parent result }
 {
     let kind = listed_kind(id);
-    if kind.number() != MASTER {
-        return kind;
+    if kind == Kind::Master && !stays_master(id, parent) {
+        return Kind::Binary;
     }
-    if stays_master(id, parent) {
-        return Kind::Master;
-    }
-    Kind::Binary
+    kind
 }

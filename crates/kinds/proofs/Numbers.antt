@@ -2,8 +2,12 @@
 use mathlib.Core.Path.{◌≡◌, refl, ap, sym, ◌∙◌}
 use mathlib.Core.Bool.{Bool, true, false, cond}
 use Prim.Native.Nat.{ℕ}
+use lib.Dec.{eqb}
+use denote.Enum.Bare.{sameb}
+use borrow.Author.Tests.{eqb-true, eqb-false}
 use Rattle.kinds.specs.Kinds.{number_of, kind_numbered, kind_under, demoted}
 use Rattle.kinds.specs.Promise.{KindPromise}
+use Rattle.kinds.specs.contracts.kind.Kind as kind
 use Rattle.kinds.specs.declared.kind.Kind.{Kind}
 use Rattle.kinds.specs.declared.kind.Kind.TheVariants.{Master, Int, Uint, String, Utf8, Binary, Float, Date}
 
@@ -40,3 +44,20 @@ others_stay Date other = refl
 pub either : (b : Bool) (k : Kind) → cond b k k ≡ k
 either true k = refl
 either false k = refl
+
+-- `==` with the kind of a master tells by its number.
+by_number : (k : Kind) → sameb kind.the_type k Master ≡ eqb (number_of k) 1
+by_number Master = refl
+by_number Int = refl
+by_number Uint = refl
+by_number String = refl
+by_number Utf8 = refl
+by_number Binary = refl
+by_number Float = refl
+by_number Date = refl
+
+pub is_master : (k : Kind) → true ≡ sameb kind.the_type k Master → number_of k ≡ 1
+is_master k e = eqb-true (number_of k) 1 (sym (e ∙ by_number k))
+
+pub no_master : (k : Kind) → false ≡ sameb kind.the_type k Master → number_of k ≡ 1 → ⊥
+no_master k e = eqb-false (number_of k) 1 (sym (e ∙ by_number k))

@@ -19,11 +19,12 @@ module _ (id parent : ℕ) (k : Kind) (listed : k ≡ kind_in elements id) where
   master : number_of k ≡ 1 → kind_in elements id ≡ Master
   master e = sym listed ∙ number_tells k Master e
 
-  -- A master stays one where the parent's set has it, and is binary where not.
-  pub under_kept : number_of k ≡ 1 → stays_master id parent ≡ true → KindPromise id parent Master
+  -- So does any where the parent's set has the id.
+  pub under_kept : stays_master id parent ≡ true → KindPromise id parent k
   unfolding kind_under
-  under_kept e kept = record { reply = rw (kept, master e) }
+  under_kept kept = record { reply = rw (kept, listed) }
 
+  -- A master that it lacks is binary.
   pub under_lost : number_of k ≡ 1 → stays_master id parent ≡ false → KindPromise id parent Binary
   unfolding kind_under demoted
   under_lost e lost = record { reply = rw (lost, master e) }

@@ -2,11 +2,11 @@
 ghost use Rattle.std.specs.Prelude.{◌≡◌};
 ghost use Rattle.kinds.specs.Kinds.{number_of};
 
-// The number of the kind whose body holds elements.
+// The number of the kind whose body holds elements, for the rows, which C reads as numbers.
 pub const MASTER: u64 = 1;
 
 // What the body of an element holds.
-#[derive(Clone, Copy)]
+#[derive(Clone, Copy, PartialEq, Eq)]
 pub enum Kind {
     Master,
     Int,
@@ -19,7 +19,7 @@ pub enum Kind {
 }
 
 impl Kind {
-    // The kind's number.
+    // The kind's number. The documents name this call, so it is no `From`.
     pub fn number(self) -> u64
         ensures { result ≡ number_of self }
     {

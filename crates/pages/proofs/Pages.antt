@@ -1,13 +1,12 @@
 -- Texts written one behind the other into a page are one text. Assumes nothing.
-use Prim.Native.Nat.{ℕ, ◌+◌, ◌-◌, ◌≤◌, ◌<◌}
+use Prim.Native.Nat.{ℕ, ◌+◌, ◌-◌, ◌≤◌}
 use mathlib.Core.Path.{◌≡◌, refl, sym, ap, ◌∙◌}
 use mathlib.Core.List.{List, [], ◌++◌, append_assoc, append-nil}
 use native.Mathlib.Omega.{arith}
 use native.Mathlib.Nat.{add-zero}
-use native.Mathlib.Numerals.{add-one}
-use lib.ListN.{length, take, drop, set, get_or, length-append, length-drop, take-append-drop}
-use lib.Seq.{take_all, take_at, take-length, drop-append-add, drop-drop}
-use lib.Seq.{length-take-le, paste, paste-suc, length-paste}
+use lib.ListN.{length, take, drop, length-append, length-drop, take-append-drop}
+use lib.Seq.{take_all, take_at, drop-append-add, drop-drop}
+use lib.Seq.{length-take-le}
 use Rattle.pages.specs.Text.{numeral}
 use Rattle.pages.specs.Page.{written, Wrote}
 use Rattle.pages.proofs.Numerals.{digits_most}
@@ -22,32 +21,6 @@ wrote_none page held =
           ∙ ap (λ (x : ℕ). take held page ++ drop x page) (add-zero held)
           ∙ take-append-drop held page);
       long = refl;
-    }
-
--- A copy byte by byte: one more byte, and all of them.
-pub copied_on :
-    (page : List ℕ) (held : ℕ) (bytes : List ℕ) (i : ℕ) (now : List ℕ) → held + i < length page → i < length bytes
-    → now ≡ paste page held bytes i → set now (held + i) (get_or bytes i 0) ≡ paste page held bytes (i + 1)
-copied_on page held bytes i now l m e =
-    ap (λ (x : List ℕ). set x (held + i) (get_or bytes i 0)) e ∙ paste-suc page held bytes i 0 l m
-    ∙ ap (paste page held bytes) (sym (add-one i))
-
-pub copied_long :
-    (page : List ℕ) (held : ℕ) (bytes : List ℕ) (i : ℕ) (now : List ℕ) → held + length bytes ≤ length page
-    → i ≤ length bytes → now ≡ paste page held bytes i → length now ≡ length page
-copied_long page held bytes i now l m e = ap length e ∙ length-paste page held bytes i (omega arith) m
-
-pub copied :
-    (page : List ℕ) (held : ℕ) (bytes : List ℕ) (i : ℕ) (now : List ℕ) → held + length bytes ≤ length page
-    → i ≤ length bytes → length bytes ≤ i → now ≡ paste page held bytes i → Wrote page held bytes (held + i) now
-copied page held bytes i now room l m e =
-    let k : i ≡ length bytes = omega arith in
-    record {
-      ends = ap (λ (x : ℕ). held + x) k;
-      says =
-          e ∙ ap (paste page held bytes) k
-          ∙ ap (λ (x : List ℕ). take held page ++ x ++ drop (held + length bytes) page) (take-length bytes);
-      long = copied_long page held bytes i now room l e;
     }
 
 module _ (page : List ℕ) (held : ℕ) (a b : List ℕ) (room : held + length a + length b ≤ length page) where

@@ -3,19 +3,16 @@ ghost use Rattle.std.specs.Prelude.{◌++◌, ◌+◌, ◌^◌, ◌≤◌, ◌<�
 ghost use Rattle.pages.specs.Text.{numeral, decimal, hexadecimal};
 ghost use Rattle.pages.specs.Page.{Wrote};
 
-use crate::numeral::spell;
+use crate::numeral::{DIGITS, spell};
 
 // Bytes as they are.
 pub fn put(page: &mut [u8], held: usize, bytes: &[u8]) -> usize
     requires { held + length bytes.now ≤ length page.old }
     ensures { Wrote page.old held bytes.now result page.new }
 {
-    let mut i: usize = 0;
-    while i < bytes.len() {
-        page[held + i] = bytes[i];
-        i += 1;
-    }
-    held + i
+    let end = held + bytes.len();
+    page[held..end].copy_from_slice(bytes);
+    end
 }
 
 // A label, and a number in the digits of a base.
@@ -29,7 +26,7 @@ fn put_number(page: &mut [u8], held: usize, label: &[u8], value: u64, base: u64)
     ensures upper_bound { result ≤ held + length label.now + 20 }
 {
     let from = put(page, held, label);
-    let mut text = [0u8; 20];
+    let mut text = [0u8; DIGITS];
     let first = spell(value, base, &mut text);
     put(page, from, &text[first..])
 }

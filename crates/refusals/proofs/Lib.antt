@@ -1,3 +1,2 @@
 -- The theorems of `refusals`.
-pub mod Tags
 pub mod Listed

@@ -63,15 +63,14 @@ impl Cause {
         }
     }
 
-    // Document 01's number.
+    // Document 01's number. The promises name these two calls, so they are no `From`.
     pub fn number(self) -> u64
         ensures { NumberPromise self result }
     {
         match self {
             Cause::PastEnd => 1,
             Cause::InvalidId => 2,
-            Cause::InvalidSize => 3,
-            Cause::Overrun => 3,
+            Cause::InvalidSize | Cause::Overrun => 3,
             Cause::InvalidUint => 4,
             Cause::InvalidFloat => 5,
             Cause::InvalidDate => 6,
@@ -94,22 +93,7 @@ impl Cause {
     {
         match self {
             Cause::InvalidSeekHead(id) => id,
-            Cause::PastEnd => 0,
-            Cause::InvalidId => 0,
-            Cause::InvalidSize => 0,
-            Cause::Overrun => 0,
-            Cause::InvalidUint => 0,
-            Cause::InvalidFloat => 0,
-            Cause::InvalidDate => 0,
-            Cause::NotUtf8 => 0,
-            Cause::StaleEntry => 0,
-            Cause::HeadAgain => 0,
-            Cause::TooManyHeads => 0,
-            Cause::TooDeep => 0,
-            Cause::NoFreeRow => 0,
-            Cause::BadArgument => 0,
-            Cause::Outside => 0,
-            Cause::UnknownSize => 0,
+            _ => 0,
         }
     }
 }

@@ -1,119 +1,93 @@
 -- How `goes_on` goes along a list of octets. Assumes nothing.
 use mathlib.Core.Path.{◌≡◌, refl, ap, ◌∙◌}
-use mathlib.Core.List.{List, [], ◌∷◌}
-use mathlib.Core.Bool.{true, false, ◌&&◌, and-false, or-false}
-use Prim.Native.Nat.{ℕ, zero, suc, ◌+◌, ◌-◌, ◌≤◌, ◌<◌}
-use native.Mathlib.Numerals.{add-one}
+use mathlib.Core.List.{List, [], ◌∷◌, ◌++◌}
+use mathlib.Core.Bool.{Bool, true, false, ◌&&◌, and-false, or-false}
+use Prim.Native.Nat.{ℕ, zero, suc, ◌≤◌, ◌<◌}
 use native.Mathlib.Omega.{arith}
-use lib.ListN.{length, drop, get_or, replicate, length-drop, length-replicate, drop_of_length-le}
-use lib.Seq.{drop-cons}
+use lib.ListN.{length, get_or, replicate, length-replicate}
 use borrow.Author.Tests.{le-leb, lt-leb}
-use Rattle.utf8.specs.Utf8.{Range, range, within, utf8_tail, utf8_char, behind, any_of, goes_on}
-use Rattle.utf8.specs.Leads.{left}
+use Rattle.std.proofs.Common.{Some, None}
+use Rattle.std.proofs.lemmas.Slice.{first_rest}
+use Rattle.std.specs.List.{list_all, between}
+use Rattle.utf8.specs.Utf8.{Range, within, utf8_tail, utf8_char, behind, any_of, goes_on}
+use Rattle.utf8.specs.Leads.{others, noted}
+use Rattle.utf8.specs.declared.Lead.{Lead}
 use Rattle.utf8.proofs.Leads.{left_behind}
 
-pub in_range : (low high b : ℕ) → low ≤ b → b ≤ high → within (range low high) b ≡ true
-in_range low high b l h = rw (le-leb low b l, le-leb b high h)
+-- An octet below 128 is a character.
+pub ascii : (b : ℕ) (s : List ℕ) → b < 128 → goes_on [] (b ∷ s) ≡ goes_on [] s
+unfolding goes_on any_of behind utf8_char
+ascii b s l = rw (left_behind 0x00 0x7f ([] ∷ []) tt b (omega arith) (omega arith)) (or-false (goes_on [] s))
 
-pub below_range : (low high b : ℕ) → b < low → within (range low high) b ≡ false
-below_range low high b l = rw (lt-leb low b l)
-
-pub above_range : (low high b : ℕ) → low ≤ b → high < b → within (range low high) b ≡ false
-above_range low high b l h = rw (le-leb low b l, lt-leb b high h)
-
--- ---- one octet
-
-module _ (s : List ℕ) (i : ℕ) (h : i < length s) where
-  step_none : behind utf8_char (get_or s i 0) ≡ [] → goes_on [] (drop i s) ≡ false
-  unfolding goes_on any_of
-  step_none e = rw (drop-cons s i 0 h, e)
-
-  step_first : (rs : List Range) → behind utf8_char (get_or s i 0) ≡ rs ∷ []
-      → goes_on [] (drop i s) ≡ goes_on rs (drop (i + 1) s)
-  unfolding goes_on any_of
-  step_first rs e = rw (drop-cons s i 0 h, e, add-one i) (or-false _)
-
-  pub step_in : (r : Range) (rs : List Range) → within r (get_or s i 0) ≡ true
-      → goes_on (r ∷ rs) (drop i s) ≡ goes_on rs (drop (i + 1) s)
-  unfolding goes_on
-  step_in r rs e = rw (drop-cons s i 0 h, e, add-one i)
-
-  pub step_out : (r : Range) (rs : List Range) → within r (get_or s i 0) ≡ false
-      → goes_on (r ∷ rs) (drop i s) ≡ false
-  unfolding goes_on
-  step_out r rs e = rw (drop-cons s i 0 h, e)
-
-  pub step_ascii : get_or s i 0 < 128 → goes_on [] (drop i s) ≡ goes_on [] (drop (i + 1) s)
-  unfolding behind utf8_char
-  step_ascii l = step_first [] (left_behind 0x00 0x7f ([] ∷ []) tt (get_or s i 0) (omega arith) (omega arith))
-
--- ---- the end
-
-pub at_end : (s : List ℕ) (i : ℕ) → length s ≤ i → goes_on [] (drop i s) ≡ true
-unfolding goes_on
-at_end s i h = rw (drop_of_length-le s h)
-
--- fewer octets than ranges
+-- Fewer octets than ranges.
 too_few : (rs : List Range) (t : List ℕ) → length t < length rs → goes_on rs t ≡ false
 unfolding goes_on
 too_few [] t h = absurd (omega arith)
 too_few (r ∷ rs) [] h = refl
 too_few (r ∷ rs) (b ∷ t) h = ap (λ x. within r b && x) (too_few rs t (omega arith)) ∙ and-false (within r b)
 
--- ---- a character
+-- As many octets as tails, and then others.
+tails_then :
+    (n : ℕ) (t s : List ℕ) → length t ≡ n
+    → goes_on (replicate n utf8_tail) (t ++ s) ≡ (list_all (within utf8_tail) t && goes_on [] s)
+unfolding goes_on
+tails_then zero [] s h = refl
+tails_then zero (b ∷ t) s h = absurd (omega arith)
+tails_then (suc n) [] s h = absurd (omega arith)
+tails_then (suc n) (b ∷ t) s h = go (within utf8_tail b) (tails_then n t s (omega arith))
+  where
+    go : (x : Bool) → goes_on (replicate n utf8_tail) (t ++ s) ≡ (list_all (within utf8_tail) t && goes_on [] s)
+        → (x && goes_on (replicate n utf8_tail) (t ++ s)) ≡ ((x && list_all (within utf8_tail) t) && goes_on [] s)
+    go true e = e
+    go false e = refl
 
--- the notes on an octet, at i, are what the grammar leaves behind it
-pub record Notes (s : List ℕ) (i n low high : ℕ) : Type 0 where
-  pub there : i < length s
-  pub right : behind utf8_char (get_or s i 0) ≡ left n low high
+-- ---- octets by their first and the rest
 
-left_more : (n low high : ℕ) → 2 ≤ n → left n low high ≡ (range low high ∷ replicate (n - 2) utf8_tail) ∷ []
-left_more zero low high k = absurd (omega arith)
-left_more (suc zero) low high k = absurd (omega arith)
-left_more (suc (suc n)) low high k = let e : suc (suc n) - 2 ≡ n = omega arith in rw e
+module _ (s : List ℕ) (some : 1 ≤ length s) where
+  abbrev first : ℕ
+  first = get_or s 0 0
 
-module _ {s : List ℕ} {i n low high : ℕ} (g : Notes s i n low high) where
-  pub no_char : n ≡ 0 → goes_on [] (drop i s) ≡ false
-  no_char z = step_none s i g.there (rw z at g.right)
+  abbrev rest : List ℕ
+  rest = between 1 (length s) s
 
-  pub one_octet : n ≡ 1 → goes_on [] (drop i s) ≡ goes_on [] (drop (i + 1) s)
-  one_octet z = step_first s i g.there [] (rw z at g.right)
+  parts : (rs : List Range) → goes_on rs s ≡ goes_on rs (first ∷ rest)
+  parts rs = ap (goes_on rs) (first_rest s 0 (omega arith))
 
-  module _ (k : 2 ≤ n) where
-    more : goes_on [] (drop i s) ≡ goes_on (range low high ∷ replicate (n - 2) utf8_tail) (drop (i + 1) s)
-    more =
-        step_first s i g.there (range low high ∷ replicate (n - 2) utf8_tail) (g.right ∙ left_more n low high k)
+  -- The first of a character.
+  pub first_ascii : first < 128 → goes_on [] s ≡ goes_on [] rest
+  first_ascii l = parts [] ∙ ascii first rest l
 
-    pub cut_off : length s < i + n → goes_on [] (drop i s) ≡ false
-    cut_off l =
-        more
-        ∙ too_few (range low high ∷ replicate (n - 2) utf8_tail) (drop (i + 1) s)
-        (simp (length-drop, length-replicate) (omega (arith, g.there)))
+  pub no_char : behind utf8_char first ≡ noted None → goes_on [] s ≡ false
+  unfolding goes_on any_of
+  no_char e = parts [] ∙ rw e
 
-    pub second_out : i + 1 < length s → within (range low high) (get_or s (i + 1) 0) ≡ false
-        → goes_on [] (drop i s) ≡ false
-    second_out l w = more ∙ step_out s (i + 1) l (range low high) (replicate (n - 2) utf8_tail) w
+  pub begins : (l : Lead) → behind utf8_char first ≡ noted (Some l) → goes_on [] s ≡ goes_on (others l) rest
+  unfolding goes_on any_of
+  begins l e = parts [] ∙ rw e (or-false (goes_on (others l) rest))
 
-    pub second_in : i + 1 < length s → within (range low high) (get_or s (i + 1) 0) ≡ true
-        → goes_on [] (drop i s) ≡ goes_on (replicate (n - 2) utf8_tail) (drop (i + 2) s)
-    second_in l w =
-        let d : i + 1 + 1 ≡ i + 2 = omega arith in
-        more ∙ rw d at (step_in s (i + 1) l (range low high) (replicate (n - 2) utf8_tail) w)
+  -- The second of a longer one.
+  module _ (l : Lead) where
+    pub second_below : first < l.low → goes_on (others l) s ≡ false
+    unfolding goes_on
+    second_below h = parts (others l) ∙ rw (lt-leb l.low first h)
 
--- ---- the tails of a character, the first n of them at `at`, and i of them passed
+    pub second_above : l.low ≤ first → l.high < first → goes_on (others l) s ≡ false
+    unfolding goes_on
+    second_above h k = parts (others l) ∙ rw (le-leb l.low first h, lt-leb first l.high k)
 
-tails_next : (n i : ℕ) → i < n → replicate (n - i) utf8_tail ≡ utf8_tail ∷ replicate (n - (i + 1)) utf8_tail
-tails_next n i h = let e : n - i ≡ suc (n - (i + 1)) = omega arith in rw e
+    pub tails_past :
+        (t u : List ℕ) → l.low ≤ first → first ≤ l.high → rest ≡ t ++ u → length t ≡ l.tails
+        → goes_on (others l) s ≡ (list_all (within utf8_tail) t && goes_on [] u)
+    unfolding goes_on
+    tails_past t u h k e n =
+        parts (others l) ∙ rw (le-leb l.low first h, le-leb first l.high k, e) (tails_then l.tails t u n)
 
-module _ (s : List ℕ) (at n i : ℕ) (h : i < n) (k : at + n ≤ length s) where
-  pub tail_in : within utf8_tail (get_or s (at + i) 0) ≡ true
-      → goes_on (replicate (n - i) utf8_tail) (drop (at + i) s)
-      ≡ goes_on (replicate (n - (i + 1)) utf8_tail) (drop (at + (i + 1)) s)
-  tail_in w =
-      let e : at + i + 1 ≡ at + (i + 1) = omega arith in
-      rw (tails_next n i h, ← e) (step_in s (at + i) (omega arith) utf8_tail (replicate (n - (i + 1)) utf8_tail) w)
+-- A character that is cut off.
+pub cut_off : (l : Lead) (s : List ℕ) → length s ≤ l.tails → goes_on (others l) s ≡ false
+cut_off l s h = too_few (others l) s (omega (arith, length-replicate l.tails utf8_tail))
 
-  pub tail_out : within utf8_tail (get_or s (at + i) 0) ≡ false
-      → goes_on (replicate (n - i) utf8_tail) (drop (at + i) s) ≡ false
-  tail_out w =
-      rw (tails_next n i h) (step_out s (at + i) (omega arith) utf8_tail (replicate (n - (i + 1)) utf8_tail) w)
+-- No octet is left.
+pub at_end : (s : List ℕ) → length s < 1 → goes_on [] s ≡ true
+unfolding goes_on
+at_end [] h = refl
+at_end (b ∷ s) h = absurd (omega arith)

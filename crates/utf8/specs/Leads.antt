@@ -1,14 +1,13 @@
--- What a `Lead` tells of a character's first octet, in the grammar's terms.
-use Rattle.std.specs.Prelude.{ℕ, zero, suc, List, [], ◌∷◌, replicate}
+-- What a `Lead` tells of the octets behind a character's first, in the grammar's terms.
+use Rattle.std.specs.Prelude.{List, [], ◌∷◌, replicate, Option, Some, None}
 use Rattle.utf8.specs.Utf8.{Alternative, range, utf8_tail}
 use Rattle.utf8.specs.declared.Lead.{Lead}
 
--- What is left behind the first of so many octets: nothing begins so, the character is whole, or a second
--- octet and tails.
-abbrev pub left : ℕ → ℕ → ℕ → List Alternative
-left zero low high = []
-left (suc zero) low high = [] ∷ []
-left (suc (suc n)) low high = (range low high ∷ replicate n utf8_tail) ∷ []
+-- The ranges of those octets: that of the second, and the tails.
+abbrev pub others : Lead → Alternative
+others l = range l.low l.high ∷ replicate l.tails utf8_tail
 
-abbrev pub noted : Lead → List Alternative
-noted l = left l.octets l.low l.high
+-- What is left behind a first octet: nothing begins so, or the octets that the lead tells of.
+abbrev pub noted : Option Lead → List Alternative
+noted None = []
+noted (Some l) = others l ∷ []

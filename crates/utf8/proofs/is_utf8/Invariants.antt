@@ -1,13 +1,10 @@
--- `is_utf8` meets its promise: the octets behind the place decide for all of them. Assumes nothing.
-use mathlib.Core.Path.{◌≡◌}
-use mathlib.Core.List.{[]}
-use Prim.Native.Nat.{◌≤◌, ◌-◌}
-use lib.ListN.{length, drop}
-use Rattle.utf8.specs.Utf8.{goes_on, utf8}
+-- `is_utf8` meets its promise: the octets that are left decide as all of them. Assumes nothing.
+use Rattle.std.proofs.Common.{◌≡◌, [], length}
+use Rattle.utf8.specs.Utf8.{goes_on}
 use Rattle.utf8.proofs.is_utf8.Given as goal
 
-abbrev pub invariant-loop-at : goal.invariant-loop-at
-invariant-loop-at l = (l.at ≤ length l.bytes) × (goes_on [] (drop l.at l.bytes) ≡ utf8 l.bytes)
+abbrev pub invariant-loop-rest : goal.invariant-loop-rest
+invariant-loop-rest l = goes_on [] l.bytes ≡ goes_on [] l.rest
 
-abbrev pub decreases-loop-at : goal.decreases-loop-at
-decreases-loop-at l = length l.bytes - l.at
+abbrev pub decreases-loop-rest : goal.decreases-loop-rest
+decreases-loop-rest l = length l.rest

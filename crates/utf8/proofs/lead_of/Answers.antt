@@ -1,4 +1,4 @@
--- `lead_of` meets its contract: each line of the grammar, and the two gaps between them. Assumes nothing.
+-- `lead_of` meets its contract: each line of the grammar, and the gaps beside them. Assumes nothing.
 use native.Mathlib.Omega.{arith}
 use Rattle.utf8.specs.Utf8.{utf8_char, behind}
 use Rattle.utf8.proofs.Leads.{left_behind}
@@ -27,12 +27,6 @@ unfolding behind utf8_char
 returns-in-244 c =
     let first = c.args.first in
     left_behind 0xf4 0xf4 _ tt first (omega arith) (omega arith)
-
-pub returns-in-0-to-127 : goal.returns-in-0-to-127
-unfolding behind utf8_char
-returns-in-0-to-127 c =
-    let first = c.args.first in
-    left_behind 0x00 0x7f _ tt first (omega arith) (omega arith)
 
 pub returns-in-194-to-223 : goal.returns-in-194-to-223
 unfolding behind utf8_char

@@ -1,11 +1,11 @@
 -- `put_number` meets its contract: the label, and then the digits. Assumes nothing.
 use mathlib.Core.Path.{◌∙◌}
+use Rattle.std.proofs.Common.{rules}
 use Rattle.pages.proofs.Pages.{whole_end, labelled_number}
 use Rattle.pages.proofs.page.put_number.Goals as goal
 
 pub returns : goal.returns
 returns c =
-    let spelt = whole_end c.spell-first.new.text c.spell-first.result c.spell-first.auto.text
-    ∙ c.spell-first.ensures.text_after in
+    let spelt = whole_end c.spell-first.new.text c.spell-first.result (search rules) ∙ c.spell-first.ensures.text_after in
     let whole = labelled_number _ _ _ _ _ _ _ _ _ _ c.requires.label_in_bounds c.put-from.ensures c.put.ensures spelt in
     record { wrote = whole.0; upper_bound = whole.1 }
