@@ -1,12 +1,10 @@
 // `label RANGE LABEL BYTES`: the label of a boot stage.
 use answers::answer::bad;
-use bodies_rules::Range;
 use fields_rules::Content;
 use labels::stage_label;
 use lines::numbers;
 use questions::asked::Asked;
 use std::io::Stdout;
-use words::Spelt;
 
 // `word` is LABEL, which is spelt into room of its own.
 pub fn label(
@@ -18,10 +16,9 @@ pub fn label(
     held: usize,
 ) -> usize {
     let mut room = [0u8; 65536];
-    let spelt = words::spell(word, &mut room);
-    match spelt {
-        Spelt::Bad => bad(to, out, held),
-        Spelt::Bytes(length) => label_told(asked, recording, &room, length, to, out, held),
+    match words::spell(word, &mut room) {
+        None => bad(to, out, held),
+        Some(length) => label_told(asked, recording, &room, length, to, out, held),
     }
 }
 
@@ -45,11 +42,8 @@ fn label_told<'a>(
 
 // RANGE
 fn content_of(asked: Asked) -> Content {
-    if asked.set {
-        return Content::At(Range {
-            at: asked.at,
-            length: asked.size,
-        });
+    match asked.range {
+        None => Content::Unset,
+        Some(range) => Content::At(range),
     }
-    Content::Unset
 }
