@@ -12,7 +12,7 @@ use crate::table::MOST_ASKED;
 use bodies_rules::Range;
 
 // What the words spell, and how many bytes of the recording and numbers of the table the call is lent: no more than
-// the room for each has.
+// the room for each has. Counts, and no slices of the rooms: those are lent anew for the call, the table to be written.
 #[derive(Clone, Copy)]
 pub struct Asked {
     // Whether the question is in live mode.
@@ -64,7 +64,7 @@ pub fn asked_of(
 }
 
 impl Asked {
-    // No word yet.
+    // No word yet. `Default` can't be derived beside a ghost field.
     fn new(live: bool) -> Asked {
         Asked {
             live,

@@ -5,7 +5,8 @@ ghost use Rattle.questions.specs.Bounds.{AllLent};
 use crate::table::{MOST_ASKED, filled};
 use words::{spell, word, word_count};
 
-// How many bytes of the recording, and how many numbers of each table the call is lent.
+// How many bytes of the recording, and how many numbers of each table the call is lent. Counts, and no slices of the
+// rooms: must-fail/recording_counted_as_a_table.edit takes one count for another.
 #[derive(Clone, Copy)]
 pub struct AskedOpen {
     // Whether the question is in live mode.
