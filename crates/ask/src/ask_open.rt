@@ -10,10 +10,10 @@ use questions::table::MOST_ASKED;
 use search_rules::Part;
 use std::io::Stdout;
 
-// The answer to a line whose question, at the place `name`, is `open`.
+// The answer to a line whose question is `open`.
 pub fn open(
     line: &[u8],
-    name: usize,
+    live: bool,
     recording: &mut [u8; 65536],
     info: &mut [u64; MOST_ASKED],
     tracks: &mut [u64; MOST_ASKED],
@@ -23,22 +23,19 @@ pub fn open(
     to: Stdout,
     out: &mut [u8; 65536],
     held: usize,
-) -> usize
-    requires { name ≤ 1 }
-{
-    let asked = asked_open(
+) -> usize {
+    let Some(asked) = asked_open(
         line,
-        name,
+        live,
         recording,
         info,
         tracks,
         attachments,
         chapters,
         tags,
-    );
-    if !asked.good {
+    ) else {
         return bad(to, out, held);
-    }
+    };
     lend(
         asked,
         recording,

@@ -15,7 +15,7 @@ use crate::ask_whose::whose;
 use answers::answer::{bad, put_told};
 use answers::told::Told;
 use lines::out;
-use questions::asked::{Asked, asked_of, name_place};
+use questions::asked::{Asked, asked_of, mode};
 use questions::list::entry_of;
 use questions::table::MOST_ASKED;
 use replies::{label, record, shown_bytes};
@@ -47,11 +47,11 @@ pub fn answer(
     out: &mut [u8; 65536],
     held: usize,
 ) -> usize {
-    let name = name_place(line);
-    if words::same(words::word(line, name), b"open") {
+    let (live, line) = mode(line);
+    if words::word(line, 0) == b"open".as_slice() {
         let n = open(
             line,
-            name,
+            live,
             recording,
             table,
             tracks,
@@ -91,7 +91,7 @@ pub fn answer(
         info astkb uid previous next families title duration scale date muxing writing\n\
         family astkib uid\n\
         shown asptrb text\n";
-    let n = put_answer(list, line, recording, table, to, out, held);
+    let n = put_answer(list, line, live, recording, table, to, out, held);
     out::put(to, out, n, b"\n")
 }
 
@@ -99,32 +99,25 @@ pub fn answer(
 fn put_answer(
     list: &[u8],
     line: &[u8],
+    live: bool,
     recording: &mut [u8; 65536],
     table: &mut [u64; MOST_ASKED],
     to: Stdout,
     out: &mut [u8; 65536],
     held: usize,
 ) -> usize {
-    let name = name_place(line);
-    let entry = entry_of(list, words::word(line, name));
-    let from = entry.from;
-    let end = entry.end;
-    let asked = asked_of(
-        line,
-        name,
-        words::word(&list[from..end], 1),
-        recording,
-        table,
-    );
-    if !asked.good {
+    let Some(entry) = entry_of(list, words::word(line, 0)) else {
         return bad(to, out, held);
-    }
-    if asked.live && entry.number < FIRST_LIVE {
+    };
+    let Some(asked) = asked_of(line, live, words::word(entry.line, 1), recording, table) else {
+        return bad(to, out, held);
+    };
+    if live && entry.number < FIRST_LIVE {
         return bad(to, out, held);
     }
     lend(
         entry.number,
-        &list[from..end],
+        entry.line,
         line,
         asked,
         recording,

@@ -122,8 +122,8 @@ fn answer_lines(rt: HostRuntime, read: &[u8], old: usize) -> Answered
     let mut out = [0u8; 65536];
     let mut gathered: usize = 0;
     let mut from: usize = 0;
-    let mut end = words::find(read, old, b'\n');
-    while end < read.len() {
+    let mut next = words::find(read, old, b'\n');
+    while let Some(end) = next {
         let line = &read[from..end];
         gathered = answer(
             line,
@@ -138,7 +138,7 @@ fn answer_lines(rt: HostRuntime, read: &[u8], old: usize) -> Answered
             gathered,
         );
         from = end + 1;
-        end = words::find(read, from, b'\n');
+        next = words::find(read, from, b'\n');
     }
     Answered {
         from,

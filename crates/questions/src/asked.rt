@@ -3,19 +3,18 @@
 // A form has a letter for each word: `n` ID, `p` PARENT, `a` AT or START, `s` SIZE, `d` ADDRESS, `r` ROW,
 // `k` K or a track type's N, `i` I, `j` J, `u` LIST, `b` BYTES, `t` NUMBERS, `l` the table's numbers themselves,
 // `g` RANGE, `w` a word that the question itself reads.
-ghost use Rattle.std.specs.Prelude.{◌≤◌};
+ghost use Rattle.std.specs.Prelude.{◌≡◌, ◌++◌, MatchBool};
 ghost use Rattle.words.specs.Words.{Few};
-ghost use Rattle.questions.specs.Bounds.{InTable, Lent};
+ghost use Rattle.questions.specs.Bounds.{InTable, live_word};
 
 use crate::table;
-use crate::table::{Given, MOST_ASKED};
-use words::{Count, Named, Spelt};
+use crate::table::MOST_ASKED;
+use bodies_rules::Range;
 
-// What the words spell, and how many bytes of the recording and numbers of the table the call is lent.
-// A line that spells something else is not good.
+// What the words spell, and how many bytes of the recording and numbers of the table the call is lent: no more than
+// the room for each has. Counts, and no slices of the rooms: those are lent anew for the call, the table to be written.
 #[derive(Clone, Copy)]
 pub struct Asked {
-    pub good: bool,
     // Whether the question is in live mode.
     pub live: bool,
     pub id: u32,
@@ -28,206 +27,99 @@ pub struct Asked {
     pub i: u64,
     // J, or the place of LIST among the lists.
     pub j: u64,
-    // Whether RANGE is set; then `at` is its address, and `size` its length.
-    pub set: bool,
+    // RANGE, where it is set.
+    pub range: Option<Range>,
     pub bytes: usize,
     pub numbers: usize,
+    ghost in_recording: { Few bytes },
+    ghost in_table: { InTable numbers },
 }
 
-// The place of the question's name among the words of a line: behind `live`, where the line begins with it.
-pub fn name_place(line: &[u8]) -> usize
-    ensures { result ≤ 1 }
+// Whether a line begins with `live`, and what stands behind it: the question itself.
+pub fn mode(line: &[u8]) -> (bool, &[u8])
+    ensures { MatchBool result.0 (line.now ≡ live_word ++ result.1.now) (line.now ≡ result.1.now) }
 {
-    if words::same(words::word(line, 0), b"live") {
-        return 1;
+    match line.strip_prefix(b"live ") {
+        Some(question) => (true, question),
+        None => (false, line),
     }
-    0
 }
 
-// By the place of its name. A form without letters is that of no question.
+// A form without letters is that of no question. A line that spells something else than its form asks nothing.
 pub fn asked_of(
     line: &[u8],
-    name: usize,
+    live: bool,
     form: &[u8],
     recording: &mut [u8; 65536],
     table: &mut [u64; MOST_ASKED],
-) -> Asked
-    requires { name ≤ 1 }
-    ensures { Lent result }
-{
-    if form.len() == 0 {
-        return nothing(false);
+) -> Option<Asked> {
+    if form.is_empty() || words::word_count(line) != form.len() + 1 {
+        return None;
     }
-    let first = name + 1;
-    if words::word_count(line) != form.len() + first {
-        return nothing(false);
+    let mut asked = Asked::new(live);
+    for (letter, word) in form.iter().zip(line.split(|b| *b == b' ').skip(1)) {
+        asked.read_word(*letter, word, recording, table)?;
     }
-    let mut asked = nothing(true);
-    asked.live = name == 1;
-    let mut k: usize = 0;
-    while k < form.len() {
-        let word = words::word(line, k + first);
-        asked = with_word(asked, form[k], word, recording, table);
-        if !asked.good {
-            return asked;
-        }
-        k += 1;
-    }
-    asked
+    Some(asked)
 }
 
-// No word yet, or none that counts.
-fn nothing(good: bool) -> Asked
-    ensures { Lent result }
-{
-    Asked {
-        good,
-        live: false,
-        id: 0,
-        parent: 0,
-        at: 0,
-        size: 0,
-        address: 0,
-        row: 0,
-        k: 0,
-        i: 0,
-        j: 0,
-        set: false,
-        bytes: 0,
-        numbers: 0,
+impl Asked {
+    // No word yet. `Default` can't be derived beside a ghost field.
+    fn new(live: bool) -> Asked {
+        Asked {
+            live,
+            id: 0,
+            parent: 0,
+            at: 0,
+            size: 0,
+            address: 0,
+            row: 0,
+            k: 0,
+            i: 0,
+            j: 0,
+            range: None,
+            bytes: 0,
+            numbers: 0,
+        }
     }
-}
 
-fn with_word(
-    asked: Asked,
-    letter: u8,
-    word: &[u8],
-    recording: &mut [u8; 65536],
-    table: &mut [u64; MOST_ASKED],
-) -> Asked
-    requires { Lent asked }
-    ensures { Lent result }
-{
-    match letter {
-        b'b' => with_bytes(asked, words::spell(word, recording)),
-        b't' => with_numbers(asked, table::filled(word, table)),
-        b'l' => with_numbers(asked, table::listed(word, table)),
-        b'g' => with_range(asked, word),
-        b'w' => asked,
-        b'u' => with_value(asked, b'j', list_of(word)),
-        b'n' | b'p' => with_id(asked, letter, words::id(word)),
-        _ => with_value(asked, letter, words::decimal(word)),
+    // Takes the word as its letter in the form says.
+    fn read_word(
+        &mut self,
+        letter: u8,
+        word: &[u8],
+        recording: &mut [u8; 65536],
+        table: &mut [u64; MOST_ASKED],
+    ) -> Option<()> {
+        match letter {
+            b'n' => self.id = words::id(word)?,
+            b'p' => self.parent = words::id(word)?,
+            b'a' => self.at = words::decimal(word)?,
+            b's' => self.size = words::decimal(word)?,
+            b'd' => self.address = words::decimal(word)?,
+            b'r' => self.row = words::decimal(word)?,
+            b'k' => self.k = words::decimal(word)?,
+            b'i' => self.i = words::decimal(word)?,
+            b'j' => self.j = words::decimal(word)?,
+            b'u' => self.j = words::index_of(word, b"track edition chapter attachment")? as u64,
+            b'b' => self.bytes = words::spell(word, recording)?,
+            b't' => self.numbers = table::filled(word, table)?,
+            b'l' => self.numbers = table::listed(word, table)?,
+            b'g' => self.range = range_of(word)?,
+            b'w' => {}
+            _ => return None,
+        }
+        Some(())
     }
-}
-
-fn with_bytes(asked: Asked, spelt: Spelt) -> Asked
-    requires { Few spelt × Lent asked }
-    ensures { Lent result }
-{
-    match spelt {
-        Spelt::Bad => nothing(false),
-        Spelt::Bytes(length) => {
-            let mut next = asked;
-            next.bytes = length;
-            next
-        }
-    }
-}
-
-fn with_numbers(asked: Asked, given: Given) -> Asked
-    requires { InTable given × Lent asked }
-    ensures { Lent result }
-{
-    match given {
-        Given::Bad => nothing(false),
-        Given::Numbers(count) => {
-            let mut next = asked;
-            next.numbers = count;
-            next
-        }
-    }
-}
-
-fn with_id(asked: Asked, letter: u8, spelt: Named) -> Asked
-    requires { Lent asked }
-    ensures { Lent result }
-{
-    let Named::Is(id) = spelt else {
-        return nothing(false);
-    };
-    let mut next = asked;
-    if letter == b'p' {
-        next.parent = id;
-        return next;
-    }
-    next.id = id;
-    next
-}
-
-fn with_value(asked: Asked, letter: u8, spelt: Count) -> Asked
-    requires { Lent asked }
-    ensures { Lent result }
-{
-    let Count::Is(value) = spelt else {
-        return nothing(false);
-    };
-    let mut next = asked;
-    match letter {
-        b'a' => {
-            next.at = value;
-            next
-        }
-        b's' => {
-            next.size = value;
-            next
-        }
-        b'd' => {
-            next.address = value;
-            next
-        }
-        b'r' => {
-            next.row = value;
-            next
-        }
-        b'k' => {
-            next.k = value;
-            next
-        }
-        b'i' => {
-            next.i = value;
-            next
-        }
-        b'j' => {
-            next.j = value;
-            next
-        }
-        _ => nothing(false),
-    }
-}
-
-// The place of LIST.
-fn list_of(word: &[u8]) -> Count {
-    let place = words::index_of(word, b"track edition chapter attachment");
-    if place == 4 {
-        return Count::Bad;
-    }
-    Count::Is(place as u64)
 }
 
 // RANGE: `unset`, or `ADDRESS+LENGTH`.
-fn with_range(asked: Asked, word: &[u8]) -> Asked
-    requires { Lent asked }
-    ensures { Lent result }
-{
-    if words::same(word, b"unset") {
-        return asked;
+fn range_of(word: &[u8]) -> Option<Option<Range>> {
+    if word == b"unset".as_slice() {
+        return Some(None);
     }
-    let plus = words::find(word, 0, b'+');
-    if plus == word.len() {
-        return nothing(false);
-    }
-    let mut next = asked;
-    next.set = true;
-    next = with_value(next, b'a', words::decimal(&word[0..plus]));
-    with_value(next, b's', words::decimal(&word[plus + 1..]))
+    let plus = words::find(word, 0, b'+')?;
+    let at = words::decimal(&word[..plus])?;
+    let length = words::decimal(&word[plus + 1..])?;
+    Some(Some(Range { at, length }))
 }

@@ -1,57 +1,34 @@
 // The table of a question: its numbers as the line gives them.
+ghost use Rattle.std.specs.Prelude.{IfSome};
 ghost use Rattle.questions.specs.Bounds.{InTable};
-
-use words::Count;
 
 // A question's table has at most so many numbers.
 pub const MOST_ASKED: usize = 36_000;
 
-// How many numbers the table has, where the word tells it.
-#[derive(Clone, Copy)]
-pub enum Given {
-    Numbers(usize),
-    Bad,
-}
-
-// NUMBERS: so many numbers, each 2^64-1.
-pub fn filled(word: &[u8], table: &mut [u64; MOST_ASKED]) -> Given
-    ensures { InTable result }
+// NUMBERS: so many numbers, each 2^64-1. How many the table then has, where the word tells it.
+pub fn filled(word: &[u8], table: &mut [u64; MOST_ASKED]) -> Option<usize>
+    ensures { IfSome result InTable }
 {
-    let Count::Is(count) = words::decimal(word) else {
-        return Given::Bad;
-    };
+    let count = words::decimal(word)?;
     if (MOST_ASKED as u64) < count {
-        return Given::Bad;
+        return None;
     }
     let n = count as usize;
-    let mut i: usize = 0;
-    while i < n {
-        table[i] = u64::MAX;
-        i += 1;
-    }
-    Given::Numbers(n)
+    table[..n].fill(u64::MAX);
+    Some(n)
 }
 
-// `N,N,..`: the numbers themselves, or `-` for none.
-pub fn listed(word: &[u8], table: &mut [u64; MOST_ASKED]) -> Given
-    ensures { InTable result }
+// `N,N,..`: the numbers themselves, or `-` for none. How many the table then has, where the word tells them.
+pub fn listed(word: &[u8], table: &mut [u64; MOST_ASKED]) -> Option<usize>
+    ensures { IfSome result InTable }
 {
-    if words::same(word, b"-") {
-        return Given::Numbers(0);
+    if word == b"-".as_slice() {
+        return Some(0);
     }
-    let mut n: usize = 0;
-    let mut at: usize = 0;
-    while n < MOST_ASKED {
-        let end = words::find(word, at, b',');
-        let Count::Is(value) = words::decimal(&word[at..end]) else {
-            return Given::Bad;
-        };
-        table[n] = value;
-        n += 1;
-        if end == word.len() {
-            return Given::Numbers(n);
-        }
-        at = end + 1;
+    let n = word.split(|b| *b == b',').count();
+    let room = table.get_mut(..n)?;
+    for (number, part) in room.iter_mut().zip(word.split(|b| *b == b',')) {
+        *number = words::decimal(part)?;
     }
-    Given::Bad
+    Some(n)
 }

@@ -1,11 +1,9 @@
 // `label RANGE LABEL BYTES`: the label of a boot stage.
 use answers::answer::bad;
-use bodies_rules::Range;
 use labels::stage_label;
 use lines::numbers;
 use questions::asked::Asked;
 use std::io::Stdout;
-use words::Spelt;
 
 // `word` is LABEL, which is spelt into room of its own.
 pub fn label(
@@ -17,10 +15,9 @@ pub fn label(
     held: usize,
 ) -> usize {
     let mut room = [0u8; 65536];
-    let spelt = words::spell(word, &mut room);
-    match spelt {
-        Spelt::Bad => bad(to, out, held),
-        Spelt::Bytes(length) => label_told(asked, recording, &room, length, to, out, held),
+    match words::spell(word, &mut room) {
+        None => bad(to, out, held),
+        Some(length) => label_told(asked, recording, &room, length, to, out, held),
     }
 }
 
@@ -38,17 +35,6 @@ fn label_told<'a>(
     if whole.len() < length {
         return bad(to, out, held);
     }
-    let shown = stage_label(recording, content_of(asked), &whole[0..length]);
+    let shown = stage_label(recording, asked.range, &whole[0..length]);
     numbers::put_bytes(to, out, held, b"label ", shown)
-}
-
-// RANGE
-fn content_of(asked: Asked) -> Option<Range> {
-    if asked.set {
-        return Some(Range {
-            at: asked.at,
-            length: asked.size,
-        });
-    }
-    None
 }

@@ -1,3 +1,2 @@
 -- The laws that the proofs of `words` use.
 pub mod Parted
-pub mod Alike

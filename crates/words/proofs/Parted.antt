@@ -1,52 +1,79 @@
--- How a line is parted, place by place. Assumes nothing.
-use mathlib.Core.Path.{◌≡◌, refl, ◌∙◌}
-use mathlib.Core.List.{List, []}
-use Prim.Native.Nat.{ℕ, zero, suc, ◌+◌, ◌-◌, ◌<◌, ◌≤◌}
-use native.Mathlib.Numerals.{add-one}
-use native.Mathlib.Omega.{arith}
-use borrow.Author.Tests.{eq-eqb, ne_eqb}
-use lib.ListN.{length, take, drop, get_or, drop_of_length-le}
-use lib.Seq.{drop-cons, drop-drop}
-use Rattle.words.specs.Words.{before, word_of}
+-- The words of a line are the parts between its spaces, and a byte's first place is where a search finds it. Assumes
+-- nothing.
+use Rattle.std.proofs.Common.{◌≡◌, refl, sym, ◌∙◌, ℕ, zero, suc, ◌+◌, ◌-◌, ◌≤◌, Bool, true, false, cond, not, eqb, ltb}
+use Rattle.std.proofs.Common.{List, [], ◌∷◌, length, take, drop, get_or, take_all, length-drop}
+use Rattle.std.proofs.Common.{Option, Some, None, option_map, unwrap_or, arith, tests}
+use Rattle.std.specs.List.{onto_first, position_or_len, position}
+use Rattle.std.proofs.lemmas.List.Recursion.{is_position_or_len}
+use Rattle.std.proofs.lemmas.List.Sums.{position_or_len_is, prefix_len-le-length}
+use Rattle.std.proofs.lemmas.List.Quantifiers.{position-Some}
+use Rattle.words.specs.Words.{or_more, before, First, word_of, words_of}
 
--- The byte sought stands here.
-pub found : (s : List ℕ) (i b : ℕ) → i < length s → get_or s i 0 ≡ b → before b (drop i s) ≡ 0
-unfolding before
-found s i b h e = rw (drop-cons s i 0 h, eq-eqb (get_or s i 0) b e)
+-- A part that a byte is put in front of, and those behind it.
+first_part : (x : ℕ) (ps : List (List ℕ)) → get_or (onto_first x ps) 0 [] ≡ x ∷ get_or ps 0 []
+first_part x [] = refl
+first_part x (p ∷ ps) = refl
 
--- Another byte stands here.
-pub further :
-    (s : List ℕ) (i b : ℕ) → i < length s → (get_or s i 0 ≡ b → ⊥)
-    → before b (drop i s) ≡ suc (before b (drop (i + 1) s))
-unfolding before
-further s i b h e = rw (drop-cons s i 0 h, ne_eqb (get_or s i 0) b e, add-one i)
+later_part : (x k : ℕ) (ps : List (List ℕ)) → get_or (onto_first x ps) (suc k) [] ≡ get_or ps (suc k) []
+later_part x k [] = refl
+later_part x k (p ∷ ps) = refl
 
--- At the end there is no byte.
-pub ended : (b : ℕ) → before b [] ≡ 0
-unfolding before
-ended b = refl
+word_step :
+    (k x : ℕ) (s : List ℕ) → ((j : ℕ) → word_of j s ≡ get_or (words_of s) j [])
+    → (t : Bool) → eqb x 32 ≡ t → word_of k (x ∷ s) ≡ get_or (words_of (x ∷ s)) k []
+unfolding word_of before
+word_step zero x s h true e = rw e refl
+word_step (suc k) x s h true e = rw e (h k)
+word_step zero x s h false e = rw (e, first_part) (rw (sym (h 0)) refl)
+word_step (suc k) x s h false e = rw (e, later_part) (h (suc k))
 
-pub no_word : (k : ℕ) → word_of k [] ≡ []
+no_word : (k : ℕ) → word_of k [] ≡ []
 unfolding word_of before
 no_word zero = refl
 no_word (suc k) = no_word k
 
-pub first_word : (s : List ℕ) → word_of 0 s ≡ take (before 32 s) s
-unfolding word_of
-first_word s = refl
+no_part : (k : ℕ) → get_or {A = List ℕ} ([] ∷ []) k [] ≡ []
+no_part zero = refl
+no_part (suc k) = refl
 
-next_word : (k : ℕ) (s : List ℕ) → word_of (suc k) s ≡ word_of k (drop (suc (before 32 s)) s)
-unfolding word_of
-next_word k s = refl
+pub word_is : (s : List ℕ) (k : ℕ) → word_of k s ≡ get_or (words_of s) k []
+word_is [] k = no_word k ∙ sym (no_part k)
+word_is (x ∷ s) k = word_step k x s (word_is s) (eqb x 32) refl
 
-module _ (s : List ℕ) (k i at end : ℕ) (h : i < k) (e : end ≡ at + before 32 (drop at s)) where
-  -- A word from `at` on is one fewer from behind the space.
-  pub past_space : word_of (k - i) (drop at s) ≡ word_of (k - (i + 1)) (drop (end + 1) s)
-  past_space =
-      let n : k - i ≡ suc (k - (i + 1)) = omega arith in
-      let m : at + suc (before 32 (drop at s)) ≡ end + 1 = omega arith in
-      rw (n, next_word, drop-drop, m)
+-- What is read of a value, or of another in its place.
+pub read_or : {A B : Type 0} (f : A → B) (r : Option A) (d : A) → f (unwrap_or r d) ≡ unwrap_or (option_map f r) (f d)
+read_or f (Some x) d = refl
+read_or f None d = refl
 
-  -- Where no space follows there is no further word.
-  pub past_end : length s ≤ end → word_of (k - i) (drop at s) ≡ []
-  past_end l = past_space ∙ rw (drop_of_length-le s {i = end + 1} (omega arith)) (no_word (k - (i + 1)))
+or_more_is : (t : Bool) (n : ℕ) → or_more t n ≡ cond t 0 (1 + n)
+or_more_is true n = refl
+or_more_is false n = omega arith
+
+-- How many bytes stand before the first b is where a search finds it, or the end.
+before_is : (b : ℕ) (s : List ℕ) → before b s ≡ position_or_len (λ x. eqb x b) s
+unfolding before
+before_is b s = is_position_or_len (before b) (λ x. eqb x b) refl (λ x xs. or_more_is (eqb x b) (before b xs)) s
+
+passed : (n p : ℕ) → None ≡ cond (ltb p n) (Some p) None → n ≤ p
+passed n p e = grind (arith, tests)
+
+module _ (s : List ℕ) (from b : ℕ) (h : from ≤ length s) where
+  rest : take (length s - from) (drop from s) ≡ drop from s
+  rest = take_all _ (drop from s) (omega (arith, length-drop from s))
+
+  abbrev found : Option ℕ → Type 0
+  found r = r ≡ position (λ x. eqb x b) (take (length s - from) (drop from s))
+
+  pub first_at : (i : ℕ) → found (Some i) → First s from b (from + i)
+  first_at i e =
+      let f = position-Some (λ x. eqb x b) (drop from s) i 0 (sym (rw rest at e)) in
+      let at = position_or_len_is (λ x. eqb x b) (drop from s) i 0 (omega (arith, f.0)) f.2 (λ _. f.1) in
+      let p = before_is b (drop from s) in
+      record { low = omega arith; high = omega (arith, f.0, length-drop from s); place = omega (arith, at, p) }
+
+  pub first_none : found None → First s from b (length s)
+  first_none e =
+      let p = before_is b (drop from s) in
+      let within = prefix_len-le-length (λ x. not (eqb x b)) (drop from s) in
+      let past = passed (length (drop from s)) _ (rw rest at e) in
+      record { low = h; high = omega arith; place = omega (arith, p, within, past, length-drop from s) }

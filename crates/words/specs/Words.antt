@@ -1,7 +1,6 @@
 -- What the words of a line are (docs/ASK.md: words parted by one space).
-use Rattle.std.specs.Prelude.{◌≡◌, Bool, true, false, List, [], ◌∷◌, ℕ, zero, suc, ◌+◌, ◌≤◌, eqb, length, take, drop}
-use Rattle.words.specs.declared.Spelt.{Spelt}
-use Rattle.words.specs.declared.Spelt.TheVariants.{Bytes, Bad}
+use Rattle.std.specs.List.{slice_split}
+use Rattle.std.specs.Prelude.{◌==◌, ◌≡◌, Bool, true, false, List, [], ◌∷◌, ℕ, zero, suc, ◌+◌, ◌≤◌, eqb, length, take, drop}
 
 -- Nothing where a byte is the one sought, else one more.
 abbrev pub or_more : Bool → ℕ → ℕ
@@ -24,12 +23,10 @@ unfoldable pub word_of : ℕ → List ℕ → List ℕ
 word_of zero s = take (before 32 s) s
 word_of (suc k) s = word_of k (drop (suc (before 32 s)) s)
 
--- The test whether two hold the same bytes.
-pub record Same (a b : List ℕ) (r : Bool) : Type 0 where
-  pub yes : r ≡ true → a ≡ b
-  pub no : r ≡ false → a ≡ b → ⊥
+-- All words, in order: one more than there are spaces.
+abbrev pub words_of : List ℕ → List (List ℕ)
+words_of s = slice_split (λ b. b == 32) s
 
 -- No more bytes than a recording of a question may have.
-abbrev pub Few : Spelt → Type 0
-Few (Bytes n) = n ≤ 65536
-Few Bad = Unit
+abbrev pub Few : ℕ → Type 0
+Few n = n ≤ 65536

@@ -1,213 +1,98 @@
 // The words of a line: how they are parted, and the numbers and bytes that they spell.
 #![tactic(auto)]
 
-ghost use Rattle.std.specs.Prelude.{◌≡◌, ◌≤◌, length};
-ghost use Rattle.words.specs.Words.{Few, First, Same, word_of};
+ghost use Rattle.std.specs.Prelude.{◌≡◌, ◌<◌, ◌≤◌, length, IfSome, unwrap_or, position, ◌==◌, bytes_eq};
+ghost use Rattle.words.specs.Words.{Few, First, word_of, words_of};
 
 // A recording of a question has at most so many bytes.
 const MOST: usize = 65536;
 
-// What a word spells, where it is a decimal number.
-#[derive(Clone, Copy)]
-pub enum Count {
-    Is(u64),
-    Bad,
-}
-
-// What a word spells, where it is an id in hexadecimal digits.
-#[derive(Clone, Copy)]
-pub enum Named {
-    Is(u32),
-    Bad,
-}
-
-// How many bytes a word spells, where it is hexadecimal digits or `-`.
-#[derive(Clone, Copy)]
-pub enum Spelt {
-    Bytes(usize),
-    Bad,
-}
-
-// The place of the next byte of that value from `from` on, or the end.
-pub fn find(bytes: &[u8], from: usize, byte: u8) -> usize
+// The place of the next byte of that value from `from` on.
+pub fn find(bytes: &[u8], from: usize, byte: u8) -> Option<usize>
     requires { from ≤ length bytes.now }
-    ensures { First bytes.now from byte result }
+    ensures first { First bytes.now from byte (unwrap_or result (length bytes.now)) }
+    ensures inside { IfSome result (λ r. r < length bytes.now) }
 {
-    let mut i = from;
-    while i < bytes.len() {
-        if bytes[i] == byte {
-            return i;
-        }
-        i += 1;
-    }
-    i
+    Some(from + place(&bytes[from..], byte)?)
+}
+
+// The place of the first byte of that value.
+fn place(bytes: &[u8], byte: u8) -> Option<usize>
+    ensures { result ≡ position (λ b. b == byte) bytes.now }
+{
+    bytes.iter().position(|b| *b == byte)
 }
 
 // How many words the line has: one more than it has spaces.
-pub fn word_count(line: &[u8]) -> usize {
-    let mut words: usize = 1;
-    let mut at: usize = 0;
-    while at < line.len() {
-        let end = find(line, at, b' ');
-        if end == line.len() {
-            return words;
-        }
-        words += 1;
-        at = end + 1;
-    }
-    words
+pub fn word_count(line: &[u8]) -> usize
+    ensures { result ≡ length (words_of line.now) }
+{
+    line.split(|b| *b == b' ').count()
 }
 
 // The k-th word, counted from 0; nothing where the line has fewer.
 pub fn word(line: &[u8], k: usize) -> &[u8]
     ensures { result.now ≡ word_of k line.now }
 {
-    let mut at: usize = 0;
-    let mut i: usize = 0;
-    while i < k {
-        let space = find(line, at, b' ');
-        if space == line.len() {
-            return &line[space..];
-        }
-        at = space + 1;
-        i += 1;
-    }
-    let end = find(line, at, b' ');
-    &line[at..end]
+    line.split(|b| *b == b' ').nth(k).unwrap_or(&[])
 }
 
-// The place of a word among the words of a list, or how many words the list has.
-pub fn index_of(word: &[u8], list: &[u8]) -> usize {
-    let mut k: usize = 0;
-    let mut at: usize = 0;
-    while at < list.len() {
-        let end = find(list, at, b' ');
-        if same(&list[at..end], word) {
-            return k;
-        }
-        k += 1;
-        if end == list.len() {
-            return k;
-        }
-        at = end + 1;
-    }
-    k
-}
-
-// Whether the two hold the same bytes.
-pub fn same(a: &[u8], b: &[u8]) -> bool
-    ensures { Same a.now b.now result }
+// The place of a word among the words of a list.
+pub fn index_of(word: &[u8], list: &[u8]) -> Option<usize>
+    ensures { result ≡ position (λ w. bytes_eq w word.now) (words_of list.now) }
 {
-    if a.len() != b.len() {
-        return false;
-    }
-    let mut i: usize = 0;
-    while i < a.len() {
-        if a[i] != b[i] {
-            return false;
-        }
-        i += 1;
-    }
-    true
+    list.split(|b| *b == b' ').position(|w| w == word)
 }
 
 // A decimal number that fits 64 bits.
-pub fn decimal(word: &[u8]) -> Count {
-    if word.len() == 0 {
-        return Count::Bad;
-    }
-    let mut value: u64 = 0;
-    let mut i: usize = 0;
-    while i < word.len() {
-        let digit = decimal_digit(word[i]);
-        if digit == 10 {
-            return Count::Bad;
-        }
-        if 1_844_674_407_370_955_161 < value {
-            return Count::Bad;
-        }
-        let tens = value * 10;
-        if 18_446_744_073_709_551_615 - tens < digit {
-            return Count::Bad;
-        }
-        value = tens + digit;
-        i += 1;
-    }
-    Count::Is(value)
-}
-
-// The digit's value, or 10.
-fn decimal_digit(b: u8) -> u64
-    ensures { result ≤ 10 }
-{
-    match b {
-        48..=57 => (b - 48) as u64,
-        _ => 10,
-    }
-}
-
-// The digit's value, or 16.
-fn hex_digit(b: u8) -> u8
-    ensures { result ≤ 16 }
-{
-    match b {
-        48..=57 => b - 48,
-        65..=70 => b - 55,
-        97..=102 => b - 87,
-        _ => 16,
-    }
+pub fn decimal(word: &[u8]) -> Option<u64> {
+    number(word, 10)
 }
 
 // An id in hexadecimal digits, of at most 32 bits; zeros in front count for nothing.
-pub fn id(word: &[u8]) -> Named {
-    if word.len() == 0 {
-        return Named::Bad;
-    }
-    let mut value: u32 = 0;
-    let mut i: usize = 0;
-    while i < word.len() {
-        let digit = hex_digit(word[i]);
-        if digit == 16 {
-            return Named::Bad;
-        }
-        if 0xFFF_FFFF < value {
-            return Named::Bad;
-        }
-        value = value * 16 + digit as u32;
-        i += 1;
-    }
-    Named::Is(value)
+pub fn id(word: &[u8]) -> Option<u32> {
+    u32::try_from(number(word, 16)?).ok()
 }
 
-// Puts the bytes that the word spells at the start of `bytes`.
-pub fn spell(word: &[u8], bytes: &mut [u8; 65536]) -> Spelt
-    ensures { Few result }
+// The number that the digits of that base spell, where it fits 64 bits.
+fn number(word: &[u8], base: u32) -> Option<u64>
+    requires { (2 ≤ base) × (base ≤ 36) }
 {
-    if same(word, b"-") {
-        return Spelt::Bytes(0);
+    if word.is_empty() {
+        return None;
     }
-    if word.len() == 0 {
-        return Spelt::Bad;
+    let mut value: u64 = 0;
+    for b in word {
+        let digit = char::from(*b).to_digit(base)?;
+        value = value
+            .checked_mul(u64::from(base))?
+            .checked_add(u64::from(digit))?;
     }
-    if word.len() % 2 != 0 {
-        return Spelt::Bad;
+    Some(value)
+}
+
+// Puts the bytes that the word spells at the start of `bytes`, and tells how many they are: hexadecimal digits, or `-`
+// for none.
+pub fn spell(word: &[u8], bytes: &mut [u8; 65536]) -> Option<usize>
+    ensures { IfSome result Few }
+{
+    if word == b"-".as_slice() {
+        return Some(0);
     }
-    let n = word.len() / 2;
-    if MOST < n {
-        return Spelt::Bad;
+    let (pairs, rest) = word.as_chunks::<2>();
+    if pairs.is_empty() || !rest.is_empty() || MOST < pairs.len() {
+        return None;
     }
-    let mut i: usize = 0;
-    while i < n {
-        let high = hex_digit(word[2 * i]);
-        let low = hex_digit(word[2 * i + 1]);
-        if high == 16 {
-            return Spelt::Bad;
-        }
-        if low == 16 {
-            return Spelt::Bad;
-        }
-        bytes[i] = high * 16 + low;
-        i += 1;
+    for (byte, [high, low]) in bytes.iter_mut().zip(pairs) {
+        *byte = hex_digit(*high)? * 16 + hex_digit(*low)?;
     }
-    Spelt::Bytes(n)
+    Some(pairs.len())
+}
+
+// What a hexadecimal digit counts.
+fn hex_digit(b: u8) -> Option<u8>
+    ensures { IfSome result (λ d. d < 16) }
+{
+    let digit = char::from(b).to_digit(16)?;
+    Some(digit as u8)
 }

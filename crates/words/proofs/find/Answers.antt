@@ -1,27 +1,14 @@
--- `find` meets its contract: the place stays between where it began and the end. Assumes nothing.
-use mathlib.Core.Path.{ap, ◌∙◌}
-use native.Mathlib.Omega.{arith}
-use Prim.Native.Nat.{◌-◌}
-use lib.ListN.{drop_of_length-le}
-use Rattle.words.specs.Words.{before}
-use Rattle.words.proofs.Parted.{found, further, ended}
+-- `find` meets its contract: where the search stops is the first place, or the end. Assumes nothing.
+use Rattle.std.proofs.Common.{sym, ◌∙◌}
+use Rattle.words.proofs.Parted.{first_at, first_none}
 use Rattle.words.proofs.find.Goals as goal
 
-pub returns-then-bytes-i : goal.returns-then-bytes-i
-returns-then-bytes-i c =
+pub returns-in_err-place-clause-first : goal.returns-in_err-place-clause-first
+returns-in_err-place-clause-first c =
     let a = c.args in
-    let here = found a.bytes.now c.loop-i.i a.byte (omega arith) c.if-bytes-i.true in
-    record { low = omega arith; high = omega arith; place = omega arith }
+    rw c.from_residual.ensures
+    (first_none a.bytes.now a.from a.byte c.requires (sym c.in_err-place.was ∙ c.place.ensures))
 
-pub loop-i-preserved : goal.loop-i-preserved
-loop-i-preserved c =
-    let a = c.args in
-    let there = further a.bytes.now c.loop-i.i a.byte (omega arith) c.if-bytes-i.false in
-    (omega arith, omega arith, omega arith)
-
-pub returns : goal.returns
-returns c =
-    let a = c.args in
-    let none = drop_of_length-le a.bytes.now {i = c.loop-i.i} (omega arith) in
-    let end = ap (before a.byte) none ∙ ended a.byte in
-    record { low = omega arith; high = omega arith; place = omega arith }
+pub returns-clause-first : goal.returns-clause-first
+returns-clause-first c =
+    first_at c.args.bytes.now c.args.from c.args.byte c.requires _ (sym c.in_ok-place.was ∙ c.place.ensures)
