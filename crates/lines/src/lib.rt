@@ -1,7 +1,6 @@
 // What the programs share: standard input, output that is gathered, and numbers as text.
 #![tactic(auto)]
 
-mod digits;
 pub mod input;
 pub mod numbers;
 pub mod out;

@@ -1,52 +1,93 @@
 // Gathers what a program writes to standard output, and hands it on in large pieces.
-//
-// The program lends the buffer, and hands on how many bytes it holds. A count beyond the room says that a
-// write failed: nothing more is gathered then.
-use std::io::{Print, Stdout};
+ghost use Rattle.std.specs.Prelude.{◌≡◌, ◌≤◌};
+ghost use Rattle.std.specs.Result.{ForOk};
 
-// The buffer's room.
+use std::fmt::Write;
+use std::io::{Print, Stdout};
+use std::{fmt, io};
+
+// How many bytes are gathered before they are handed on.
 const ROOM: usize = 65536;
 
-// The count that says that a write failed.
-const LOST: usize = 65537;
-
-// Bytes as they are.
-pub fn put(to: Stdout, out: &mut [u8; 65536], held: usize, bytes: &[u8]) -> usize {
-    let mut now = held;
-    let mut i: usize = 0;
-    while i < bytes.len() {
-        now = put_one(to, out, now, bytes[i]);
-        i += 1;
-    }
-    now
+// Standard output, and what is gathered for it. After a write that failed nothing more is gathered or written.
+#[derive(Drop)]
+pub struct Out {
+    to: Stdout,
+    room: [u8; ROOM],
+    // How many bytes the room holds, or why a write failed.
+    held: io::Result<usize>,
+    ghost within: { ForOk held (λ n. n ≤ 65536) },
 }
 
-fn put_one(to: Stdout, out: &mut [u8; 65536], held: usize, byte: u8) -> usize {
-    let at = place_for_one(to, out, held);
-    if at < ROOM {
-        out[at] = byte;
-        return at + 1;
+impl Out {
+    pub fn new(to: Stdout) -> Out {
+        Out {
+            to,
+            room: [0; ROOM],
+            held: Ok(0),
+        }
     }
-    at
+
+    // Bytes as they are.
+    pub fn put(&mut self, bytes: &[u8]) {
+        for byte in bytes {
+            self.put_one(*byte);
+        }
+    }
+
+    // A number in decimal digits, behind its label.
+    pub fn put_decimal(&mut self, label: &[u8], value: u64) {
+        self.put(label);
+        let _ = write!(self, "{value}");
+    }
+
+    // A number in hexadecimal digits, upper case, with zeros in front up to `width` digits, behind its label.
+    pub fn put_hex(&mut self, label: &[u8], value: u64, width: usize) {
+        self.put(label);
+        let _ = write!(self, "{value:0width$X}");
+    }
+
+    // Bytes in hexadecimal digits, two for each, or `-` for none, behind their label.
+    pub fn put_bytes(&mut self, label: &[u8], bytes: &[u8]) {
+        self.put(label);
+        if bytes.is_empty() {
+            self.put(b"-");
+        }
+        for byte in bytes {
+            self.put_hex(b"", u64::from(*byte), 2);
+        }
+    }
+
+    // A full room is written away first.
+    fn put_one(&mut self, byte: u8) {
+        if let Ok(ROOM) = self.held {
+            self.write_away();
+        }
+        if let Ok(held) = self.held {
+            self.room[held] = byte;
+            self.held = Ok(held + 1);
+        }
+    }
+
+    fn write_away(&mut self)
+        ensures { ForOk self.new.held (λ n. n ≡ 0) }
+    {
+        if let Ok(held) = self.held {
+            self.held = self.to.write_all(&self.room[..held]).map(|()| 0);
+        }
+    }
+
+    // Writes away what is held. An error says that a write failed, this one or one before it.
+    pub fn flush(&mut self) -> io::Result<()> {
+        self.write_away();
+        self.held.map(|_| ())
+    }
 }
 
-// A full buffer is written away first.
-fn place_for_one(to: Stdout, out: &[u8; 65536], held: usize) -> usize {
-    if held != ROOM {
-        return held;
+// Text is gathered like any bytes: a write that fails is told at the end.
+impl fmt::Write for Out {
+    fn write_str(&mut self, s: &str) -> fmt::Result {
+        self.put(s.as_bytes());
+        Ok(())
     }
-    let whole: &[u8] = out;
-    if to.write_all(whole).is_ok() {
-        return 0;
-    }
-    LOST
-}
-
-// Writes away what the buffer holds, and answers whether all of the output was written.
-pub fn flush(to: Stdout, out: &[u8; 65536], held: usize) -> bool {
-    if ROOM < held {
-        return false;
-    }
-    let whole: &[u8] = out;
-    to.write_all(&whole[..held]).is_ok()
 }
