@@ -1,26 +1,40 @@
 // Gathers what a program writes to standard output, and hands it on in large pieces.
-ghost use Rattle.std.specs.Prelude.{◌≡◌, ◌≤◌};
-ghost use Rattle.std.specs.Result.{ForOk};
+ghost use Rattle.std.specs.Prelude.{◌≡◌, ◌≤◌, [], ◌∷◌, OnOk, ◌⊎◌};
+ghost use Rattle.lines.specs.Gathered.{Gathers};
 
 use std::fmt::Write;
 use std::io::{Print, Stdout};
+use std::marker::Model;
 use std::{fmt, io};
 
 // How many bytes are gathered before they are handed on.
 const ROOM: usize = 65536;
 
-// Standard output, and what is gathered for it. After a write that failed nothing more is gathered or written.
+// Standard output, and what is gathered for it. Once a write has failed, nothing more is gathered or written.
 #[derive(Drop)]
 pub struct Out {
     to: Stdout,
     room: [u8; ROOM],
-    // How many bytes the room holds, or why a write failed.
+    // How many bytes are gathered, or why a write failed.
     held: io::Result<usize>,
-    ghost within: { ForOk held (λ n. n ≤ 65536) },
+}
+
+impl Model for Out {
+    ghost use Rattle.std.specs.Prelude.{ℕ, List, Option, ◌≤◌, IfOk};
+
+    ghost Value = { Option (List ℕ) };
+
+    ghost use Rattle.lines.specs.Gathered.{gathered};
+
+    ghost view = { gathered };
+
+    ghost invariant = { λ o. IfOk o.held (λ n. n ≤ 65536) };
 }
 
 impl Out {
-    pub fn new(to: Stdout) -> Out {
+    pub fn new(to: Stdout) -> Out
+        ensures { result ≡ Some [] }
+    {
         Out {
             to,
             room: [0; ROOM],
@@ -29,7 +43,9 @@ impl Out {
     }
 
     // Bytes as they are.
-    pub fn put(&mut self, bytes: &[u8]) {
+    pub fn put(&mut self, bytes: &[u8])
+        ensures { Gathers self.old bytes.now self.new }
+    {
         for byte in bytes {
             self.put_one(*byte);
         }
@@ -59,7 +75,9 @@ impl Out {
     }
 
     // A full room is written away first.
-    fn put_one(&mut self, byte: u8) {
+    fn put_one(&mut self, byte: u8)
+        ensures { Gathers self.old (byte ∷ []) self.new }
+    {
         if let Ok(ROOM) = self.held {
             self.write_away();
         }
@@ -70,7 +88,7 @@ impl Out {
     }
 
     fn write_away(&mut self)
-        ensures { ForOk self.new.held (λ n. n ≡ 0) }
+        ensures { self.new ≡ Some [] ⊎ self.new ≡ None }
     {
         if let Ok(held) = self.held {
             self.held = self.to.write_all(&self.room[..held]).map(|()| 0);
@@ -78,7 +96,9 @@ impl Out {
     }
 
     // Writes away what is held. An error says that a write failed, this one or one before it.
-    pub fn flush(&mut self) -> io::Result<()> {
+    pub fn flush(&mut self) -> io::Result<()>
+        ensures { OnOk result (self.new ≡ Some []) }
+    {
         self.write_away();
         self.held.map(|_| ())
     }
