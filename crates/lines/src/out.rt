@@ -2,7 +2,7 @@
 ghost use Rattle.std.specs.Prelude.{◌≡◌, ◌≤◌, [], ◌∷◌, OnOk, ◌⊎◌};
 ghost use Rattle.lines.specs.Gathered.{Gathers};
 
-use std::fmt::Write;
+use std::fmt::{Display, Write};
 use std::io::{Print, Stdout};
 use std::marker::Model;
 use std::{fmt, io};
@@ -51,16 +51,9 @@ impl Out {
         }
     }
 
-    // A number in decimal digits, behind its label.
-    pub fn put_decimal(&mut self, label: &[u8], value: u64) {
-        self.put(label);
-        let _ = write!(self, "{value}");
-    }
-
-    // A number in hexadecimal digits, upper case, with zeros in front up to `width` digits, behind its label.
-    pub fn put_hex(&mut self, label: &[u8], value: u64, width: usize) {
-        self.put(label);
-        let _ = write!(self, "{value:0width$X}");
+    // A value as it is displayed.
+    pub fn print<D: Display + Drop>(&mut self, value: D) {
+        let _ = self.write(value);
     }
 
     // Bytes in hexadecimal digits, two for each, or `-` for none, behind their label.
@@ -70,7 +63,7 @@ impl Out {
             self.put(b"-");
         }
         for byte in bytes {
-            self.put_hex(b"", u64::from(*byte), 2);
+            self.print(format_args!("{byte:02X}"));
         }
     }
 
