@@ -2,31 +2,20 @@
 ghost use Rattle.std.specs.Prelude.{◌≡◌, ◌+◌, ◌≤◌, length, take, drop};
 ghost use Rattle.lines.specs.Bounds.{Behind};
 
+use std::io;
 use std::io::{Read, Stdin};
 
-// What one read brought: bytes behind those held, the end of the input, or a failure.
-#[derive(Clone, Copy)]
-pub enum Got {
-    Bytes(usize),
-    Ended,
-    Failed,
-}
-
-pub fn read_more(from: Stdin, room: &mut [u8], held: usize) -> Got
+// What one read brought behind the bytes held: how many bytes, or `None` at the end of the input.
+pub fn read_more(from: Stdin, room: &mut [u8], held: usize) -> io::Result<Option<usize>>
     requires { held ≤ length room.old }
     ensures { Behind held (length room.old) result }
 {
     let mut input = from;
-    let n = match input.read(&mut room[held..]) {
-        Ok(n) => n,
-        Err(_) => {
-            return Got::Failed;
-        }
-    };
+    let n = input.read(&mut room[held..])?;
     if n == 0 {
-        return Got::Ended;
+        return Ok(None);
     }
-    Got::Bytes(n)
+    Ok(Some(n))
 }
 
 // Moves the n bytes from `from` on to the start of the room.
@@ -37,9 +26,5 @@ pub fn keep(room: &mut [u8], from: usize, n: usize)
     if from == 0 {
         return;
     }
-    let mut i: usize = 0;
-    while i < n {
-        room[i] = room[from + i];
-        i += 1;
-    }
+    room.copy_within(from..from + n, 0);
 }

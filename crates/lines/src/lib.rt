@@ -1,7 +1,5 @@
-// What the programs share: standard input, output that is gathered, and numbers as text.
+// What the programs share: standard input, and output that is gathered.
 #![tactic(auto)]
 
-mod digits;
 pub mod input;
-pub mod numbers;
 pub mod out;

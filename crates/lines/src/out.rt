@@ -1,52 +1,106 @@
 // Gathers what a program writes to standard output, and hands it on in large pieces.
-//
-// The program lends the buffer, and hands on how many bytes it holds. A count beyond the room says that a
-// write failed: nothing more is gathered then.
-use std::io::{Print, Stdout};
+ghost use Rattle.std.specs.Prelude.{◌≡◌, ◌≤◌, [], ◌∷◌, OnOk, ◌⊎◌};
+ghost use Rattle.lines.specs.Gathered.{Gathers};
 
-// The buffer's room.
+use std::fmt::{Display, Write};
+use std::io::{Print, Stdout};
+use std::marker::Model;
+use std::{fmt, io};
+
+// How many bytes are gathered before they are handed on.
 const ROOM: usize = 65536;
 
-// The count that says that a write failed.
-const LOST: usize = 65537;
-
-// Bytes as they are.
-pub fn put(to: Stdout, out: &mut [u8; 65536], held: usize, bytes: &[u8]) -> usize {
-    let mut now = held;
-    let mut i: usize = 0;
-    while i < bytes.len() {
-        now = put_one(to, out, now, bytes[i]);
-        i += 1;
-    }
-    now
+// Standard output, and what is gathered for it. Once a write has failed, nothing more is gathered or written.
+#[derive(Drop)]
+pub struct Out {
+    to: Stdout,
+    room: [u8; ROOM],
+    // How many bytes are gathered, or why a write failed.
+    held: io::Result<usize>,
 }
 
-fn put_one(to: Stdout, out: &mut [u8; 65536], held: usize, byte: u8) -> usize {
-    let at = place_for_one(to, out, held);
-    if at < ROOM {
-        out[at] = byte;
-        return at + 1;
-    }
-    at
+impl Model for Out {
+    ghost use Rattle.std.specs.Prelude.{ℕ, List, Option, ◌≤◌, IfOk};
+
+    ghost Value = { Option (List ℕ) };
+
+    ghost use Rattle.lines.specs.Gathered.{gathered};
+
+    ghost view = { gathered };
+
+    ghost invariant = { λ o. IfOk o.held (λ n. n ≤ 65536) };
 }
 
-// A full buffer is written away first.
-fn place_for_one(to: Stdout, out: &[u8; 65536], held: usize) -> usize {
-    if held != ROOM {
-        return held;
+impl Out {
+    pub fn new(to: Stdout) -> Out
+        ensures { result ≡ Some [] }
+    {
+        Out {
+            to,
+            room: [0; ROOM],
+            held: Ok(0),
+        }
     }
-    let whole: &[u8] = out;
-    if to.write_all(whole).is_ok() {
-        return 0;
+
+    // Bytes as they are.
+    pub fn put(&mut self, bytes: &[u8])
+        ensures { Gathers self.old bytes.now self.new }
+    {
+        for byte in bytes {
+            self.put_one(*byte);
+        }
     }
-    LOST
+
+    // A value as it is displayed.
+    pub fn print<D: Display + Drop>(&mut self, value: D) {
+        let _ = self.write(value);
+    }
+
+    // Bytes in hexadecimal digits, two for each, or `-` for none, behind their label.
+    pub fn put_bytes(&mut self, label: &[u8], bytes: &[u8]) {
+        self.put(label);
+        if bytes.is_empty() {
+            self.put(b"-");
+        }
+        for byte in bytes {
+            self.print(format_args!("{byte:02X}"));
+        }
+    }
+
+    // A full room is written away first.
+    fn put_one(&mut self, byte: u8)
+        ensures { Gathers self.old (byte ∷ []) self.new }
+    {
+        if let Ok(ROOM) = self.held {
+            self.write_away();
+        }
+        if let Ok(held) = self.held {
+            self.room[held] = byte;
+            self.held = Ok(held + 1);
+        }
+    }
+
+    fn write_away(&mut self)
+        ensures { self.new ≡ Some [] ⊎ self.new ≡ None }
+    {
+        if let Ok(held) = self.held {
+            self.held = self.to.write_all(&self.room[..held]).map(|()| 0);
+        }
+    }
+
+    // Writes away what is held. An error says that a write failed, this one or one before it.
+    pub fn flush(&mut self) -> io::Result<()>
+        ensures { OnOk result (self.new ≡ Some []) }
+    {
+        self.write_away();
+        self.held.map(|_| ())
+    }
 }
 
-// Writes away what the buffer holds, and answers whether all of the output was written.
-pub fn flush(to: Stdout, out: &[u8; 65536], held: usize) -> bool {
-    if ROOM < held {
-        return false;
+// Text is gathered like any bytes: a write that fails is told at the end.
+impl fmt::Write for Out {
+    fn write_str(&mut self, s: &str) -> fmt::Result {
+        self.put(s.as_bytes());
+        Ok(())
     }
-    let whole: &[u8] = out;
-    to.write_all(&whole[..held]).is_ok()
 }

@@ -1,3 +1,0 @@
--- The laws that the proofs of `lines` use.
-pub mod Signs
-pub mod Moved

@@ -1,0 +1,16 @@
+-- What is gathered for standard output.
+use Rattle.std.specs.Prelude.{ℕ, ◌≡◌, ◌+◌, ◌≤◌, List, ◌++◌, length, take, Option, Some, None, Result, Ok, Err, IfSome}
+use Rattle.std.specs.declared.io.Error.{Error}
+use Rattle.lines.specs.declared.out.Out.TheInside.{Inside}
+
+-- The bytes that the room holds, or nothing once a write has failed.
+abbrev pub held_bytes : List ℕ → Result ℕ Error → Option (List ℕ)
+held_bytes room (Ok held) = Some (take held room)
+held_bytes room (Err failure) = None
+
+abbrev pub gathered : Inside → Option (List ℕ)
+gathered out = held_bytes out.room out.held
+
+-- Bytes that find room stand behind those that were gathered.
+abbrev pub Gathers : Option (List ℕ) → List ℕ → Option (List ℕ) → Type 0
+Gathers old bytes new = IfSome old (λ held. length held + length bytes ≤ 65536 → new ≡ Some (held ++ bytes))
