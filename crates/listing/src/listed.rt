@@ -1,13 +1,13 @@
 // The lines of the listing.
 ghost use Rattle.std.specs.Prelude.{◌≡◌, ◌+◌, ◌*◌, ◌≤◌, length};
-ghost use Rattle.pages.specs.Page.{Wrote};
+ghost use Rattle.pages.specs.Page.{Grew, room};
 ghost use Rattle.rowtext.specs.Room.{line_room};
 ghost use Rattle.listing_rules.specs.Listing.{place_text, part_lines, all_parts, table_numbers};
 ghost use Rattle.listing_rules.specs.Room.{part_room};
 ghost use Rattle.listing_rules.specs.Promise.{ListingPromise};
 
 use kinds::ids;
-use pages::{put, put_decimal, put_hexadecimal};
+use pages::Page;
 use rowstore::WIDTH;
 use rowtext::row_lines;
 use search::find_part;
@@ -22,59 +22,50 @@ const TABLE: usize = 1024 * WIDTH;
 pub const PAGE: usize = 524928;
 
 // Where a part is: its payload's address and size, and how many rows it has.
-fn place_text(page: &mut [u8], held: usize, at: u64, size: u64, rows: u64) -> usize
-    requires { held + line_room ≤ length page.old }
-    ensures wrote { Wrote page.old held (place_text at size rows) result page.new }
-    ensures upper_bound { result ≤ held + 80 }
+fn place_text(page: &mut Page, at: u64, size: u64, rows: u64)
+    requires { page.old.held + line_room ≤ room page.old }
+    ensures wrote { Grew page.old (place_text at size rows) page.new }
+    ensures upper_bound { page.new.held ≤ page.old.held + 80 }
 {
-    let placed = put_decimal(page, held, b" at ", at);
-    let sized = put_decimal(page, placed, b" size ", size);
-    let counted = put_decimal(page, sized, b" rows ", rows);
-    put(page, counted, b"\n")
+    page.put_decimal(b" at ", at);
+    page.put_decimal(b" size ", size);
+    page.put_decimal(b" rows ", rows);
+    page.put(b"\n");
 }
 
 // A part's line, and its rows directly under it.
-fn part_lines(
-    page: &mut [u8],
-    held: usize,
-    recording: &[u8],
-    live: bool,
-    part: u32,
-    table: &mut [u64],
-) -> usize
+fn part_lines(page: &mut Page, recording: &[u8], live: bool, part: u32, table: &mut [u64])
     requires table_len { length table.old ≡ table_numbers }
-    requires part_room_in_bounds { held + part_room ≤ length page.old }
-    ensures wrote { Wrote page.old held
-        (part_lines live recording.now part) result page.new }
-    ensures upper_bound { result ≤ held + part_room }
+    requires part_room_in_bounds { page.old.held + part_room ≤ room page.old }
+    ensures wrote { Grew page.old (part_lines live recording.now part) page.new }
+    ensures upper_bound { page.new.held ≤ page.old.held + part_room }
 {
-    let named = put_hexadecimal(page, held, b"part ", part as u64);
+    page.put_hexadecimal(b"part ", part as u64);
     match find_part(recording, live, part, table) {
-        Ok((None, heads)) => put(page, named, b" absent\n"),
-        Err(refusal) => {
-            let cause = refusal.cause;
-            let number = put_decimal(page, named, b" refused ", cause.number());
-            let address = put_decimal(page, number, b" ", refusal.address);
-            put(page, address, b"\n")
+        Ok((None, _)) => page.put(b" absent\n"),
+        Ok((Some(found), _)) => {
+            place_text(page, found.at, found.size, found.rows);
+            row_lines(page, table, found.rows as usize);
         }
-        Ok((Some(Part { at, size, rows }), heads)) => {
-            let placed = place_text(page, named, at, size, rows);
-            row_lines(page, placed, table, rows as usize)
+        Err(refusal) => {
+            page.put_decimal(b" refused ", refusal.cause.number());
+            page.put_decimal(b" ", refusal.address);
+            page.put(b"\n");
         }
     }
 }
 
 // The lines of the four parts, each read into the same table.
-fn all_parts(page: &mut [u8], held: usize, recording: &[u8], live: bool, table: &mut [u64]) -> usize
+fn all_parts(page: &mut Page, recording: &[u8], live: bool, table: &mut [u64])
     requires table_len { length table.old ≡ table_numbers }
-    requires part_room_in_bounds { held + 4 * part_room ≤ length page.old }
-    ensures wrote { Wrote page.old held (all_parts live recording.now) result page.new }
-    ensures upper_bound { result ≤ held + 4 * part_room }
+    requires part_room_in_bounds { page.old.held + 4 * part_room ≤ room page.old }
+    ensures wrote { Grew page.old (all_parts live recording.now) page.new }
+    ensures upper_bound { page.new.held ≤ page.old.held + 4 * part_room }
 {
-    let tracks = part_lines(page, held, recording, live, ids::TRACKS, table);
-    let attachments = part_lines(page, tracks, recording, live, ids::ATTACHMENTS, table);
-    let chapters = part_lines(page, attachments, recording, live, ids::CHAPTERS, table);
-    part_lines(page, chapters, recording, live, ids::TAGS, table)
+    part_lines(page, recording, live, ids::TRACKS, table);
+    part_lines(page, recording, live, ids::ATTACHMENTS, table);
+    part_lines(page, recording, live, ids::CHAPTERS, table);
+    part_lines(page, recording, live, ids::TAGS, table);
 }
 
 // Writes the listing, in live mode or in old mode, at the start of the page, and answers how many bytes it has. A
@@ -82,11 +73,17 @@ fn all_parts(page: &mut [u8], held: usize, recording: &[u8], live: bool, table: 
 pub fn listing(recording: &[u8], live: bool, page: &mut [u8; PAGE]) -> usize
     ensures { ListingPromise live recording.now page.old result page.new }
 {
+    let mut text = Page {
+        bytes: page,
+        held: 0,
+    };
     if MOST_LISTED < recording.len() {
-        return put(page, 0, b"refused 14\n");
+        text.put(b"refused 14\n");
+        return text.held;
     }
-    let counted = put_decimal(page, 0, b"recording ", recording.len() as u64);
-    let ended = put(page, counted, b"\n");
+    text.put_decimal(b"recording ", recording.len() as u64);
+    text.put(b"\n");
     let mut table = [0u64; TABLE];
-    all_parts(page, ended, recording, live, &mut table)
+    all_parts(&mut text, recording, live, &mut table);
+    text.held
 }

@@ -8,7 +8,8 @@ use lib.ListN.{length, take, drop, length-append, length-drop, take-append-drop}
 use lib.Seq.{take_all, take_at, drop-append-add, drop-drop}
 use lib.Seq.{length-take-le}
 use Rattle.pages.specs.Text.{numeral}
-use Rattle.pages.specs.Page.{written, Wrote}
+use Rattle.pages.specs.Page.{written, Wrote, room, Grew}
+use Rattle.pages.specs.declared.page.Page.{Page}
 use Rattle.pages.proofs.Numerals.{digits_most}
 
 -- Nothing is a text too.
@@ -70,6 +71,17 @@ pub then_labelled :
     → Wrote page held (a ++ label ++ b) r' page''
 then_labelled page held a r page' label b r' page'' v w room =
     rw (append_assoc a label b) (then page held a r page' (label ++ b) r' page'' v w room)
+
+-- The same of a page that grew twice.
+pub grew_twice :
+    (p : Page) (a : List ℕ) (q : Page) (b : List ℕ) (r : Page) → Grew p a q → Grew q b r → r.held ≤ room p
+    → Grew p (a ++ b) r
+grew_twice p a q b r v w h = (then _ _ _ _ _ _ _ _ v.0 w.0 h, w.1 ∙ v.1)
+
+pub grew_labelled :
+    (p : Page) (a : List ℕ) (q : Page) (label b : List ℕ) (r : Page) → Grew p a q → Grew q (label ++ b) r
+    → r.held ≤ room p → Grew p (a ++ label ++ b) r
+grew_labelled p a q label b r v w h = (then_labelled _ _ _ _ _ label b _ _ v.0 w.0 h, w.1 ∙ v.1)
 
 -- The end of a text, from a place on, is all that stands there.
 pub whole_end :

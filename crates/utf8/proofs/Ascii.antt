@@ -35,13 +35,16 @@ clear a m b h e =
     (omega arith, omega arith)
 
 module _ (s : List ℕ) (octets : (j : ℕ) → get_or s j 0 < 256) (t : List ℕ) where
-  passed : (k n : ℕ) → k + n ≡ length s → bit_and (word s k n) (highs n) ≡ 0 → goes_on [] (drop k s ++ t) ≡ goes_on [] t
+  passed :
+      (k n : ℕ) → k + n ≡ length s → bit_and (word s k n) (highs n) ≡ 0
+      → goes_on [] (drop k s ++ t) ≡ goes_on [] t
   passed k zero h e =
       let none : drop k s ≡ [] = drop_of_length-le s (omega arith) in
       rw none
   passed k (suc n) h e =
       let (c, l) = clear (word s (suc k) n) (highs n) (get_or s k 0) (octets k) e in
-      rw (drop-cons s k 0 (omega arith)) (ascii (get_or s k 0) (drop (suc k) s ++ t) l ∙ passed (suc k) n (omega arith) c)
+      rw (drop-cons s k 0 (omega arith))
+      (ascii (get_or s k 0) (drop (suc k) s ++ t) l ∙ passed (suc k) n (omega arith) c)
 
   pub eight_passed :
       length s ≡ 8 → bit_and (from_le_bytes w64 s) 0x8080808080808080 ≡ 0 → goes_on [] (s ++ t) ≡ goes_on [] t
@@ -72,5 +75,7 @@ pub behind_eights :
     (s : List ℕ) (eights : List (List ℕ)) (n k : ℕ) (rest : List ℕ) → eights ≡ first_chunks 8 n s → n * 8 ≤ length s
     → k ≤ n → AllWithin Passed eights 0 k → rest ≡ drop (8 * k) s
     → (goes_on [] s ≡ goes_on [] rest) × (length rest ≤ length s)
-behind_eights s eights n k rest e room h all r =
-    (eights_passed k n s h room (rw e at all) ∙ ap (goes_on []) (sym r), omega (arith, length-drop (8 * k) s, ap length r))
+behind_eights s eights n k rest e room h all r = (
+  eights_passed k n s h room (rw e at all) ∙ ap (goes_on []) (sym r),
+  omega (arith, length-drop (8 * k) s, ap length r),
+)

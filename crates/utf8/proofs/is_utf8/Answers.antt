@@ -10,7 +10,8 @@ loop-rest-init c = refl
 
 pub loop-rest-preserved-then-is_ascii : goal.loop-rest-preserved-then-is_ascii
 loop-rest-preserved-then-is_ascii c =
-    c.loop-rest.invariant ∙ first_ascii _ c.in-len1-up.len_at_least (ltb-true _ _ (sym c.is_ascii.ensures ∙ c.if-is_ascii.true))
+    c.loop-rest.invariant
+    ∙ first_ascii _ c.in-len1-up.len_at_least (ltb-true _ _ (sym c.is_ascii.ensures ∙ c.if-is_ascii.true))
     ∙ c.past_ascii-rest.ensures.0
 
 pub returns-in_default-lead_of : goal.returns-in_default-lead_of
@@ -22,12 +23,14 @@ pub returns-in_default-past : goal.returns-in_default-past
 unfolding utf8
 returns-in_default-past c =
     record {
-      answer = sym (c.loop-rest.invariant ∙ begins _ c.in-len1-up.len_at_least c.in-Some.lead (c.in-Some.ensures) ∙ c.in_default-past.ensures);
+      answer = sym (c.loop-rest.invariant
+          ∙ begins _ c.in-len1-up.len_at_least c.in-Some.lead c.in-Some.ensures ∙ c.in_default-past.ensures);
     }
 
 pub loop-rest-preserved : goal.loop-rest-preserved
 loop-rest-preserved c =
-    c.loop-rest.invariant ∙ begins _ c.in-len1-up.len_at_least c.in-Some.lead (c.in-Some.ensures) ∙ c.in-Some-past.ensures.0
+    c.loop-rest.invariant
+    ∙ begins _ c.in-len1-up.len_at_least c.in-Some.lead c.in-Some.ensures ∙ c.in-Some-past.ensures.0
 
 pub returns : goal.returns
 unfolding utf8

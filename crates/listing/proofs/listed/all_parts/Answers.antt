@@ -1,17 +1,18 @@
 -- `all_parts` meets its contract: the four parts, one after another. Assumes nothing.
 use native.Mathlib.Omega.{arith}
 use Rattle.listing_rules.specs.Listing.{all_parts}
-use Rattle.pages.proofs.Pages.{then}
+use Rattle.pages.proofs.Pages.{grew_twice}
 use Rattle.listing.proofs.listed.all_parts.Goals as goal
 
-pub returns : goal.returns
+pub returns-clause-wrote : goal.returns-clause-wrote
 unfolding all_parts
-returns c =
-    let p = c.requires in
-    let tracks = c.part_lines-tracks.ensures in
-    let attachments = c.part_lines-attachments.ensures in
-    let chapters = c.part_lines-chapters.ensures in
-    let tags = c.part_lines.ensures in
-    let two = then _ _ _ _ _ _ _ _ tracks.wrote attachments.wrote (omega arith) in
-    let three = then _ _ _ _ _ _ _ _ two chapters.wrote (omega arith) in
-    record { wrote = then _ _ _ _ _ _ _ _ three tags.wrote (omega arith); upper_bound = omega arith }
+returns-clause-wrote c =
+    let p = c.args.page.now in
+    let room = c.requires in
+    let a = c.part_lines in
+    let b = c.part_lines-2 in
+    let d = c.part_lines-3 in
+    let e = c.part_lines-4 in
+    let two = grew_twice p _ a.new.page _ b.new.page a.ensures.wrote b.ensures.wrote (omega arith) in
+    let three = grew_twice p _ b.new.page _ d.new.page two d.ensures.wrote (omega arith) in
+    grew_twice p _ d.new.page _ e.new.page three e.ensures.wrote (omega arith)

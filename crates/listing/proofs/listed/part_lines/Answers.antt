@@ -1,4 +1,5 @@
 -- `part_lines` meets its contract: the part's id, and then its text by the reply of the search. Assumes nothing.
+use mathlib.Core.Path.{◌∙◌}
 use native.Mathlib.Omega.{arith}
 use Rattle.pages.specs.Text.{ascii}
 use Rattle.pages.proofs.Pages.{then, then_labelled}
@@ -8,70 +9,57 @@ use Rattle.listing.proofs.listed.part_lines.Goals as goal
 pub row_lines-requires : goal.row_lines-requires
 row_lines-requires c =
     let p = c.requires in
-    let f = rw c.in-Ok.is at c.find_part.ensures in
+    let f = rw found_as c.in-Ok-Some-default.is c.in-Ok-Some-default.field-0-0-is at c.find_part.ensures in
     let k = found_few _ _ _ _ _ p.table_len _ _ _ _ f in
     let t = c.find_part.auto.table in
-    let id = c.put_hexadecimal-named.ensures in
-    let place = c.place_text-placed.ensures in
-    let m = id.wrote.long in
-    let n = place.wrote.long in
+    let id = c.put_hexadecimal.ensures in
+    let place = c.place_text.ensures in
+    let m = id.wrote.0.long in
+    let n = place.wrote.0.long in
     record { rows_in_bounds = omega arith; line_room_in_bounds = omega arith }
 
-pub put-requires-in-Err : goal.put-requires-in-Err
-put-requires-in-Err c =
+pub returns-in-Ok-None-default-clause-wrote : goal.returns-in-Ok-None-default-clause-wrote
+returns-in-Ok-None-default-clause-wrote c =
     let p = c.requires in
-    let id = c.put_hexadecimal-named.ensures in
-    let number = c.put_decimal-number.ensures in
-    let address = c.put_decimal-address.ensures in
-    let m = id.wrote.long in
-    let n = number.wrote.long in
-    let o = address.wrote.long in
-    omega arith
-
-pub returns-in-Ok : goal.returns-in-Ok
-returns-in-Ok c =
-    let p = c.requires in
-    let f = rw c.in-Ok.is at c.find_part.ensures in
-    let id = c.put_hexadecimal-named.ensures in
+    let f = rw found_as c.in-Ok-None-default.is c.in-Ok-None-default.field-0-0-is at c.find_part.ensures in
+    let id = c.put_hexadecimal.ensures in
     let end = c.put.ensures in
-    let e = end.ends in
-    record {
-      wrote =
-          part_text _ _ _ _ _ _ _ _ _ _ (absent_text _ _ _ _ _ p.table_len _ f) (omega arith) id.wrote end;
-      upper_bound = omega arith;
-    }
+    let e = end.0.ends in (
+      part_text _ _ _ _ _ _ _ _ _ _ (absent_text _ _ _ _ _ p.table_len _ f) (omega arith) id.wrote.0 end.0,
+      end.1 ∙ id.wrote.1,
+    )
 
-pub returns-in-Err : goal.returns-in-Err
-returns-in-Err c =
+pub returns-in-Err-clause-wrote : goal.returns-in-Err-clause-wrote
+returns-in-Err-clause-wrote c =
     let p = c.requires in
     let f = rw c.in-Err.is at c.find_part.ensures in
-    let id = c.put_hexadecimal-named.ensures in
-    let number = rw c.number.ensures at c.put_decimal-number.ensures in
-    let address = c.put_decimal-address.ensures in
+    let id = c.put_hexadecimal.ensures in
+    let number = rw c.number.ensures at c.put_decimal.ensures in
+    let address = c.put_decimal-in-Err.ensures in
     let end = c.put-in-Err.ensures in
-    let e = end.ends in
-    let m = id.wrote.long in
-    let n = number.wrote.long in
-    let v = then_labelled _ _ _ _ _ (ascii " ") _ _ _ number.wrote address.wrote (omega arith) in
-    let w = then _ _ _ _ _ _ _ _ v end (omega arith) in
-    record {
-      wrote =
-          part_text _ _ _ _ _ _ _ _ _ _ (refused_text_law _ _ _ _ _ p.table_len _ f) (omega arith) id.wrote w;
-      upper_bound = omega arith;
-    }
+    let e = end.0.ends in
+    let m = id.wrote.0.long in
+    let n = number.wrote.0.long in
+    let v = then_labelled _ _ _ _ _ (ascii " ") _ _ _ number.wrote.0 address.wrote.0 (omega arith) in
+    let w = then _ _ _ _ _ _ _ _ v end.0 (omega arith) in (
+      part_text _ _ _ _ _ _ _ _ _ _ (refused_text_law _ _ _ _ _ p.table_len _ f) (omega arith) id.wrote.0 w,
+      end.1 ∙ address.wrote.1 ∙ number.wrote.1 ∙ id.wrote.1,
+    )
 
-pub returns-in-Ok : goal.returns-in-Ok
-returns-in-Ok c =
+pub returns-in-Ok-Some-default : goal.returns-in-Ok-Some-default
+returns-in-Ok-Some-default c =
     let p = c.requires in
-    let f = rw c.in-Ok.is at c.find_part.ensures in
+    let f = rw found_as c.in-Ok-Some-default.is c.in-Ok-Some-default.field-0-0-is at c.find_part.ensures in
     let k = found_few _ _ _ _ _ p.table_len _ _ _ _ f in
-    let id = c.put_hexadecimal-named.ensures in
-    let place = c.place_text-placed.ensures in
+    let id = c.put_hexadecimal.ensures in
+    let place = c.place_text.ensures in
     let lines = c.row_lines.ensures in
-    let m = id.wrote.long in
-    let w = then _ _ _ _ _ _ _ _ place.wrote lines.wrote (omega arith) in
+    let m = id.wrote.0.long in
+    let w = then _ _ _ _ _ _ _ _ place.wrote.0 lines.wrote.0 (omega arith) in
     record {
-      wrote =
-          part_text _ _ _ _ _ _ _ _ _ _ (found_text _ _ _ _ _ p.table_len _ _ _ _ f) (omega arith) id.wrote w;
+      wrote = (
+        part_text _ _ _ _ _ _ _ _ _ _ (found_text _ _ _ _ _ p.table_len _ _ _ _ f) (omega arith) id.wrote.0 w,
+        lines.wrote.1 ∙ place.wrote.1 ∙ id.wrote.1,
+      );
       upper_bound = omega arith;
     }

@@ -2,20 +2,18 @@
 use native.Mathlib.Omega.{arith}
 use Rattle.rowtext.specs.Lines.{row_place}
 use Rattle.pages.specs.Text.{ascii}
-use Rattle.pages.proofs.Pages.{then_labelled}
+use Rattle.pages.proofs.Pages.{grew_labelled}
 use Rattle.rowtext.proofs.row.row_place.Goals as goal
 
-pub returns : goal.returns
+pub returns-clause-wrote : goal.returns-clause-wrote
 unfolding row_place
-returns c =
-    let p = c.requires in
-    let address = c.put_decimal-address.ensures in
-    let header = c.put_decimal-header.ensures in
-    let payload = c.put_decimal-payload.ensures in
-    let depth = c.put_decimal.ensures in
-    let two = then_labelled _ _ _ _ _ (ascii " ") _ _ _ address.wrote header.wrote (omega arith) in
-    let three = then_labelled _ _ _ _ _ (ascii " ") _ _ _ two payload.wrote (omega arith) in
-    record {
-      wrote = then_labelled _ _ _ _ _ (ascii " ") _ _ _ three depth.wrote (omega arith);
-      upper_bound = omega arith;
-    }
+returns-clause-wrote c =
+    let p = c.args.page.now in
+    let room = c.requires in
+    let a = c.put_decimal in
+    let b = c.put_decimal-2 in
+    let d = c.put_decimal-3 in
+    let e = c.put_decimal-4 in
+    let two = grew_labelled p _ a.new.self (ascii " ") _ b.new.self a.ensures.wrote b.ensures.wrote (omega arith) in
+    let three = grew_labelled p _ b.new.self (ascii " ") _ d.new.self two d.ensures.wrote (omega arith) in
+    grew_labelled p _ d.new.self (ascii " ") _ e.new.self three e.ensures.wrote (omega arith)

@@ -7,7 +7,8 @@ use lib.ListN.{length}
 use Rattle.std.proofs.lemmas.List.Edits.{length-between}
 use Rattle.utf8.specs.Utf8.{goes_on}
 use Rattle.utf8.proofs.Steps.{cut_off, second_below, second_above, tails_past}
-use Rattle.utf8.proofs.Lead.past.Goals.{then-second-self-via-then-second-self, then-second-self-via-else-second-self+then-self-second}
+use Rattle.utf8.proofs.Lead.past.Goals.{then-second-self-via-then-second-self}
+use Rattle.utf8.proofs.Lead.past.Goals.{then-second-self-via-else-second-self+then-self-second}
 use Rattle.utf8.proofs.Lead.past.Goals as goal
 
 pub returns-in_default : goal.returns-in_default
@@ -33,7 +34,8 @@ returns-then-are_tails c =
     let t = c.split_at.result.0.now in
     let u = c.split_at.result.1.now in
     let second = tails_past s c.in-len1-up.len_at_least c.args.self t u c.if-second-self.false c.if-self-second.false in (
-      second p.by_index.0 p.front_len ∙ ap (λ x. x && goes_on [] u) (sym c.are_tails.ensures ∙ c.if-are_tails.true),
+      second p.by_index.0 p.front_len
+          ∙ ap (λ x. x && goes_on [] u) (sym c.are_tails.ensures ∙ c.if-are_tails.true),
       omega (arith, length-between s 1 (length s) (omega arith), p.back_len),
     )
 
