@@ -43,7 +43,7 @@ fn part_lines(page: &mut Page, recording: &[u8], live: bool, part: u32, table: &
     page.put_hexadecimal(b"part ", part as u64);
     match find_part(recording, live, part, table) {
         Ok((None, _)) => page.put(b" absent\n"),
-        Ok((Some(found), _)) => {
+        Ok((Some(found), heads)) => {
             place_text(page, found.at, found.size, found.rows);
             row_lines(page, table, found.rows as usize);
         }

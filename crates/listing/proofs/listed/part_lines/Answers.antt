@@ -1,15 +1,23 @@
 -- `part_lines` meets its contract: the part's id, and then its text by the reply of the search. Assumes nothing.
-use mathlib.Core.Path.{◌∙◌}
+use mathlib.Core.Path.{◌≡◌, ap, ◌∙◌}
+use Prim.Native.Nat.{ℕ}
+use Rattle.std.proofs.Common.{Result, Option, Ok}
+use Rattle.refusals.specs.declared.refusal.Refusal.{Refusal}
+use Rattle.search_rules.specs.declared.part.Part.{Part}
 use native.Mathlib.Omega.{arith}
 use Rattle.pages.specs.Text.{ascii}
 use Rattle.pages.proofs.Pages.{then, then_labelled}
 use Rattle.listing_rules.proofs.PartTexts.{absent_text, refused_text_law, found_few, found_text, part_text}
 use Rattle.listing.proofs.listed.part_lines.Goals as goal
 
+-- What the search told of the part, in the answer that tells the heads too.
+found_as : {r : Result (Option Part × ℕ) Refusal} {x y : Option Part} {n : ℕ} → r ≡ Ok (x, n) → x ≡ y → r ≡ Ok (y, n)
+found_as {n = n} e q = e ∙ ap (λ (z : Option Part). Ok (z, n)) q
+
 pub row_lines-requires : goal.row_lines-requires
 row_lines-requires c =
     let p = c.requires in
-    let f = rw found_as c.in-Ok-Some-default.is c.in-Ok-Some-default.field-0-0-is at c.find_part.ensures in
+    let f = rw (found_as c.in-Ok-Some-default.is c.in-Ok-Some-default.field-0-0-is) at c.find_part.ensures in
     let k = found_few _ _ _ _ _ p.table_len _ _ _ _ f in
     let t = c.find_part.auto.table in
     let id = c.put_hexadecimal.ensures in
@@ -21,7 +29,7 @@ row_lines-requires c =
 pub returns-in-Ok-None-default-clause-wrote : goal.returns-in-Ok-None-default-clause-wrote
 returns-in-Ok-None-default-clause-wrote c =
     let p = c.requires in
-    let f = rw found_as c.in-Ok-None-default.is c.in-Ok-None-default.field-0-0-is at c.find_part.ensures in
+    let f = rw (found_as c.in-Ok-None-default.is c.in-Ok-None-default.field-0-0-is) at c.find_part.ensures in
     let id = c.put_hexadecimal.ensures in
     let end = c.put.ensures in
     let e = end.0.ends in (
@@ -49,7 +57,7 @@ returns-in-Err-clause-wrote c =
 pub returns-in-Ok-Some-default : goal.returns-in-Ok-Some-default
 returns-in-Ok-Some-default c =
     let p = c.requires in
-    let f = rw found_as c.in-Ok-Some-default.is c.in-Ok-Some-default.field-0-0-is at c.find_part.ensures in
+    let f = rw (found_as c.in-Ok-Some-default.is c.in-Ok-Some-default.field-0-0-is) at c.find_part.ensures in
     let k = found_few _ _ _ _ _ p.table_len _ _ _ _ f in
     let id = c.put_hexadecimal.ensures in
     let place = c.place_text.ensures in
