@@ -36,12 +36,12 @@ told_back address at n (refused cause) = refl
 pub mapped_err : (address : ℕ) (v : Result (Body × Cursor) Cause) (r : Result (Body × Cursor) Refusal)
     (P : Cause → Refusal → Type 0) → ((cause : Cause) (e : Refusal) → P cause e → e ≡ because cause address)
     → MatchResult v (λ x. r ≡ Ok x) (λ cause. IsErrAnd r (P cause))
-    → (e : Refusal) → r ≡ Err e → read_reply address v ≡ refusal e
+    → (e : Refusal) → r ≡ Err e → (cause : Cause) × (v ≡ Err cause) × (e ≡ because cause address)
 mapped_err address (Ok x) r P h m e q =
     let o : ◌≡◌ {A = Result (Body × Cursor) Refusal} (Ok x) (Err e) = sym m ∙ q in absurd cc
 mapped_err address (Err cause) r P h m e q =
     let (d, o, p) = err_from_is_err_and r m in
-    let f : d ≡ e = cc in ap refusal (sym (h cause d p) ∙ f)
+    let f : d ≡ e = cc in (cause, refl, sym f ∙ h cause d p)
 
 pub mapped_ok : (v : Result (Body × Cursor) Cause) (r : Result (Body × Cursor) Refusal)
     (P : Cause → Refusal → Type 0) → MatchResult v (λ x. r ≡ Ok x) (λ cause. IsErrAnd r (P cause))

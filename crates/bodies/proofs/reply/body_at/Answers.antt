@@ -22,9 +22,10 @@ returns-in_err-body c =
     let p = err_from_is_err_and c.from_residual.result c.from_residual.ensures.1 in
     let read = reply_read a.recording.now a.id a.parent a.at a.size a.address _ _ c.kind_of-kind.ensures
     c.read_body.ensures (sym c.is_place.ensures ∙ c.if-not-is_place.false) in
-    let m = mapped_err a.address c.read_body.result c.map_err.result _ (λ cause e k. search rules) c.map_err.ensures.cases
+    let (cause, told, here) =
+    mapped_err a.address c.read_body.result c.map_err.result _ (λ cause e k. search rules) c.map_err.ensures.cases
     _ c.in_err-body.was in
-    rw (p.1, p.2) (record { reply = sym m ∙ read })
+    rw (p.1, p.2, here) (record { reply = sym (ap (read_reply a.address) told) ∙ read })
 
 pub returns : goal.returns
 returns c =
