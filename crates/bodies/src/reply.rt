@@ -3,7 +3,7 @@ ghost use Rattle.bodies_rules.specs.Promise.{BodyPromise};
 
 use crate::typed::read_body;
 use bodies_rules::Body;
-use header::{Cursor, Headed, Header, MOST_BYTES};
+use header::{Cursor, Headed, Header, is_place};
 use kind_decision::kind_of;
 use refusals::{Cause, Refusal};
 
@@ -19,18 +19,8 @@ pub fn body_at(
 ) -> Result<Body, Refusal>
     ensures { BodyPromise recording.now id parent at size address result }
 {
-    let length = recording.len() as u64;
-    if MOST_BYTES < length {
-        return Err(Refusal {
-            address: 0,
-            cause: Cause::BadArgument,
-        });
-    }
-    if length < at {
-        return Err(Refusal {
-            address: 0,
-            cause: Cause::BadArgument,
-        });
+    if !is_place(recording, at) {
+        return Err(Cause::BadArgument.at(0));
     }
     let kind = kind_of(id, parent);
     // The caller names the payload, and says where the header is; no byte of that is looked at.
@@ -43,8 +33,6 @@ pub fn body_at(
             length: 0,
         },
     };
-    match read_body(recording, element, kind) {
-        Ok((body, _)) => Ok(body),
-        Err(cause) => Err(Refusal { address, cause }),
-    }
+    let (body, _) = read_body(recording, element, kind).map_err(|cause| cause.at(address))?;
+    Ok(body)
 }

@@ -1,5 +1,5 @@
 -- What a read of a body answers: the definition, as the code tells it, with the next place.
-use Rattle.std.specs.Prelude.{ℕ, ◌+◌, List}
+use Rattle.std.specs.Prelude.{ℕ, ◌+◌, List, Option, Some, None, cond, length, leb}
 use Rattle.kinds.specs.declared.kind.Kind.{Kind}
 use Rattle.bodies_rules.specs.Bodies.{Told, body, refused, body_of}
 use Rattle.bodies_rules.specs.declared.body.Body.TheVariants.{Value, Master}
@@ -16,3 +16,7 @@ read_of at n (refused cause) = Err cause
 
 unfoldable pub body_read : Kind → List ℕ → (at n : ℕ) → Result (Body × Cursor) Cause
 body_read kind s at n = read_of at n (body_of s at n kind)
+
+-- The place behind n octets, where the recording has them.
+abbrev pub end_of : List ℕ → (at n : ℕ) → Option Cursor
+end_of s at n = cond (leb (at + n) (length s)) (Some (record { at = at + n })) None

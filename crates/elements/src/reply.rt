@@ -39,28 +39,6 @@ pub fn fill(
     }
 }
 
-// The public reading into a cleared table: 14, then the elements.
-fn read_cleared(
-    recording: &[u8],
-    live: bool,
-    start: u64,
-    size: u64,
-    parent: u32,
-    table: &mut [u64],
-) -> Result<u64, Refusal>
-    requires { table.old ≡ zeros (length table.old) }
-    ensures { ReadPromise live recording.now start size parent
-        table.old result table.new }
-{
-    if !is_allowed(recording, start, table) {
-        return Err(Refusal {
-            address: 0,
-            cause: Cause::BadArgument,
-        });
-    }
-    fill(recording, live, start, size, parent, table)
-}
-
 // The elements of the payload of `size` bytes from `start` on, under a parent id, into the table; in live mode, which
 // knows unknown sizes, or in old mode. A refusal fills the table with zeros. 14: a length is broken, or the start is
 // past the end.
@@ -75,8 +53,8 @@ pub fn read(
     ensures { ReadPromise live recording.now start size parent
         table.old result table.new }
 {
-    clear(table);
-    read_cleared(recording, live, start, size, parent, table)
+    let rows = table.len() as u64;
+    read_again(recording, live, start, size, parent, rows, table)
 }
 
 // The same into a table that has zeros alone behind so many rows, as one that was read into has. So a small payload is
@@ -95,5 +73,8 @@ pub fn read_again(
         table.old result table.new }
 {
     clear_rows(table, rows);
-    read_cleared(recording, live, start, size, parent, table)
+    if !is_allowed(recording, start, table) {
+        return Err(Cause::BadArgument.at(0));
+    }
+    fill(recording, live, start, size, parent, table)
 }

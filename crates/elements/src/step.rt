@@ -10,16 +10,9 @@ use sizes::is_unknown;
 pub fn element_header(recording: &[u8], live: bool, place: Cursor) -> Result<Headed, Refusal>
     ensures { result ≡ element_header_read live recording.now place.at }
 {
-    match place.header(recording) {
-        Err(refusal) => Err(refusal),
-        Ok(headed) => {
-            if is_unknown(live, headed.header) {
-                return Err(Refusal {
-                    address: place.at,
-                    cause: Cause::UnknownSize,
-                });
-            }
-            Ok(headed)
-        }
+    let headed = place.header(recording)?;
+    if is_unknown(live, headed.header) {
+        return Err(Cause::UnknownSize.at(place.at));
     }
+    Ok(headed)
 }

@@ -7,9 +7,8 @@ use mathlib.Core.Bool.{Bool, true, false, cond, not}
 use native.Mathlib.Omega.{arith}
 use lib.ListN.{length, drop}
 use lib.Dec.{ltb, eqb}
-use Rattle.refusals.specs.Refusals.{overrun, too_deep, no_free_row, unknown_size, bad_argument}
+use Rattle.refusals.specs.Refusals.{overrun, no_free_row, unknown_size, bad_argument}
 use Rattle.refusals.specs.Reply.{refusal}
-use Rattle.refusals.specs.declared.refusal.Cause.TheVariants.{BadArgument, Outside, UnknownSize}
 use Rattle.refusals.specs.declared.refusal.Refusal.{Refusal}
 use Rattle.header.specs.Header.{Heading, heading, header_of}
 use Rattle.header.specs.Header.{refused as refused_header}
@@ -21,17 +20,16 @@ use Rattle.bodies_rules.specs.Bodies.{refused as refused_body}
 use Rattle.bodies_rules.specs.declared.body.Body.TheVariants.{Value, Master}
 use Rattle.elements_rules.specs.Forest.{Element, Forest, none, node, whole, span, count}
 use Rattle.elements_rules.specs.Reading.{Outcome, done, refused, and_then, prepend, above, refuse_if, taken}
-use Rattle.elements_rules.specs.Reading.{element_header, headed, held, full, siblings, element_of, depths, element}
+use Rattle.elements_rules.specs.Reading.{headed, held, full, siblings, element_of, depths, element}
 use Rattle.elements_rules.specs.Reading.{master_body}
 use Rattle.elements_rules.specs.Rows.{rows, width}
 use Rattle.elements_rules.specs.Stands.{Stands}
 use Rattle.elements_rules.specs.Promise.{keeping, allowed, filled, read_of, reply_of, read_told, table_of}
 use Rattle.elements_rules.specs.Theorems.{Each}
-use Rattle.elements_rules.specs.Faults.{Errand, to_element, reads_header, barred, Unsized, unsized, FaultThere}
-use Rattle.elements_rules.specs.Faults.{Fault, Honest, there, callers, Comes, here, past, into, HonestReading}
+use Rattle.elements_rules.specs.Faults.{Errand, to_element, reads_header, barred, Unsized, unsized}
+use Rattle.elements_rules.specs.Faults.{there, callers, Comes, here, past, into, HonestReading}
 use Rattle.elements_rules.specs.Live.{AllKnown, NoneIsAll, LiveOr, seventeen, equal, BodyLiveOr, LiveReads}
 use Rattle.elements_rules.specs.Live.{EqualReads, header_of_row, RowsKnown}
-use Rattle.elements_rules.specs.declared.row.Row.{Row}
 use Rattle.elements_rules.specs.declared.row.Mode.{Mode}
 use Rattle.elements_rules.proofs.Outcomes.{never}
 use Rattle.elements_rules.proofs.Parts.{of_taken, taken_there, known_taken}

@@ -7,4 +7,4 @@ mod cursor;
 mod reply;
 
 pub use cursor::{Cursor, Headed, Header, big_endian};
-pub use reply::{MOST_BYTES, header_at};
+pub use reply::{MOST_BYTES, header_at, is_place};

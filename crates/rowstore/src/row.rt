@@ -44,7 +44,6 @@ pub fn keep_row(table: &mut [u64], mode: Mode, n: usize, row: Row) -> bool
             return false;
         }
         put_row(table, n, row);
-        return true;
     }
     true
 }

@@ -1,16 +1,17 @@
--- `is_allowed` meets its contract: the limits, one after another. Assumes nothing.
-use Rattle.elements_rules.proofs.Limits.{too_long, broken_rows, too_many, by_start}
+-- `is_allowed` meets its contract: a place of the recording, and a table. Assumes nothing.
+use mathlib.Core.Path.{sym, ◌∙◌}
+use lib.ListN.{length}
+use Rattle.elements_rules.proofs.Limits.{by_table, no_place}
 use Rattle.rowstore.proofs.table.is_allowed.Goals as goal
 
-pub returns-then-length-gt-MOST_BYTES : goal.returns-then-length-gt-MOST_BYTES
-returns-then-length-gt-MOST_BYTES c = too_long _ _ _ c.if-length-gt-MOST_BYTES.true
+pub returns-then-is_place : goal.returns-then-is_place
+returns-then-is_place c =
+    let a = c.args in
+    c.is_table.ensures
+    ∙ by_table a.recording.now a.start (length a.table.now) (sym c.is_place.ensures ∙ c.if-is_place.true)
 
-pub returns-then-table-ne0 : goal.returns-then-table-ne0
-returns-then-table-ne0 c = broken_rows _ _ _ c.if-length-gt-MOST_BYTES.false c.if-table-ne0.true
-
-pub returns-then-table-gt-MOST_NUMBERS : goal.returns-then-table-gt-MOST_NUMBERS
-returns-then-table-gt-MOST_NUMBERS c =
-    too_many _ _ _ c.if-length-gt-MOST_BYTES.false c.if-table-ne0.false c.if-table-gt-MOST_NUMBERS.true
-
-pub returns : goal.returns
-returns c = by_start _ _ _ c.if-length-gt-MOST_BYTES.false c.if-table-ne0.false c.if-table-gt-MOST_NUMBERS.false
+pub returns-else-is_place : goal.returns-else-is_place
+returns-else-is_place c =
+    let a = c.args in
+    c.is_place.ensures
+    ∙ no_place a.recording.now a.start (length a.table.now) (sym c.is_place.ensures ∙ c.if-is_place.false)
