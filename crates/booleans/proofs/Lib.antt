@@ -3,3 +3,4 @@ pub mod Computed
 pub mod Handed
 pub mod Pairs
 pub mod Turned
+pub mod Mapped

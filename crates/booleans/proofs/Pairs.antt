@@ -1,6 +1,6 @@
 -- What two equal answers that hold pairs say of the halves. Assumes nothing.
 use mathlib.Core.Path.{◌≡◌, ap}
-use Rattle.std.proofs.Common.{Result, Option, Ok, Err, Some, None}
+use Rattle.std.proofs.Common.{Result, Option, Ok, Some}
 
 -- The halves of two equal pairs are equal.
 pub halves : {A B : Type 0} {a c : A} {b d : B} → ◌≡◌ {A = A × B} (a, b) (c, d) → (a ≡ c) × (b ≡ d)

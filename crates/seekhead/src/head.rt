@@ -17,26 +17,22 @@ fn later(old: Option<u64>, id: u32, seek: Seek) -> Option<u64>
     ensures { result ≡ later_of id old seek }
 {
     if seek.id == id {
-        return Some(seek.position);
+        Some(seek.position)
+    } else {
+        old
     }
-    old
 }
 
 // The positions of the wanted ids, after one more entry.
 fn later_each(old: Positions, wanted: Wanted, seek: Seek) -> Positions
     ensures { result ≡ positions_from wanted old (seek ∷ []) }
 {
-    let first = old.first;
-    let second = old.second;
-    let third = old.third;
-    let fourth = old.fourth;
-    let fifth = old.fifth;
     Positions {
-        first: later(first, wanted.first, seek),
-        second: later(second, wanted.second, seek),
-        third: later(third, wanted.third, seek),
-        fourth: later(fourth, wanted.fourth, seek),
-        fifth: later(fifth, wanted.fifth, seek),
+        first: later(old.first, wanted.first, seek),
+        second: later(old.second, wanted.second, seek),
+        third: later(old.third, wanted.third, seek),
+        fourth: later(old.fourth, wanted.fourth, seek),
+        fifth: later(old.fifth, wanted.fifth, seek),
     }
 }
 
@@ -44,11 +40,9 @@ fn later_each(old: Positions, wanted: Wanted, seek: Seek) -> Positions
 fn insert(table: Seektable, wanted: Wanted, seek: Seek) -> Seektable
     ensures { result ≡ inserted wanted table (seek ∷ []) }
 {
-    let parts = table.parts;
-    let head = table.head;
     Seektable {
-        parts: later_each(parts, wanted, seek),
-        head: later(head, ids::SEEKHEAD, seek),
+        parts: later_each(table.parts, wanted, seek),
+        head: later(table.head, ids::SEEKHEAD, seek),
     }
 }
 
@@ -64,15 +58,11 @@ fn head_child(
     ensures { result ≡ child_told live recording.now wanted table child }
 {
     if child.header.id == ids::SEEK {
-        return match seek_body(recording, live, child) {
-            Err(refusal) => Err(refusal),
-            Ok(seek) => Ok(insert(table, wanted, seek)),
-        };
+        let seek = seek_body(recording, live, child)?;
+        return Ok(insert(table, wanted, seek));
     }
-    match skim_body(recording, live, child, ids::SEGMENT, 0) {
-        Err(refusal) => Err(refusal),
-        Ok(_) => Ok(table),
-    }
+    skim_body(recording, live, child, ids::SEGMENT, 0)?;
+    Ok(table)
 }
 
 // The positions of the wanted ids with those of a head whose header was read, and its entry for a further head.
@@ -90,28 +80,16 @@ pub fn head_body(
     let end = at + head.header.size;
     let mut table = Seektable { parts, head: None };
     while at < end {
-        let place = Cursor { at };
-        match element_header(recording, live, place) {
-            Err(refusal) => {
-                return Err(refusal);
-            }
-            Ok(child) => match head_child(recording, live, wanted, table, child) {
-                Err(refusal) => {
-                    return Err(refusal);
-                }
-                Ok(more) => {
-                    let next = child.payload.at + child.header.size;
-                    if end < next {
-                        return Err(Refusal {
-                            address: at,
-                            cause: Cause::Overrun,
-                        });
-                    }
-                    at = next;
-                    table = more;
-                }
-            },
+        let child = element_header(recording, live, Cursor { at })?;
+        table = head_child(recording, live, wanted, table, child)?;
+        let next = child.payload.at + child.header.size;
+        if end < next {
+            return Err(Refusal {
+                address: at,
+                cause: Cause::Overrun,
+            });
         }
+        at = next;
     }
     Ok(table)
 }

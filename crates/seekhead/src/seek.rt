@@ -13,23 +13,13 @@ use kinds::ids;
 use refusals::{Cause, Refusal};
 use seekhead_rules::Seek;
 
-// The smaller of two numbers.
-fn fewer(x: u64, y: u64) -> u64
-    ensures { result ≡ min x y }
-{
-    if x < y {
-        return x;
-    }
-    y
-}
-
 // The last four bytes of an element's payload as a number; all of them where there are fewer.
 fn last_four(recording: &[u8], element: Headed) -> u32
     requires { Whole recording.now element }
     ensures { result ≡ last_four recording.now element.payload.at element.header.size }
 {
     let size = element.header.size;
-    let n = fewer(size, 4);
+    let n = size.min(4);
     let first = element.payload.at + (size - n);
     big_endian(recording, first as usize, n as usize) as u32
 }
@@ -40,32 +30,14 @@ fn noted(recording: &[u8], seek: Seek, member: Headed, body: Body) -> Seek
     ensures { result ≡ noted_of recording.now member (body_is body) seek }
 {
     match body {
-        Body::Value(value) => match value {
-            Value::Bytes(_) => {
-                if member.header.id == ids::SEEKID {
-                    let named = last_four(recording, member);
-                    return Seek {
-                        id: named,
-                        position: seek.position,
-                    };
-                }
-                seek
-            }
-            Value::Unsigned(position) => {
-                if member.header.id == ids::SEEKPOSITION {
-                    return Seek {
-                        id: seek.id,
-                        position,
-                    };
-                }
-                seek
-            }
-            Value::Integer(_) => seek,
-            Value::Float(_) => seek,
-            Value::Date(_) => seek,
-            Value::Text(_) => seek,
+        Body::Value(Value::Bytes(_)) if member.header.id == ids::SEEKID => Seek {
+            id: last_four(recording, member),
+            ..seek
         },
-        Body::Master => seek,
+        Body::Value(Value::Unsigned(position)) if member.header.id == ids::SEEKPOSITION => {
+            Seek { position, ..seek }
+        }
+        _ => seek,
     }
 }
 
@@ -74,10 +46,8 @@ fn seek_member(recording: &[u8], live: bool, seek: Seek, member: Headed) -> Resu
     requires { Taken live recording.now member }
     ensures { result ≡ member_told live recording.now seek member }
 {
-    match skim_body(recording, live, member, ids::SEEK, 1) {
-        Err(refusal) => Err(refusal),
-        Ok(body) => Ok(noted(recording, seek, member, body)),
-    }
+    let body = skim_body(recording, live, member, ids::SEEK, 1)?;
+    Ok(noted(recording, seek, member, body))
 }
 
 // A Seek whose header was read, with its members.
@@ -89,28 +59,16 @@ pub fn seek_body(recording: &[u8], live: bool, element: Headed) -> Result<Seek, 
     let end = at + element.header.size;
     let mut seek = Seek { id: 0, position: 0 };
     while at < end {
-        let place = Cursor { at };
-        match element_header(recording, live, place) {
-            Err(refusal) => {
-                return Err(refusal);
-            }
-            Ok(member) => match seek_member(recording, live, seek, member) {
-                Err(refusal) => {
-                    return Err(refusal);
-                }
-                Ok(more) => {
-                    let next = member.payload.at + member.header.size;
-                    if end < next {
-                        return Err(Refusal {
-                            address: at,
-                            cause: Cause::Overrun,
-                        });
-                    }
-                    at = next;
-                    seek = more;
-                }
-            },
+        let member = element_header(recording, live, Cursor { at })?;
+        seek = seek_member(recording, live, seek, member)?;
+        let next = member.payload.at + member.header.size;
+        if end < next {
+            return Err(Refusal {
+                address: at,
+                cause: Cause::Overrun,
+            });
         }
+        at = next;
     }
     Ok(seek)
 }

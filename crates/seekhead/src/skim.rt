@@ -25,26 +25,28 @@ pub fn skim_body(
     let header = element.header;
     let kind = kind_of(header.id, parent);
     if kind.number() == MASTER {
-        let payload = element.payload;
-        let below = depth + 1;
         let above = Above {
             id: header.id,
             row: 0,
-            depth: below,
+            depth: depth + 1,
         };
         let mode = Mode { keep: false, live };
         // The readers ask for a table; no row is kept in this one.
         let mut none = [0u64; 1];
-        return match master_body(recording, &mut none, mode, payload, header.size, 0, above) {
-            Err(refusal) => Err(refusal),
-            Ok((_, _)) => Ok(Body::Master),
-        };
+        master_body(
+            recording,
+            &mut none,
+            mode,
+            element.payload,
+            header.size,
+            0,
+            above,
+        )?;
+        return Ok(Body::Master);
     }
-    match read_body(recording, element, kind) {
-        Err(cause) => Err(Refusal {
-            address: element.place.at,
-            cause,
-        }),
-        Ok((body, _)) => Ok(body),
-    }
+    let (body, _) = read_body(recording, element, kind).map_err(|cause| Refusal {
+        address: element.place.at,
+        cause,
+    })?;
+    Ok(body)
 }

@@ -1,5 +1,4 @@
 // The ids that are wanted, the table of their positions, and what the reader of a head gives.
-use refusals::Refusal;
 
 // A set of wanted ids, of up to five: a search for a part wants one. 0 stands where no id is wanted.
 #[derive(Clone, Copy)]

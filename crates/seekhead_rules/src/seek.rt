@@ -1,5 +1,4 @@
 // An entry of a seek head.
-use refusals::Refusal;
 
 // An id, and its position counted from the segment's start. Without its members they are 0. The position comes first,
 // beside a refusal's address: where two cases overlap otherwise, a processor waits (bench/README.md).

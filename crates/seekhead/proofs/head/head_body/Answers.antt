@@ -1,6 +1,7 @@
 -- `head_body`: the children of a head, one after another. Assumes nothing.
 use mathlib.Core.Path.{refl, sym, ap, ◌∙◌}
 use native.Mathlib.Omega.{arith}
+use Rattle.booleans.proofs.Handed.{handed}
 use Rattle.elements_rules.specs.Reading.{element_header_read}
 use Rattle.elements_rules.proofs.Parts.{step_read}
 use Rattle.header.proofs.Inside.{header_there}
@@ -18,48 +19,49 @@ overflow_add-end c =
 pub loop-at-init : goal.loop-at-init
 loop-at-init c = pass_holds _ _ _ (children_law _ _) _ _ _
 
-pub returns-in-Err : goal.returns-in-Err
-returns-in-Err c =
-    pass_unread _ _ _ _ _ _ _ _ _ c.loop-at.invariant _ refl c.loop-at-test.true _
-    (sym c.element_header.ensures ∙ c.in-Err.is)
+pub returns-in_err-child : goal.returns-in_err-child
+returns-in_err-child c =
+    handed _ c.from_residual.ensures.1
+    ∙ pass_unread _ _ _ _ _ _ _ _ _ c.loop-at.invariant _ refl c.loop-at-test.true _
+    (sym c.element_header.ensures ∙ c.in_err-child.was)
 
 pub head_child-requires : goal.head_child-requires
 head_child-requires c =
     let p = c.requires in
-    let q = (sym c.element_header.ensures ∙ c.in-Ok.is) in
+    let q = (sym c.element_header.ensures ∙ c.in_ok-child.was) in
     let t = header_there _ _ _ (step_read _ _ _ _ q).1 in
     record { small = p.small; there = ap (element_header_read _ _) t.begins ∙ q }
 
-pub returns-in-Err-head_child : goal.returns-in-Err-head_child
-returns-in-Err-head_child c =
-    pass_refused _ _ _ _ _ _ _ _ _ c.loop-at.invariant _ refl c.loop-at-test.true _
-    (sym c.element_header.ensures ∙ c.in-Ok.is) _
-    (sym c.in-Err-head_child.is ∙ c.head_child.ensures)
+pub returns-in_err-table : goal.returns-in_err-table
+returns-in_err-table c =
+    handed _ c.from_residual-in_err-table.ensures.1
+    ∙ pass_refused _ _ _ _ _ _ _ _ _ c.loop-at.invariant _ refl c.loop-at-test.true _
+    (sym c.element_header.ensures ∙ c.in_ok-child.was) _ (sym c.in_err-table.was ∙ c.head_child.ensures)
 
 pub overflow_add-next : goal.overflow_add-next
 overflow_add-next c =
     let p = c.requires in
     let t = header_there _ _ _
-    (step_read _ _ _ _ (sym c.element_header.ensures ∙ c.in-Ok.is)).1 in
+    (step_read _ _ _ _ (sym c.element_header.ensures ∙ c.in_ok-child.was)).1 in
     omega (arith, t.inside, t.sized, p.small)
 
 pub returns-then-end-next : goal.returns-then-end-next
 returns-then-end-next c =
     pass_overruns _ _ _ _ _ _ _ _ _ c.loop-at.invariant _ refl c.loop-at-test.true _
-    (sym c.element_header.ensures ∙ c.in-Ok.is) _
-    (sym c.in-Ok-head_child.is ∙ c.head_child.ensures) c.if-end-next.true
+    (sym c.element_header.ensures ∙ c.in_ok-child.was) _
+    (sym c.in_ok-table.was ∙ c.head_child.ensures) c.if-end-next.true
 
 pub loop-at-smaller : goal.loop-at-smaller
 loop-at-smaller c =
     let t = header_there _ _ _
-    (step_read _ _ _ _ (sym c.element_header.ensures ∙ c.in-Ok.is)).1 in
+    (step_read _ _ _ _ (sym c.element_header.ensures ∙ c.in_ok-child.was)).1 in
     omega (arith, t.some, t.behind, c.if-end-next.false, c.loop-at-test.true)
 
 pub loop-at-preserved : goal.loop-at-preserved
 loop-at-preserved c =
     pass_again _ _ _ _ _ _ _ _ _ c.loop-at.invariant _ refl c.loop-at-test.true _
-    (sym c.element_header.ensures ∙ c.in-Ok.is) _
-    (sym c.in-Ok-head_child.is ∙ c.head_child.ensures) (omega (arith, c.if-end-next.false))
+    (sym c.element_header.ensures ∙ c.in_ok-child.was) _
+    (sym c.in_ok-table.was ∙ c.head_child.ensures) (omega (arith, c.if-end-next.false))
 
 pub returns : goal.returns
 returns c =

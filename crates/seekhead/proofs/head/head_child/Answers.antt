@@ -1,5 +1,6 @@
 -- `head_child`: the table with one child of a head. Assumes nothing.
 use mathlib.Core.Path.{refl, sym, ◌∙◌}
+use Rattle.booleans.proofs.Handed.{handed}
 use Rattle.elements_rules.proofs.Parts.{step_read}
 use Rattle.seekhead_rules.proofs.Members.{seek_refusal, seek_more, other_more}
 use Rattle.seekhead.proofs.head.head_child.Goals as goal
@@ -9,19 +10,20 @@ seek_body-requires c =
     let p = c.requires in
     record { small = p.small; there = (step_read _ _ _ _ p.there).1 }
 
-pub returns-in-Err : goal.returns-in-Err
-returns-in-Err c =
-    seek_refusal _ _ _ _ _ c.requires.there c.if-child-eq-SEEK.true _
-    (sym c.in-Err.is ∙ c.seek_body.ensures)
+pub returns-in_err-seek : goal.returns-in_err-seek
+returns-in_err-seek c =
+    handed _ c.from_residual.ensures.1
+    ∙ seek_refusal _ _ _ _ _ c.requires.there c.if-child-eq-SEEK.true _ (sym c.in_err-seek.was ∙ c.seek_body.ensures)
 
-pub returns-in-Ok : goal.returns-in-Ok
-returns-in-Ok c =
+pub returns-then-child-eq-SEEK : goal.returns-then-child-eq-SEEK
+returns-then-child-eq-SEEK c =
     seek_more _ _ _ _ _ c.requires.there c.if-child-eq-SEEK.true _
-    (sym c.in-Ok.is ∙ c.seek_body.ensures) _ c.insert.ensures
+    (sym c.in_ok-seek.was ∙ c.seek_body.ensures) _ c.insert.ensures
 
-pub returns-in-Err-skim_body : goal.returns-in-Err-skim_body
-returns-in-Err-skim_body c = rw (c.skim_body.ensures.refusal _ c.in-Err-skim_body.is) refl
+pub returns-in_err-skim_body : goal.returns-in_err-skim_body
+returns-in_err-skim_body c =
+    handed _ c.from_residual-in_err-skim_body.ensures.1
+    ∙ rw (c.skim_body.ensures.refusal _ c.in_err-skim_body.was) refl
 
-pub returns-in-Ok-skim_body : goal.returns-in-Ok-skim_body
-returns-in-Ok-skim_body c =
-    other_more _ _ _ _ _ c.if-child-eq-SEEK.false _ (c.skim_body.ensures.body _ c.in-Ok-skim_body.is)
+pub returns : goal.returns
+returns c = other_more _ _ _ _ _ c.if-child-eq-SEEK.false _ (c.skim_body.ensures.body _ c.in_ok-skim_body.was)

@@ -6,6 +6,6 @@ pub returns-then-seek-id : goal.returns-then-seek-id
 returns-then-seek-id c =
     later_same c.args.id c.args.old c.args.seek c.if-seek-id.true
 
-pub returns : goal.returns
-returns c =
+pub returns-else-seek-id : goal.returns-else-seek-id
+returns-else-seek-id c =
     later_other c.args.id c.args.old c.args.seek c.if-seek-id.false

@@ -6,7 +6,7 @@ use Rattle.seekhead.proofs.seek.last_four.Goals as goal
 
 pub overflow_cast-result : goal.overflow_cast-result
 overflow_cast-result c =
-    record { fits = fits_in _ 4 _ (few _ _ c.fewer-n.ensures).1 c.big_endian.ensures.1 }
+    record { fits = fits_in _ 4 _ (few _ _ c.min-n.ensures).1 c.big_endian.ensures.1 }
 
 pub returns : goal.returns
-returns c = c.big_endian.ensures.0 ∙ rw c.fewer-n.ensures (last_octets _ _ _)
+returns c = c.big_endian.ensures.0 ∙ rw c.min-n.ensures (last_octets _ _ _)

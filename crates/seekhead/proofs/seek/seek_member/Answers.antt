@@ -1,15 +1,16 @@
 -- `seek_member`: a Seek with one more member. Assumes nothing.
-use mathlib.Core.Path.{refl}
+use mathlib.Core.Path.{refl, ◌∙◌}
+use Rattle.booleans.proofs.Handed.{handed}
 use Rattle.seekhead_rules.proofs.Members.{member_more}
 use Rattle.seekhead.proofs.seek.seek_member.Goals as goal
 
 pub noted-requires : goal.noted-requires
-noted-requires c = (c.skim_body.ensures.body _ c.in-Ok.is).inside
+noted-requires c = (c.skim_body.ensures.body _ c.in_ok-body.was).inside
 
-pub returns-in-Err : goal.returns-in-Err
-returns-in-Err c = rw (c.skim_body.ensures.refusal _ c.in-Err.is) refl
+pub returns-in_err-body : goal.returns-in_err-body
+returns-in_err-body c =
+    handed _ c.from_residual.ensures.1 ∙ rw (c.skim_body.ensures.refusal _ c.in_err-body.was) refl
 
-pub returns-in-Ok : goal.returns-in-Ok
-returns-in-Ok c =
-    member_more _ _ _ _ c.requires.there _
-    (c.skim_body.ensures.body _ c.in-Ok.is) _ c.noted.ensures
+pub returns : goal.returns
+returns c =
+    member_more _ _ _ _ c.requires.there _ (c.skim_body.ensures.body _ c.in_ok-body.was) _ c.noted.ensures
