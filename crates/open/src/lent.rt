@@ -6,7 +6,6 @@ ghost use Rattle.open_rules.specs.Contract.{ReadInto};
 
 use elements::read_again;
 use header::Headed;
-use kinds::ids;
 use open_rules::Which;
 use refusals::Refusal;
 use rowstore::clear;
@@ -54,19 +53,12 @@ pub fn read_part(
 {
     let at = part.payload.at;
     let size = part.header.size;
+    let parent = which.parent();
     match which {
-        Which::Info => read_again(recording, live, at, size, ids::INFO, rows, info),
-        Which::Tracks => read_again(recording, live, at, size, ids::TRACKENTRY, rows, tracks),
-        Which::Attachments => read_again(
-            recording,
-            live,
-            at,
-            size,
-            ids::ATTACHEDFILE,
-            rows,
-            attachments,
-        ),
-        Which::Chapters => read_again(recording, live, at, size, ids::EDITIONENTRY, rows, chapters),
-        Which::Tags => read_again(recording, live, at, size, ids::TAG, rows, tags),
+        Which::Info => read_again(recording, live, at, size, parent, rows, info),
+        Which::Tracks => read_again(recording, live, at, size, parent, rows, tracks),
+        Which::Attachments => read_again(recording, live, at, size, parent, rows, attachments),
+        Which::Chapters => read_again(recording, live, at, size, parent, rows, chapters),
+        Which::Tags => read_again(recording, live, at, size, parent, rows, tags),
     }
 }

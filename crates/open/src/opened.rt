@@ -2,27 +2,25 @@
 ghost use Rattle.std.specs.Prelude.{◌≡◌};
 ghost use Rattle.open_rules.specs.Tables.{five, sizes_of, zeroed};
 ghost use Rattle.open_rules.specs.Promise.{OpenPromise};
-ghost use Rattle.open_rules.specs.Contract.{Begins, Ran};
+ghost use Rattle.open_rules.specs.Contract.{Ran};
 
 use crate::lent::{clear_all, read_part};
-use open_rules::{Parts, Stage, Turn};
-use opening::{begin, known_after, rows_of, stage_after, turn};
+use open_rules::{Parts, Turn};
+use opening::{begin, turn};
 use refusals::Refusal;
+use search_rules::Part;
 
 // The turns from the first stage on, with cleared tables.
 fn run(
     recording: &[u8],
     live: bool,
-    first: Stage,
     info: &mut [u64],
     tracks: &mut [u64],
     attachments: &mut [u64],
     chapters: &mut [u64],
     tags: &mut [u64],
 ) -> Result<(Parts, u64), Refusal>
-    requires begins { Begins live recording.now (sizes_of (five info.old tracks.old attachments.old chapters.old
-        tags.old)) first }
-    requires tags_value { five info.old tracks.old attachments.old chapters.old tags.old ≡ zeroed (sizes_of
+    requires { five info.old tracks.old attachments.old chapters.old tags.old ≡ zeroed (sizes_of
         (five info.old tracks.old attachments.old chapters.old tags.old)) }
     ensures { Ran live recording.now
         (five info.old tracks.old attachments.old chapters.old
@@ -30,35 +28,35 @@ fn run(
         (five info.new tracks.new attachments.new chapters.new
         tags.new) }
 {
-    let mut stage = first;
-    let mut known = Parts {
-        info: None,
-        tracks: None,
-        attachments: None,
-        chapters: None,
-        tags: None,
-    };
+    let mut stage = begin(recording, live, info, tracks, attachments, chapters, tags)?;
+    let mut known = Parts::default();
     loop {
-        match turn(recording, live, stage, known) {
-            Turn::Over(reply) => {
-                return reply;
+        match turn(recording, live, stage)? {
+            Turn::Over(heads) => {
+                return Ok((known, heads));
             }
             Turn::Read { which, part, next } => {
-                let rows = rows_of(known, which);
-                let reply = read_part(
+                let rows = read_part(
                     recording,
                     live,
                     which,
                     part,
-                    rows,
+                    known.rows(which),
                     info,
                     tracks,
                     attachments,
                     chapters,
                     tags,
+                )?;
+                known.set(
+                    which,
+                    Part {
+                        at: part.payload.at,
+                        size: part.header.size,
+                        rows,
+                    },
                 );
-                known = known_after(known, which, part, reply);
-                stage = stage_after(next, reply);
+                stage = next;
             }
         }
     }
@@ -84,21 +82,9 @@ pub fn open(
         tags.new) }
 {
     clear_all(info, tracks, attachments, chapters, tags);
-    let first = begin(recording, live, info, tracks, attachments, chapters, tags);
-    match run(
-        recording,
-        live,
-        first,
-        info,
-        tracks,
-        attachments,
-        chapters,
-        tags,
-    ) {
-        Err(refusal) => {
-            clear_all(info, tracks, attachments, chapters, tags);
-            Err(refusal)
-        }
-        Ok((parts, heads)) => Ok((parts, heads)),
+    let reply = run(recording, live, info, tracks, attachments, chapters, tags);
+    if reply.is_err() {
+        clear_all(info, tracks, attachments, chapters, tags);
     }
+    reply
 }

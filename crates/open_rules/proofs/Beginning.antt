@@ -1,6 +1,6 @@
 -- The start of `open`: the lengths, and the segment. Assumes nothing.
 use Prim.Native.Nat.{ℕ, ◌≤◌}
-use mathlib.Core.Path.{◌≡◌, refl, sym, ap, ◌∙◌}
+use mathlib.Core.Path.{◌≡◌, refl}
 use mathlib.Core.List.{List}
 use mathlib.Core.Bool.{Bool, true, false, ◌&&◌}
 use lib.ListN.{length}
@@ -16,8 +16,9 @@ use Rattle.open_rules.specs.Tables.{Sizes}
 use Rattle.open_rules.specs.Opening.{whole_of}
 use Rattle.open_rules.specs.Promise.{are_allowed, open_of}
 use Rattle.open_rules.specs.Contract.{Begins}
-use Rattle.open_rules.specs.declared.turns.Stage.TheVariants.{From, Refused}
-use Rattle.std.proofs.Common.{Ok, Err}
+use Rattle.open_rules.specs.declared.turns.Stage.{Stage}
+use Rattle.open_rules.specs.declared.turns.Stage.TheVariants.{From}
+use Rattle.std.proofs.Common.{Result, Ok, Err}
 
 both : (a b : Bool) → (a && b) ≡ true → a ≡ true
 both true b q = refl
@@ -28,20 +29,18 @@ pub small : (s : List ℕ) (n : Sizes) → are_allowed s n ≡ true → length s
 unfolding are_allowed
 small s n a = (within s 0 n.info (both (allowed s 0 n.info) _ a)).bytes
 
-module _ (live : Bool) (s : List ℕ) (n : Sizes) where
-  pub begin_bad : (e : Refusal) → are_allowed s n ≡ false → e ≡ bad_argument → Begins live s n (Refused e)
+module _ (live : Bool) (s : List ℕ) (n : Sizes) (r : Result Stage Refusal) where
+  pub begin_bad : (e : Refusal) → are_allowed s n ≡ false → e ≡ bad_argument → r ≡ Err e → Begins live s n r
   unfolding open_of
-  begin_bad e a q = record { ready = tt; stands = rw (a, q) refl }
+  begin_bad e a q x = rw (x, a, q) refl
 
   module _ (a : are_allowed s n ≡ true) where
-    pub begin_stopped : (r : Refusal) → segment_of live s ≡ Err r → Begins live s n (Refused r)
+    pub begin_stopped : (e : Refusal) → segment_of live s ≡ Err e → r ≡ Err e → Begins live s n r
     unfolding open_of whole_of
-    begin_stopped r q = record { ready = tt; stands = rw (a, q) refl }
+    begin_stopped e q x = rw (x, a, q) refl
 
-    pub begin_at : (segment : Headed) → segment_of live s ≡ Ok segment
-        → Begins live s n (From segment segment.payload.at)
+    pub begin_at : (segment : Headed) → segment_of live s ≡ Ok segment → r ≡ Ok (From segment segment.payload.at)
+        → Begins live s n r
     unfolding open_of whole_of
-    begin_at segment q = record {
-      ready = record { small = small s n a; there = segment_there live s segment q };
-      stands = rw (a, q) refl;
-    }
+    begin_at segment q x =
+        rw x (record { small = small s n a; there = segment_there live s segment q }, rw (a, q) refl)

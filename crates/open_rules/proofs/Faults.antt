@@ -1,11 +1,10 @@
 -- `open` is refused for a fault that it comes to, at its address (`OpenHonest`). Assumes nothing.
-use Prim.Native.Nat.{ℕ, ◌+◌, ◌-◌, ◌≤◌, ◌<◌}
+use Prim.Native.Nat.{ℕ, ◌-◌, ◌<◌}
 use mathlib.Core.Path.{◌≡◌, refl, sym, ap, ◌∙◌, subst}
 use mathlib.Core.List.{List, [], ◌∷◌, ◌++◌}
 use mathlib.Core.Logic.{inl}
 use mathlib.Core.Bool.{Bool, true, false, cond, ◌&&◌, not}
 use native.Mathlib.Omega.{arith}
-use lib.ListN.{length}
 use lib.Dec.{leb, eqb}
 use borrow.Author.Tests.{eqb-true, eqb-false, leb-false}
 use Rattle.refusals.specs.Refusals.{because, overrun, bad_argument}
@@ -17,27 +16,25 @@ use Rattle.header.specs.declared.cursor.Headed.{Headed}
 use Rattle.header.proofs.Inside.{header_there}
 use Rattle.sizes.specs.Unknown.{unknown}
 use Rattle.kinds.specs.Kinds.{member}
-use Rattle.elements_rules.specs.Forest.{Forest, count}
+use Rattle.elements_rules.specs.Forest.{count}
 use Rattle.elements_rules.specs.Reading.{Outcome, done}
 use Rattle.elements_rules.specs.Reading.{refused as unread}
-use Rattle.elements_rules.specs.Faults.{Errand, to_step, to_pass, larger_passed, Fault, FaultThere, Honest, there, callers}
+use Rattle.elements_rules.specs.Faults.{Errand, to_step, to_pass, larger_passed, Fault, Honest, there, callers}
 use Rattle.elements_rules.proofs.Faults.{reading_honest}
 use Rattle.walks_rules.specs.Answers.{on_header}
 use Rattle.walks_rules.specs.Step.{is_past, barred_step, child_at}
-use Rattle.walks_rules.specs.Walk.{Visit, ends, over, on_visit}
+use Rattle.walks_rules.specs.Walk.{ends, over, on_visit}
 use Rattle.walks_rules.specs.Endings.{end_of}
 use Rattle.walks_rules.specs.declared.step.Stretch.{Stretch}
 use Rattle.walks_rules.proofs.Steps.{Stepped, stepped_on}
 use Rattle.seekhead_rules.specs.Seeks.{seek_head_id}
-use Rattle.seekhead_rules.specs.Table.{latest}
 use Rattle.seekchain_rules.specs.Answers.{on_outcome}
 use Rattle.seekchain_rules.specs.Heads.{Heads, Chain, chained, broken, linked_heads}
 use Rattle.seekchain_rules.specs.Lookup.{Lookup, stopped, by_heads}
 use Rattle.seekchain_rules.specs.Lookup.{found as found_at, absent as absent_at}
 use Rattle.seekchain_rules.specs.Theorems.{IsAt}
-use Rattle.seekchain_rules.specs.Faults.{HeadsCome}
 use Rattle.seekchain_rules.proofs.Faults.{step_fault, heads_honest}
-use Rattle.segments_rules.specs.Segment.{segment_of, stretch_of, overruns, within_segment, part_ids, segment_children}
+use Rattle.segments_rules.specs.Segment.{segment_of, stretch_of, overruns, within_segment, part_ids}
 use Rattle.segments_rules.specs.Segment.{lookup_of}
 use Rattle.search_rules.specs.Faults.{SearchComes}
 use Rattle.search_rules.specs.Faults.{in_file as file_searched, in_file_unknown as unknown_searched}

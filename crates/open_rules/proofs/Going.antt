@@ -1,22 +1,21 @@
 -- What `open` comes to from one part that it reads to the next, over plain values. Assumes nothing.
 use Rattle.booleans.proofs.Pairs.{ok_halves}
-use Prim.Native.Nat.{ℕ, zero, suc, ◌+◌, ◌-◌, ◌≤◌, ◌<◌}
-use mathlib.Core.Path.{◌≡◌, refl, sym, ap, ◌∙◌, subst}
+use Prim.Native.Nat.{ℕ, ◌-◌, ◌≤◌, ◌<◌}
+use mathlib.Core.Path.{◌≡◌, refl, sym, ap, ◌∙◌}
 use mathlib.Core.List.{List, [], ◌∷◌}
-use mathlib.Core.Bool.{Bool, true, false}
+use mathlib.Core.Bool.{Bool, false}
 use native.Mathlib.Omega.{arith}
-use lib.ListN.{length, drop}
+use lib.ListN.{length, get_or, take, drop}
+use Rattle.std.proofs.lemmas.List.{take_all}
+use denote.Bor.{Bor}
 use lib.Dec.{eqb}
 use Rattle.refusals.specs.declared.refusal.Refusal.{Refusal}
-use Rattle.header.specs.Promise.{most_bytes}
-use Rattle.header.specs.Reads.{header_at}
 use Rattle.header.specs.declared.cursor.Headed.{Headed}
-use Rattle.elements_rules.specs.Forest.{Forest, count}
+use Rattle.elements_rules.specs.Forest.{count}
 use Rattle.elements_rules.specs.Reading.{Outcome, done}
 use Rattle.elements_rules.specs.Reading.{refused as unread}
 use Rattle.walks_rules.specs.Contract.{Readable}
-use Rattle.walks_rules.specs.Walk.{Visit, ends, over, on_visit, on_passed, Walk}
-use Rattle.walks_rules.specs.Endings.{room_of}
+use Rattle.walks_rules.specs.Walk.{ends, over, on_passed, Walk}
 use Rattle.walks_rules.specs.declared.step.Stretch.{Stretch}
 use Rattle.seekhead_rules.specs.Seeks.{seek_head_id}
 use Rattle.seekhead_rules.specs.Table.{positions, latest, positions_from}
@@ -32,53 +31,39 @@ use Rattle.segments_rules.specs.Segment.{stretch_of, past_child, aims_at, met_fr
 use Rattle.segments_rules.specs.Contract.{PastIn}
 use Rattle.segments_rules.specs.declared.walk.Aim.TheVariants.{Every}
 use Rattle.segments_rules.specs.declared.walk.Met.TheVariants.{Head, Part as PartIs}
-use Rattle.segments_rules.proofs.Meetings.{visited, first_met, after, Reached, head_met, part_met, less, passed}
+use Rattle.segments_rules.proofs.Meetings.{visited, first_met, after, head_met, part_met, less, passed}
 use Rattle.open_rules.specs.Parts.{id_of, which_of, order, placed}
 use Rattle.open_rules.specs.Tables.{Sizes, part_read}
 use Rattle.open_rules.specs.Opening.{Opening, read, refused, sought_from, by_heads_all, visit, opening}
 use Rattle.open_rules.specs.Opening.{taken, on_lookup, on_chain, children_from}
-use Rattle.open_rules.specs.Promise.{reply_of}
-use Rattle.open_rules.specs.Contract.{every, link_of, which_at, Tells, left_of, Stands, ReadsNext, Ends, Turns}
+use Rattle.open_rules.specs.Contract.{every, link_of, Tells, left_of, StandsSought, Stands, ReadsNext, Turns}
 use Rattle.open_rules.specs.Contract.{TurnsSought, TurnsHead, TurnsMet, TurnsFrom}
 use Rattle.open_rules.specs.declared.parts.Which.{Which}
 use Rattle.open_rules.specs.declared.parts.Which.TheVariants.{Info, Tracks, Attachments, Chapters, Tags}
 use Rattle.open_rules.specs.declared.parts.Parts.{Parts}
 use Rattle.open_rules.specs.declared.turns.Seeking.{Seeking}
 use Rattle.open_rules.specs.declared.turns.Stage.{Stage}
-use Rattle.open_rules.specs.declared.turns.Stage.TheVariants.{From, Behind, Sought, Refused}
+use Rattle.open_rules.specs.declared.turns.Stage.TheVariants.{From, Behind, Sought}
 use Rattle.open_rules.specs.declared.turns.Turn.{Turn}
 use Rattle.open_rules.specs.declared.turns.Turn.TheVariants.{Read, Over}
 use Rattle.std.proofs.Common.{Result, Option, Ok, Err, Some, None}
 use Rattle.segments_rules.specs.declared.walk.Met.{Met}
 
--- ---- the end of the call
-
 -- A refusal is no reading.
 pub never : {A : Type 0} {e : Refusal} {ps : Parts} {heads : List ℕ} → refused e ≡ read ps heads → A
 never q = let z : ◌≡◌ {A = ℕ} 0 1 = cc in let z' : ⊥ = omega arith in absurd z'
 
-module _ (live : Bool) (s : List ℕ) (n : Sizes) (ps : Parts) (o : Opening) where
-  pub ends_refused : (r : Refusal) → o ≡ refused r → Ends live s n ps o (Err r)
-  ends_refused r q = record { reply_is = sym (ap reply_of q); known = λ qs heads w. never (sym q ∙ w) }
-
-  pub ends_read : (heads : List ℕ) (k : ℕ) → o ≡ read ps heads → length heads ≡ k → Ends live s n ps o (Ok (ps, k))
-  ends_read heads k q l = record {
-    reply_is = sym (ap reply_of q ∙ ap (λ (k : ℕ). Ok (ps, k)) l);
-    known = λ qs hs w. same (sym q ∙ w);
-  }
-    where
-      same : {qs : Parts} {hs : List ℕ} → read ps heads ≡ read qs hs → qs ≡ ps
-      same w = cc
-
-  -- A turn with less left.
-  pub turns_more : (most more : ℕ) → most ≤ more → (t : Turn) → Turns live s n ps o most t → Turns live s n ps o more t
-  turns_more most more l (Read which e next) t = record {
-    fails = t.fails;
-    goes = t.goes;
-    fewer = let k = t.fewer in omega arith;
-    ready = t.ready;
-  }
-  turns_more most more l (Over reply) t = t
+-- A turn with less left.
+pub turns_more : (live : Bool) (s : List ℕ) (n : Sizes) (ps : Parts) (o : Opening) (most more : ℕ) → most ≤ more
+    → (t : Result Turn Refusal) → Turns live s n ps o most t → Turns live s n ps o more t
+turns_more live s n ps o most more l (Ok (Read which e next)) t = record {
+  fails = t.fails;
+  goes = t.goes;
+  fewer = let k = t.fewer in omega arith;
+  ready = t.ready;
+}
+turns_more live s n ps o most more l (Ok (Over heads)) t = t
+turns_more live s n ps o most more l (Err e) t = t
 
 -- ---- after the heads
 
@@ -91,120 +76,68 @@ link_latest Attachments seeks = refl
 link_latest Chapters seeks = refl
 link_latest Tags seeks = refl
 
--- The part that is sought next stands at the front of those that are left.
-next_which : (i : ℕ) → i < 5 → drop i order ≡ which_at i ∷ drop (i + 1) order
-unfolding which_at
-next_which zero l = refl
-next_which (suc zero) l = refl
-next_which (suc (suc zero)) l = refl
-next_which (suc (suc (suc zero))) l = refl
-next_which (suc (suc (suc (suc zero)))) l = refl
-next_which (suc (suc (suc (suc (suc i))))) l = absurd (omega arith)
+-- The next part in turn is sought, at the latest position of its id.
+module _ (live : Bool) (s : List ℕ) (n : Sizes) (seeking : Seeking) (ps : Parts) (o : Opening) (which : Which)
+    (more : List Which) (heads : Heads) (t : Tells seeking heads)
+    (q : o ≡ sought_from live s n seeking.start heads (which ∷ more) ps) (r : Result (Option Headed × ℕ) Refusal)
+    (m : PartMet live s (id_of which) seeking.start seeking.heads seeking.last (link_of seeking.links which) r) where
+  abbrev place : Lookup
+  place = part_at live s (id_of which) seeking.start heads.addresses (latest (id_of which) heads.entries)
 
-drop_none : (i : ℕ) → drop {A = Which} i [] ≡ []
-drop_none zero = refl
-drop_none (suc i) = refl
+  abbrev rest : Parts → Opening
+  rest qs = sought_from live s n seeking.start heads more qs
 
-none_left : (i : ℕ) → 5 ≤ i → drop i order ≡ []
-none_left zero l = absurd (omega arith)
-none_left (suc zero) l = absurd (omega arith)
-none_left (suc (suc zero)) l = absurd (omega arith)
-none_left (suc (suc (suc zero))) l = absurd (omega arith)
-none_left (suc (suc (suc (suc zero)))) l = absurd (omega arith)
-none_left (suc (suc (suc (suc (suc i))))) l = drop_none i
+  -- Where it is.
+  sought_place : r ≡ place_told place
+  sought_place =
+      m heads.addresses t.counted t.last
+      ∙ rw (ap (λ (p : Positions). link_of p which) t.links ∙ link_latest which heads.entries) refl
 
-module _ (live : Bool) (s : List ℕ) (n : Sizes) (seeking : Seeking) (ps : Parts) (o : Opening) where
-  abbrev start : ℕ
-  start = seeking.start
-
-  -- All parts were sought.
-  pub sought_over : (i : ℕ) → 5 ≤ i → Stands live s n (Sought seeking i) ps o
-      → Ends live s n ps o (Ok (ps, seeking.heads))
+  as_sought : o ≡ on_lookup live s n place (λ e. taken live s n which e ps refused rest) (rest ps)
   unfolding sought_from
-  sought_over i l (heads, t, q) =
-      ends_read live s n ps o heads.addresses seeking.heads (q ∙ rw (none_left i l) refl) t.counted
+  as_sought = q
 
-  module _ (i : ℕ) (l : i < 5) (heads : Heads) (t : Tells seeking heads)
-      (q : o ≡ sought_from live s n start heads (drop i order) ps) where
-    abbrev which : Which
-    which = which_at i
+  pub sought_stopped : (e : Refusal) → r ≡ Err e → o ≡ refused e
+  sought_stopped e k = as_sought ∙ by place (sym k ∙ sought_place)
+    where
+      by : (p : Lookup) → Err e ≡ place_told p
+          → on_lookup live s n p (λ e. taken live s n which e ps refused rest) (rest ps) ≡ refused e
+      by (found_at a b) h = let z : ◌≡◌ {A = ℕ} 0 1 = cc in absurd (omega arith)
+      by (absent_at b) h = let z : ◌≡◌ {A = ℕ} 0 1 = cc in absurd (omega arith)
+      by (stopped_at e') h = cc
 
-    abbrev place : Lookup
-    place = part_at live s (id_of which) start heads.addresses (latest (id_of which) heads.entries)
+  pub sought_absent : (k : ℕ) → r ≡ Ok (None, k) → o ≡ rest ps
+  sought_absent k h = as_sought ∙ by place (sym h ∙ sought_place)
+    where
+      by : (p : Lookup) → Ok (None, k) ≡ place_told p
+          → on_lookup live s n p (λ e. taken live s n which e ps refused rest) (rest ps) ≡ rest ps
+      by (found_at a b) h =
+          let g = (ok_halves h).0 in let z : ◌≡◌ {A = ℕ} 0 1 = cc in absurd (omega arith)
+      by (absent_at b) h = refl
+      by (stopped_at e') h = let z : ◌≡◌ {A = ℕ} 0 1 = cc in absurd (omega arith)
 
-    abbrev rest : Parts → Opening
-    rest qs = sought_from live s n start heads (drop (i + 1) order) qs
+  pub sought_found : (e : Headed) (k : ℕ) → r ≡ Ok (Some e, k) → (left : Bor (List Which)) → left.now ≡ more
+      → (most : ℕ) → length more < most → ReadsNext live s n ps o most which e (Sought seeking left)
+  sought_found e k h left l most fewer = record {
+    fails = λ r p. found ∙ rw p refl;
+    goes = λ f p. (heads, t, rw l (found ∙ rw p refl));
+    fewer = rw l fewer;
+    ready = tt;
+  }
+    where
+      by : (p : Lookup) → Ok (Some e, k) ≡ place_told p
+          → on_lookup live s n p (λ e. taken live s n which e ps refused rest) (rest ps)
+          ≡ taken live s n which e ps refused rest
+      by (found_at a b) h =
+          let g = (ok_halves h).0 in
+          let c : e ≡ a = cc in
+          ap (λ (x : Headed). taken live s n which x ps refused rest) (sym c)
+      by (absent_at b) h =
+          let g = (ok_halves h).0 in let z : ◌≡◌ {A = ℕ} 0 1 = cc in absurd (omega arith)
+      by (stopped_at e') h = let z : ◌≡◌ {A = ℕ} 0 1 = cc in absurd (omega arith)
 
-    -- Where the next part is.
-    sought_place : (w : Which) (id : ℕ) (link : Option ℕ) (r : Result (Option Headed × ℕ) Refusal) → w ≡ which → id ≡ id_of w
-        → link ≡ link_of seeking.links w → PartMet live s id start seeking.heads seeking.last link r
-        → r ≡ place_told place
-    sought_place w id link r x y z m =
-        m heads.addresses t.counted t.last
-        ∙ rw (
-          y,
-          z ∙ ap (λ (p : Positions). link_of p w) t.links ∙ link_latest w heads.entries,
-          x,
-        )
-        refl
-
-    as_sought : o ≡ on_lookup live s n place (λ e. taken live s n which e ps refused rest) (rest ps)
-    unfolding sought_from
-    as_sought = q ∙ rw (next_which i l) refl
-
-    module _ (w : Which) (id : ℕ) (link : Option ℕ) (r : Result (Option Headed × ℕ) Refusal) (x : w ≡ which) (y : id ≡ id_of w)
-        (z : link ≡ link_of seeking.links w)
-        (m : PartMet live s id start seeking.heads seeking.last link r) where
-      pub sought_stopped : (e : Refusal) → r ≡ Err e → o ≡ refused e
-      sought_stopped e k = as_sought ∙ by place (sym k ∙ sought_place w id link r x y z m)
-        where
-          by : (p : Lookup) → Err e ≡ place_told p
-              → on_lookup live s n p (λ e. taken live s n which e ps refused rest) (rest ps) ≡ refused e
-          by (found_at a b) h = let z : ◌≡◌ {A = ℕ} 0 1 = cc in absurd (omega arith)
-          by (absent_at b) h = let z : ◌≡◌ {A = ℕ} 0 1 = cc in absurd (omega arith)
-          by (stopped_at e') h = cc
-
-      pub sought_absent : (k : ℕ) → r ≡ Ok (None, k) → o ≡ rest ps
-      sought_absent k h = as_sought ∙ by place (sym h ∙ sought_place w id link r x y z m)
-        where
-          by : (p : Lookup) → Ok (None, k) ≡ place_told p
-              → on_lookup live s n p (λ e. taken live s n which e ps refused rest) (rest ps) ≡ rest ps
-          by (found_at a b) h =
-              let g = (ok_halves h).0 in let z : ◌≡◌ {A = ℕ} 0 1 = cc in absurd (omega arith)
-          by (absent_at b) h = refl
-          by (stopped_at e') h = let z : ◌≡◌ {A = ℕ} 0 1 = cc in absurd (omega arith)
-
-      pub sought_found : (e : Headed) (k : ℕ) → r ≡ Ok (Some e, k) → (most : ℕ) → 5 - (i + 1) < most
-          → ReadsNext live s n ps o most w e (Sought seeking (i + 1))
-      sought_found e k h most fewer = record {
-        fails = λ r p. found ∙ rw (x' p) refl;
-        goes = λ f p. (
-          heads,
-          t,
-          found ∙ rw (x' p) (ap (λ (v : Which).
-              rest (placed ps v (Some (record { at = e.payload.at; size = e.header.size; rows = (count f) })))) (sym x)),
-        );
-        fewer = fewer;
-        ready = tt;
-      }
-        where
-          by : (p : Lookup) → Ok (Some e, k) ≡ place_told p
-              → on_lookup live s n p (λ e. taken live s n which e ps refused rest) (rest ps)
-              ≡ taken live s n which e ps refused rest
-          by (found_at a b) h =
-              let g = (ok_halves h).0 in
-              let c : e ≡ a = cc in
-              ap (λ (x : Headed). taken live s n which x ps refused rest) (sym c)
-          by (absent_at b) h =
-              let g = (ok_halves h).0 in let z : ◌≡◌ {A = ℕ} 0 1 = cc in absurd (omega arith)
-          by (stopped_at e') h = let z : ◌≡◌ {A = ℕ} 0 1 = cc in absurd (omega arith)
-
-          found : o ≡ taken live s n which e ps refused rest
-          found = as_sought ∙ by place (sym h ∙ sought_place w id link r x y z m)
-
-          x' : {d : Outcome} → part_read live s n w e.payload.at e.header.size ≡ d
-              → part_read live s n which e.payload.at e.header.size ≡ d
-          x' p = ap (λ (v : Which). part_read live s n v e.payload.at e.header.size) (sym x) ∙ p
+      found : o ≡ taken live s n which e ps refused rest
+      found = as_sought ∙ by place (sym h ∙ sought_place)
 
 -- ---- from the first head on
 
@@ -220,13 +153,14 @@ module _ (live : Bool) (s : List ℕ) (n : Sizes) (start : ℕ) (first : Headed)
       by (broken e) h = cc
 
   pub heads_read : (h : HeadsRead) → Ok h ≡ heads_told every (linked_heads live s start first)
-      → Stands live s n (Sought (record { start = start; links = h.parts; heads = h.heads; last = h.last }) 0) ps o
+      → StandsSought live s n (record { start = start; links = h.parts; heads = h.heads; last = h.last }) order ps o
   unfolding by_heads_all
   heads_read h k = by (linked_heads live s start first) k q
     where
       by : (c : Chain) → Ok h ≡ heads_told every c
           → o ≡ on_chain live s n c (λ heads. sought_from live s n start heads order ps)
-          → Stands live s n (Sought (record { start = start; links = h.parts; heads = h.heads; last = h.last }) 0) ps o
+          → StandsSought live s n (record { start = start; links = h.parts; heads = h.heads; last = h.last }) order ps
+          o
       by (chained heads) k w =
           let e : h ≡ record {
             parts = positions every heads.entries;
@@ -329,7 +263,7 @@ module _ (live : Bool) (s : List ℕ) (n : Sizes) (segment child : Headed) (ps :
   behind_on next k = q.1 ∙ rw (passes (Ok next) k) refl
 
   -- What follows has less left.
-  pub behind_turns : (next : ℕ) → y ≡ Ok next → (t : Turn)
+  pub behind_turns : (next : ℕ) → y ≡ Ok next → (t : Result Turn Refusal)
       → Turns live s n ps o (left_of live s (From segment next)) t
       → Turns live s n ps o (left_of live s (Behind segment child)) t
   behind_turns next k t u =
@@ -339,95 +273,116 @@ module _ (live : Bool) (s : List ℕ) (n : Sizes) (segment child : Headed) (ps :
 
 -- ---- the turns
 
-module _ (live : Bool) (s : List ℕ) (seeking : Seeking) (ps : Parts) (sought : ℕ) where
-  -- So many were sought by now: what the call comes to has not changed.
-  pub record Seeks (i : ℕ) : Type 0 where
-    pub least : sought ≤ i
+-- The first of the parts that are left, and the others.
+pub first_left : (left : List Which) → 1 ≤ length left
+    → left ≡ get_or left 0 Info ∷ take (length left - 1) (drop 1 left)
+first_left [] l = absurd (omega arith)
+first_left (which ∷ more) l = ap (λ (x : List Which). which ∷ x) (sym (take_all _ more (omega arith)))
+
+pub none_left : (left : List Which) → length left < 1 → left ≡ []
+none_left [] l = refl
+none_left (which ∷ more) l = absurd (omega arith)
+
+module _ (live : Bool) (s : List ℕ) (seeking : Seeking) (parts : List Which) where
+  -- Those are left to seek by now: what the call comes to has not changed.
+  pub record Seeks (left : List Which) : Type 0 where
+    pub fewer : length left ≤ length parts
     pub stands :
-        (n : Sizes) (o : Opening) → Stands live s n (Sought seeking sought) ps o
-        → Stands live s n (Sought seeking i) ps o
+        (n : Sizes) (ps : Parts) (o : Opening) → StandsSought live s n seeking parts ps o
+        → StandsSought live s n seeking left ps o
 
-  pub seeks_none : Seeks sought
-  seeks_none = record { least = omega arith; stands = λ n o q. q }
+  pub seeks_all : Seeks parts
+  seeks_all = record { fewer = omega arith; stands = λ n ps o q. q }
 
-  module _ (i : ℕ) (k : Seeks i) where
-    pub seek_over : 5 ≤ i → TurnsSought live s seeking sought ps (Over (Ok (ps, seeking.heads)))
-    seek_over l n o q = sought_over live s n seeking ps o i l (k.stands n o q)
+  module _ (left : List Which) (k : Seeks left) where
+    pub seek_over : left ≡ [] → TurnsSought live s seeking parts (Ok (Over seeking.heads))
+    unfolding sought_from
+    seek_over e n ps o q =
+        let (heads, t, g) = k.stands n ps o q in
+        (heads.addresses, g ∙ rw e refl, t.counted)
 
-    module _ (l : i < 5) (w : Which) (id : ℕ) (link : Option ℕ) (r : Result (Option Headed × ℕ) Refusal) (x : w ≡ which_at i) (y : id ≡ id_of w)
-        (z : link ≡ link_of seeking.links w)
+    module _ (which : Which) (more : List Which) (e : left ≡ which ∷ more) (id : ℕ) (y : id ≡ id_of which)
+        (link : Option ℕ) (z : link ≡ link_of seeking.links which) (r : Result (Option Headed × ℕ) Refusal)
         (m : PartMet live s id seeking.start seeking.heads seeking.last link r) where
-      pub seek_stopped : (e : Refusal) → r ≡ Err e
-          → TurnsSought live s seeking sought ps (Over (Err e))
-      seek_stopped e h n o q =
-          let (heads, t, g) = k.stands n o q in
-          ends_refused live s n ps o e (sought_stopped live s n seeking ps o i l heads t g w id link r x y z m e h)
+      next_met : PartMet live s (id_of which) seeking.start seeking.heads seeking.last (link_of seeking.links which) r
+      next_met = rw (y, z) at m
 
-      pub seek_on : (j : ℕ) → r ≡ Ok (None, j) → Seeks (i + 1)
-      seek_on j h = record {
-        least = let a = k.least in omega arith;
-        stands = λ n o q.
-            let (heads, t, g) = k.stands n o q in
-            (heads, t, sought_absent live s n seeking ps o i l heads t g w id link r x y z m j h);
+      next_left : (n : Sizes) (ps : Parts) (o : Opening) → StandsSought live s n seeking parts ps o
+          → StandsSought live s n seeking (which ∷ more) ps o
+      next_left n ps o q = rw e at (k.stands n ps o q)
+
+      fewer_left : length more < length parts
+      fewer_left = let a = rw e at k.fewer in omega arith
+
+      pub seek_stopped : (x : Refusal) → r ≡ Err x → (t : Result Turn Refusal) → t ≡ Err x
+          → TurnsSought live s seeking parts t
+      seek_stopped x h t w =
+          rw w (λ n ps o q.
+          let (heads, t, g) = next_left n ps o q in
+          sought_stopped live s n seeking ps o which more heads t g r next_met x h)
+
+      pub seek_on : (place : Option Headed) (j : ℕ) → r ≡ Ok (place, j) → place ≡ None → Seeks more
+      seek_on place j h v = record {
+        fewer = let a = fewer_left in omega arith;
+        stands = λ n ps o q.
+            let (heads, t, g) = next_left n ps o q in
+            (heads, t, sought_absent live s n seeking ps o which more heads t g r next_met j (rw v at h));
       }
 
-      pub seek_found : (e : Headed) (j : ℕ) → r ≡ Ok (Some e, j)
-          → TurnsSought live s seeking sought ps (Read w e (Sought seeking (i + 1)))
-      seek_found e j h n o q =
-          let (heads, t, g) = k.stands n o q in
-          let a = k.least in
-          sought_found live s n seeking ps o i l heads t g w id link r x y z m e j h (5 - sought) (omega arith)
+      pub seek_found : (place : Option Headed) (j : ℕ) → r ≡ Ok (place, j) → (x : Headed) → place ≡ Some x
+          → (rest : Bor (List Which)) → rest.now ≡ more
+          → TurnsSought live s seeking parts (Ok (Read which x (Sought seeking rest)))
+      seek_found place j h x v rest l n ps o q =
+          let (heads, t, g) = next_left n ps o q in
+          sought_found live s n seeking ps o which more heads t g r next_met x j (rw v at h) rest l (length parts)
+          fewer_left
 
-module _ (live : Bool) (s : List ℕ) (start : ℕ) (first : Headed) (ps : Parts) where
-  pub head_broken : (r : Refusal) → Err r ≡ heads_told every (linked_heads live s start first)
-      → TurnsHead live s start first ps (Over (Err r))
-  head_broken r h n o q = ends_refused live s n ps o r (heads_broken live s n start first ps o q r h)
+module _ (live : Bool) (s : List ℕ) (start : ℕ) (first : Headed) (t : Result Turn Refusal) where
+  pub head_broken : (r : Refusal) → Err r ≡ heads_told every (linked_heads live s start first) → t ≡ Err r
+      → TurnsHead live s start first t
+  head_broken r h y = rw y (λ n ps o q. heads_broken live s n start first ps o q r h)
 
-  pub head_read : (h : HeadsRead) → Ok h ≡ heads_told every (linked_heads live s start first) → (t : Turn)
-      → TurnsSought live s (record { start = start; links = h.parts; heads = h.heads; last = h.last }) 0 ps t
-      → TurnsHead live s start first ps t
-  head_read h k t u n o q = u n o (heads_read live s n start first ps o q h k)
+  pub head_read : (h : HeadsRead) → Ok h ≡ heads_told every (linked_heads live s start first)
+      → TurnsSought live s (record { start = start; links = h.parts; heads = h.heads; last = h.last }) order t
+      → TurnsHead live s start first t
+  head_read h k u n ps o q = u n ps o (heads_read live s n start first ps o q h k)
 
-module _ (live : Bool) (s : List ℕ) (segment : Headed) (at : ℕ) (ps : Parts) where
-  pub meet_refused : (r : Refusal) → met_from live s Every segment at ≡ Err r
-      → TurnsMet live s segment at ps (Over (Err r))
-  meet_refused r k n o q = ends_refused live s n ps o r (met_refused live s n segment at ps o q r k)
+module _ (live : Bool) (s : List ℕ) (segment : Headed) (at : ℕ) where
+  pub meet_refused : (r : Refusal) → met_from live s Every segment at ≡ Err r → (t : Result Turn Refusal) → t ≡ Err r
+      → TurnsMet live s segment at t
+  meet_refused r k t y = rw y (λ n ps o q. met_refused live s n segment at ps o q r k)
 
-  pub meet_end : met_from live s Every segment at ≡ (Ok None) → TurnsMet live s segment at ps (Over (Ok (ps, 0)))
-  meet_end k n o q = ends_read live s n ps o [] 0 (met_end live s n segment at ps o q k) refl
+  pub meet_end : met_from live s Every segment at ≡ (Ok None) → TurnsMet live s segment at (Ok (Over 0))
+  meet_end k n ps o q = ([], met_end live s n segment at ps o q k, refl)
 
-  pub meet_head : (e : Headed) → met_from live s Every segment at ≡ Ok (Some (Head e)) → (t : Turn)
-      → TurnsHead live s segment.payload.at e ps t → TurnsMet live s segment at ps t
-  meet_head e k t u n o q =
+  pub meet_head : (e : Headed) → met_from live s Every segment at ≡ Ok (Some (Head e)) → (t : Result Turn Refusal)
+      → TurnsHead live s segment.payload.at e t → TurnsMet live s segment at t
+  meet_head e k t u n ps o q =
       turns_more live s n ps o 5 (left_of live s (From segment at)) (omega arith) t
-      (u n o (met_head live s n segment at ps o q e k))
+      (u n ps o (met_head live s n segment at ps o q e k))
 
   pub meet_part : (e : Headed) → met_from live s Every segment at ≡ Ok (Some (PartIs e)) → (which : Which)
       → which ≡ which_of e.header.id → Readable s segment
-      → TurnsMet live s segment at ps (Read which e (Behind segment e))
-  meet_part e k which x r n o q = met_part live s n segment at ps o q e k which x r
+      → TurnsMet live s segment at (Ok (Read which e (Behind segment e)))
+  meet_part e k which x r n ps o q = met_part live s n segment at ps o q e k which x r
 
-module _ (live : Bool) (s : List ℕ) (stage : Stage) (ps : Parts) where
-  pub turn_refused : (r : Refusal) → stage ≡ Refused r → TurnsFrom live s stage ps (Over (Err r))
-  turn_refused r x = rw x (λ n o q. ends_refused live s n ps o r q)
+module _ (live : Bool) (s : List ℕ) (stage : Stage) (t : Result Turn Refusal) where
+  pub turn_from : (segment : Headed) (at : ℕ) → stage ≡ From segment at → TurnsMet live s segment at t
+      → TurnsFrom live s stage t
+  turn_from segment at x u = rw x u
 
-  pub turn_from : (segment : Headed) (at : ℕ) → stage ≡ From segment at → (t : Turn) → TurnsMet live s segment at ps t
-      → TurnsFrom live s stage ps t
-  turn_from segment at x t u = rw x u
-
-  pub turn_sought : (seeking : Seeking) (i : ℕ) → stage ≡ Sought seeking i → (t : Turn)
-      → TurnsSought live s seeking i ps t → TurnsFrom live s stage ps t
-  turn_sought seeking i x t u = rw x u
+  pub turn_sought : (seeking : Seeking) (left : Bor (List Which)) → stage ≡ Sought seeking left
+      → TurnsSought live s seeking left.now t → TurnsFrom live s stage t
+  turn_sought seeking left x u = rw x u
 
   module _ (segment child : Headed) (x : stage ≡ Behind segment child) (stretch : Stretch)
       (j : stretch ≡ stretch_of live s segment) (y : Result ℕ Refusal) (m : PastIn live s stretch child y) where
-    pub turn_lost : (r : Refusal) → y ≡ Err r → TurnsFrom live s stage ps (Over (Err r))
-    turn_lost r k =
-        rw x (λ n o q. ends_refused live s n ps o r (behind_lost live s n segment child ps o q stretch j y m r k))
+    pub turn_lost : (r : Refusal) → y ≡ Err r → t ≡ Err r → TurnsFrom live s stage t
+    turn_lost r k z =
+        rw (x, z) (λ n ps o q. behind_lost live s n segment child ps o q stretch j y m r k)
 
-    pub turn_on : (next : ℕ) → y ≡ Ok next → (t : Turn) → TurnsMet live s segment next ps t
-        → TurnsFrom live s stage ps t
-    turn_on next k t u =
-        rw x (λ n o q.
+    pub turn_on : (next : ℕ) → y ≡ Ok next → TurnsMet live s segment next t → TurnsFrom live s stage t
+    turn_on next k u =
+        rw x (λ n ps o q.
         behind_turns live s n segment child ps o q stretch j y m next k t
-        (u n o (behind_on live s n segment child ps o q stretch j y m next k)))
+        (u n ps o (behind_on live s n segment child ps o q stretch j y m next k)))

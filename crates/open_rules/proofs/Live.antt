@@ -5,7 +5,6 @@ use mathlib.Core.List.{List, [], ◌∷◌, ◌++◌}
 use mathlib.Core.Logic.{◌⊎◌, inl, inr}
 use mathlib.Core.Bool.{Bool, true, false, cond, not}
 use native.Mathlib.Omega.{arith}
-use lib.ListN.{length}
 use lib.Dec.{eqb}
 use borrow.Author.Tests.{eqb-true, eqb-false, leb-false}
 use Rattle.refusals.specs.Refusals.{overrun, bad_argument, unknown_size}
@@ -16,7 +15,7 @@ use Rattle.kinds.specs.Kinds.{member}
 use Rattle.elements_rules.specs.Forest.{count}
 use Rattle.elements_rules.specs.Reading.{Outcome, done, refuse_if}
 use Rattle.elements_rules.specs.Reading.{refused as unread}
-use Rattle.elements_rules.specs.Promise.{allowed, filled, read_of, ReadPromise}
+use Rattle.elements_rules.specs.Promise.{allowed, filled, read_of}
 use Rattle.elements_rules.specs.Faults.{Errand, to_step, to_pass}
 use Rattle.elements_rules.specs.Live.{AllKnown}
 use Rattle.elements_rules.proofs.Live.{none_is_all, body_known, live_reads}
@@ -43,11 +42,11 @@ use Rattle.search_rules.proofs.Faults.{child_before}
 use Rattle.search_rules.proofs.Live.{same_walk, of_known, segment_known, segment_sized}
 use Rattle.search_rules.proofs.Live.{Sizes as SegmentSized}
 use Rattle.open_rules.specs.Parts.{id_of, which_of, parent_of, order, no_parts, placed, part_of}
-use Rattle.open_rules.specs.Tables.{Tables, Sizes, five, sizes_of, of, part_read, shown}
-use Rattle.open_rules.specs.Opening.{Opening, read, refused, taken, on_lookup, on_chain, sought_from, by_heads_all}
+use Rattle.open_rules.specs.Tables.{Tables, Sizes, sizes_of, of, part_read}
+use Rattle.open_rules.specs.Opening.{Opening, refused, taken, on_lookup, on_chain, sought_from, by_heads_all}
 use Rattle.open_rules.specs.Opening.{visit, opening, children_from, whole_of}
-use Rattle.open_rules.specs.Promise.{are_allowed, open_of, reply_of, tables_of, OpenPromise}
-use Rattle.open_rules.specs.Faults.{PartComes, WasRead, OpenedOver, InOpen, place_of, SoughtPast, unnamed}
+use Rattle.open_rules.specs.Promise.{are_allowed, open_of, reply_of, OpenPromise}
+use Rattle.open_rules.specs.Faults.{PartComes, WasRead, OpenedOver, place_of, unnamed}
 use Rattle.open_rules.specs.Faults.{read_there, AllPast, Before, OpenComes, in_file, in_segment, in_met, from_heads}
 use Rattle.open_rules.specs.Faults.{in_sought}
 use Rattle.open_rules.specs.Live.{EqualOpens, EqualOpensWithout}

@@ -1,5 +1,5 @@
 -- What the functions of `opening` and `open` promise each other: where the call stands between two parts that it reads.
-use Rattle.std.specs.Prelude.{ℕ, ◌+◌, ◌-◌, ◌<◌, ◌≡◌, List, [], Bool, cond, length, drop, eqb}
+use Rattle.std.specs.Prelude.{ℕ, ◌+◌, ◌<◌, ◌≡◌, List, Bool, length}
 use Rattle.refusals.specs.declared.refusal.Refusal.{Refusal}
 use Rattle.header.specs.declared.cursor.Headed.{Headed}
 use Rattle.elements_rules.specs.Forest.{Forest, count}
@@ -17,7 +17,7 @@ use Rattle.seekhead_rules.specs.declared.head.Wanted.{Wanted}
 use Rattle.seekhead_rules.specs.declared.head.Positions.{Positions}
 use Rattle.seekchain_rules.specs.Heads.{Heads, last_head}
 use Rattle.segments_rules.specs.Segment.{stretch_of, past_child}
-use Rattle.open_rules.specs.Parts.{id_of, order, no_parts, on_part, placed}
+use Rattle.open_rules.specs.Parts.{id_of, no_parts, on_part, placed}
 use Rattle.open_rules.specs.Tables.{Tables, Sizes, sizes_of, of, put, part_read, shown}
 use Rattle.open_rules.specs.Opening.{Opening, read, refused, sought_from, by_heads_all, children_from}
 use Rattle.open_rules.specs.Promise.{open_of, reply_of}
@@ -26,7 +26,7 @@ use Rattle.open_rules.specs.declared.parts.Which.TheVariants.{Info, Tracks, Atta
 use Rattle.open_rules.specs.declared.parts.Parts.{Parts}
 use Rattle.open_rules.specs.declared.turns.Seeking.{Seeking}
 use Rattle.open_rules.specs.declared.turns.Stage.{Stage}
-use Rattle.open_rules.specs.declared.turns.Stage.TheVariants.{From, Behind, Sought, Refused}
+use Rattle.open_rules.specs.declared.turns.Stage.TheVariants.{From, Behind, Sought}
 use Rattle.open_rules.specs.declared.turns.Turn.{Turn}
 use Rattle.open_rules.specs.declared.turns.Turn.TheVariants.{Read, Over}
 use Rattle.std.specs.Prelude.{Result, Option, Ok, Err, Some}
@@ -51,10 +51,6 @@ link_of links Attachments = links.third
 link_of links Chapters = links.fourth
 link_of links Tags = links.fifth
 
--- The part that is sought when so many were.
-unfoldable pub which_at : ℕ → Which
-which_at i = cond (eqb i 0) Info (cond (eqb i 1) Tracks (cond (eqb i 2) Attachments (cond (eqb i 3) Chapters Tags)))
-
 -- What is known of heads that were read.
 pub record Tells (seeking : Seeking) (heads : Heads) : Type 0 where
   pub links : seeking.links ≡ positions every heads.entries
@@ -67,28 +63,28 @@ pub record Tells (seeking : Seeking) (heads : Heads) : Type 0 where
 abbrev pub Ready : List ℕ → Stage → Type 0
 Ready s (From segment at) = Readable s segment
 Ready s (Behind segment child) = Readable s segment × Readable s child
-Ready s (Sought seeking sought) = Unit
-Ready s (Refused e) = Unit
+Ready s (Sought seeking left) = Unit
 
 -- What is left to do, which falls from one part that is read to the next.
 abbrev pub left_of : (live : Bool) → List ℕ → Stage → ℕ
 left_of live s (From segment at) = room_of s (stretch_of live s segment) at + 7
 left_of live s (Behind segment child) = room_of s (stretch_of live s segment) child.place.at + 6
-left_of live s (Sought seeking sought) = 5 - sought
-left_of live s (Refused e) = 0
+left_of live s (Sought seeking left) = length left.now
 
 module _ (live : Bool) (s : List ℕ) (n : Sizes) where
-  -- What the call comes to from a stage on, with what is known of the parts.
+  -- What the call comes to after the heads, with those parts left to seek, and with what is known of the parts.
+  abbrev pub StandsSought : Seeking → (left : List Which) → Parts → Opening → Type 0
+  StandsSought seeking left ps o =
+      (heads : Heads) × Tells seeking heads × (o ≡ sought_from live s n seeking.start heads left ps)
+
+  -- The same from any stage on.
   abbrev pub Stands : Stage → Parts → Opening → Type 0
   Stands (From segment at) ps o = o ≡ children_from live s n segment at ps
   Stands (Behind segment child) ps o =
       (child_at live s (stretch_of live s segment) child.place.at ≡ Ok (Some child))
       × (o ≡ on_passed (past_child live s segment child) refused (λ next.
       children_from live s n segment next ps))
-  Stands (Sought seeking sought) ps o =
-      (heads : Heads) × Tells seeking heads
-      × (o ≡ sought_from live s n seeking.start heads (drop sought order) ps)
-  Stands (Refused e) ps o = o ≡ refused e
+  Stands (Sought seeking left) ps o = StandsSought seeking left.now ps o
 
   -- ---- a turn
 
@@ -102,33 +98,37 @@ module _ (live : Bool) (s : List ℕ) (n : Sizes) where
     pub fewer : left_of live s next < most
     pub ready : Ready s next
 
-  -- The call is over: with what is known of the parts, or a refusal.
-  pub record Ends (ps : Parts) (o : Opening) (reply : Result (Parts × ℕ) Refusal) : Type 0 where
-    pub reply_is : reply ≡ reply_of o
-    pub known : (qs : Parts) (heads : List ℕ) → o ≡ read qs heads → qs ≡ ps
+  -- The call is over, with what is known of the parts: so many heads were read.
+  abbrev pub Ends : Parts → Opening → (heads : ℕ) → Type 0
+  Ends ps o k = (heads : List ℕ) × (o ≡ read ps heads) × (length heads ≡ k)
 
-  abbrev pub Turns : Parts → Opening → (most : ℕ) → Turn → Type 0
-  Turns ps o most (Read which e next) = ReadsNext ps o most which e next
-  Turns ps o most (Over reply) = Ends ps o reply
+  -- A refusal of the turn is the call's.
+  abbrev pub Turns : Parts → Opening → (most : ℕ) → Result Turn Refusal → Type 0
+  Turns ps o most (Ok (Read which e next)) = ReadsNext ps o most which e next
+  Turns ps o most (Ok (Over heads)) = Ends ps o heads
+  Turns ps o most (Err e) = o ≡ refused e
 
--- What the functions of a turn promise: whatever the tables' lengths, and whatever the call comes to.
+-- What the functions of a turn promise: whatever the tables' lengths, whatever is known of the parts, and whatever the
+-- call comes to.
 module _ (live : Bool) (s : List ℕ) where
-  abbrev pub TurnsSought : Seeking → (sought : ℕ) → Parts → Turn → Type 0
-  TurnsSought seeking sought ps turn =
-      (n : Sizes) (o : Opening) → Stands live s n (Sought seeking sought) ps o → Turns live s n ps o (5 - sought) turn
+  abbrev pub TurnsSought : Seeking → (left : List Which) → Result Turn Refusal → Type 0
+  TurnsSought seeking left turn =
+      (n : Sizes) (ps : Parts) (o : Opening) → StandsSought live s n seeking left ps o
+      → Turns live s n ps o (length left) turn
 
-  abbrev pub TurnsHead : (start : ℕ) (first : Headed) → Parts → Turn → Type 0
-  TurnsHead start first ps turn =
-      (n : Sizes) (o : Opening) → o ≡ by_heads_all live s n start first ps → Turns live s n ps o 5 turn
+  abbrev pub TurnsHead : (start : ℕ) (first : Headed) → Result Turn Refusal → Type 0
+  TurnsHead start first turn =
+      (n : Sizes) (ps : Parts) (o : Opening) → o ≡ by_heads_all live s n start first ps → Turns live s n ps o 5 turn
 
-  abbrev pub TurnsMet : (segment : Headed) (at : ℕ) → Parts → Turn → Type 0
-  TurnsMet segment at ps turn =
-      (n : Sizes) (o : Opening) → o ≡ children_from live s n segment at ps
+  abbrev pub TurnsMet : (segment : Headed) (at : ℕ) → Result Turn Refusal → Type 0
+  TurnsMet segment at turn =
+      (n : Sizes) (ps : Parts) (o : Opening) → o ≡ children_from live s n segment at ps
       → Turns live s n ps o (left_of live s (From segment at)) turn
 
-  abbrev pub TurnsFrom : Stage → Parts → Turn → Type 0
-  TurnsFrom stage ps turn =
-      (n : Sizes) (o : Opening) → Stands live s n stage ps o → Turns live s n ps o (left_of live s stage) turn
+  abbrev pub TurnsFrom : Stage → Result Turn Refusal → Type 0
+  TurnsFrom stage turn =
+      (n : Sizes) (ps : Parts) (o : Opening) → Stands live s n stage ps o
+      → Turns live s n ps o (left_of live s stage) turn
 
 -- ---- what is read
 
@@ -150,24 +150,14 @@ pub record ReadInto
   pub reply : read_told r ≡ read_reply (part_read live s (sizes_of t) which at size)
   pub tables : t' ≡ put t which (table_of at (of (sizes_of t) which) (part_read live s (sizes_of t) which at size))
 
--- What is known with a part that was read.
-abbrev pub known_after : Parts → Which → Headed → Result ℕ Refusal → Parts
-known_after ps which e (Ok rows) = placed ps which (Some (record { at = e.payload.at; size = e.header.size; rows = rows }))
-known_after ps which e (Err r) = ps
-
--- Where the call stands then.
-abbrev pub stage_after : Stage → Result ℕ Refusal → Stage
-stage_after next (Ok rows) = next
-stage_after next (Err r) = Refused r
-
 -- ---- the whole call
 
 -- The first stage, with tables of so many numbers: 14 for a length, or the segment's children.
-pub record Begins (live : Bool) (s : List ℕ) (n : Sizes) (stage : Stage) : Type 0 where
-  pub ready : Ready s stage
-  pub stands : Stands live s n stage no_parts (open_of live s n)
+abbrev pub Begins : (live : Bool) → List ℕ → Sizes → Result Stage Refusal → Type 0
+Begins live s n (Ok stage) = Ready s stage × Stands live s n stage no_parts (open_of live s n)
+Begins live s n (Err e) = open_of live s n ≡ refused e
 
--- What the turns from the first stage on come to, with cleared tables: the reply, and tables that show its parts.
+-- What the call comes to with cleared tables: the reply, and tables that show its parts.
 pub record Ran (live : Bool) (s : List ℕ) (t : Tables) (r : Result (Parts × ℕ) Refusal) (t' : Tables) : Type 0 where
   pub reply : r ≡ reply_of (open_of live s (sizes_of t))
   pub tables :

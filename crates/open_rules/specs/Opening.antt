@@ -5,7 +5,7 @@ use Rattle.std.specs.Prelude.{ℕ, List, [], ◌∷◌, Bool, cond, eqb}
 use Rattle.refusals.specs.declared.refusal.Refusal.{Refusal}
 use Rattle.header.specs.declared.cursor.Headed.{Headed}
 use Rattle.kinds.specs.Kinds.{member}
-use Rattle.elements_rules.specs.Forest.{Forest, count}
+use Rattle.elements_rules.specs.Forest.{count}
 use Rattle.walks_rules.specs.Answers.{on_header}
 use Rattle.walks_rules.specs.Walk.{Visit, ends, over, Walk}
 use Rattle.walks_rules.specs.Endings.{walk_from}

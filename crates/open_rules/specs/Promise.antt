@@ -1,5 +1,5 @@
 -- What the public call `open` promises of its reply and of the five tables.
-use Rattle.std.specs.Prelude.{ℕ, ◌≡◌, List, [], Bool, cond, not, ◌&&◌, length}
+use Rattle.std.specs.Prelude.{ℕ, ◌≡◌, List, Bool, cond, not, ◌&&◌, length}
 use Rattle.refusals.specs.Refusals.{bad_argument}
 use Rattle.elements_rules.specs.Promise.{allowed}
 use Rattle.open_rules.specs.Tables.{Tables, Sizes, sizes_of, zeroed, shown}

@@ -1,6 +1,5 @@
 -- Five lent tables, how many numbers they have, and what they show of the parts.
-use Rattle.std.specs.Prelude.{ℕ, ◌≡◌, List, Bool, length}
-use Rattle.header.specs.declared.cursor.Headed.{Headed}
+use Rattle.std.specs.Prelude.{ℕ, List, Bool, length}
 use Rattle.elements_rules.specs.Reading.{Outcome}
 use Rattle.elements_rules.specs.Promise.{read_of, zeros, table_of}
 use Rattle.open_rules.specs.Parts.{parent_of, on_part}

@@ -1,7 +1,6 @@
 // Where `open` stands between two parts that it reads, and what it does next.
-use crate::parts::{Parts, Which};
+use crate::parts::Which;
 use header::Headed;
-use refusals::Refusal;
 use seekhead_rules::Positions;
 
 // What the seek heads tell: where the segment starts, the latest position of each part, how many heads were read, and
@@ -15,16 +14,24 @@ pub struct Seeking {
 }
 
 // Before the first seek head: at an address among the segment's children, or at a child that was read. After the heads:
-// so many of the parts were sought. Or the call ends with a refusal.
+// those parts are left to seek.
 #[derive(Clone, Copy)]
 pub enum Stage {
-    From { segment: Headed, at: u64 },
-    Behind { segment: Headed, child: Headed },
-    Sought { seeking: Seeking, count: u64 },
-    Refused(Refusal),
+    From {
+        segment: Headed,
+        at: u64,
+    },
+    Behind {
+        segment: Headed,
+        child: Headed,
+    },
+    Sought {
+        seeking: Seeking,
+        left: &'static [Which],
+    },
 }
 
-// The part that is read next, and where `open` stands then; or the reply.
+// The part that is read next, and where `open` stands then; or all were read, and there were so many heads.
 #[derive(Clone, Copy)]
 pub enum Turn {
     Read {
@@ -32,5 +39,5 @@ pub enum Turn {
         part: Headed,
         next: Stage,
     },
-    Over(Result<(Parts, u64), Refusal>),
+    Over(u64),
 }

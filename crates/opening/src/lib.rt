@@ -2,10 +2,8 @@
 // seek heads. No table is touched here.
 #![tactic(auto)]
 
-mod parts;
 mod start;
 mod turns;
 
-pub use parts::rows_of;
 pub use start::begin;
-pub use turns::{known_after, stage_after, turn};
+pub use turns::turn;

@@ -10,6 +10,7 @@ use rowstore::is_allowed;
 use segments::segment_of;
 
 // Whether the recording and each table are within their limits.
+#[tactic(auto, unfolding(open_rules::specs::Promise::are_allowed))]
 fn are_allowed(
     recording: &[u8],
     info: &[u64],
@@ -22,19 +23,11 @@ fn are_allowed(
         (length tracks.now) (length attachments.now) (length chapters.now)
         (length tags.now)) }
 {
-    if !is_allowed(recording, 0, info) {
-        return false;
-    }
-    if !is_allowed(recording, 0, tracks) {
-        return false;
-    }
-    if !is_allowed(recording, 0, attachments) {
-        return false;
-    }
-    if !is_allowed(recording, 0, chapters) {
-        return false;
-    }
-    is_allowed(recording, 0, tags)
+    is_allowed(recording, 0, info)
+        && is_allowed(recording, 0, tracks)
+        && is_allowed(recording, 0, attachments)
+        && is_allowed(recording, 0, chapters)
+        && is_allowed(recording, 0, tags)
 }
 
 // Where `open` stands first: 14 for a length, then at the segment's first child.
@@ -46,22 +39,20 @@ pub fn begin(
     attachments: &[u64],
     chapters: &[u64],
     tags: &[u64],
-) -> Stage
+) -> Result<Stage, Refusal>
     ensures { Begins live recording.now (five (length info.now)
         (length tracks.now) (length attachments.now) (length chapters.now)
         (length tags.now)) result }
 {
     if !are_allowed(recording, info, tracks, attachments, chapters, tags) {
-        return Stage::Refused(Refusal {
+        return Err(Refusal {
             address: 0,
             cause: Cause::BadArgument,
         });
     }
-    match segment_of(recording, live) {
-        Err(refusal) => Stage::Refused(refusal),
-        Ok(segment) => Stage::From {
-            segment,
-            at: segment.payload.at,
-        },
-    }
+    let segment = segment_of(recording, live)?;
+    Ok(Stage::From {
+        segment,
+        at: segment.payload.at,
+    })
 }

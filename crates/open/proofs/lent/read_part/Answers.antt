@@ -24,20 +24,20 @@ read_again-requires-in-Tags c =
 
 pub returns-in-Info : goal.returns-in-Info
 returns-in-Info c =
-    into_info _ _ _ _ _ _ _ _ _ _ _ _ c.in-Info.is c.read_again.ensures
+    into_info _ _ _ _ _ _ c.parent-parent.ensures _ _ _ _ _ _ _ c.in-Info.is c.read_again.ensures
 
 pub returns-in-Tracks : goal.returns-in-Tracks
 returns-in-Tracks c =
-    into_tracks _ _ _ _ _ _ _ _ _ _ _ _ c.in-Tracks.is c.read_again-in-Tracks.ensures
+    into_tracks _ _ _ _ _ _ c.parent-parent.ensures _ _ _ _ _ _ _ c.in-Tracks.is c.read_again-in-Tracks.ensures
 
 pub returns-in-Attachments : goal.returns-in-Attachments
 returns-in-Attachments c =
-    into_attachments _ _ _ _ _ _ _ _ _ _ _ _ c.in-Attachments.is c.read_again-in-Attachments.ensures
+    into_attachments _ _ _ _ _ _ c.parent-parent.ensures _ _ _ _ _ _ _ c.in-Attachments.is c.read_again-in-Attachments.ensures
 
 pub returns-in-Chapters : goal.returns-in-Chapters
 returns-in-Chapters c =
-    into_chapters _ _ _ _ _ _ _ _ _ _ _ _ c.in-Chapters.is c.read_again-in-Chapters.ensures
+    into_chapters _ _ _ _ _ _ c.parent-parent.ensures _ _ _ _ _ _ _ c.in-Chapters.is c.read_again-in-Chapters.ensures
 
 pub returns-in-Tags : goal.returns-in-Tags
 returns-in-Tags c =
-    into_tags _ _ _ _ _ _ _ _ _ _ _ _ c.in-Tags.is c.read_again-in-Tags.ensures
+    into_tags _ _ _ _ _ _ c.parent-parent.ensures _ _ _ _ _ _ _ c.in-Tags.is c.read_again-in-Tags.ensures

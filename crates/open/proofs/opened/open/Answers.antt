@@ -1,31 +1,20 @@
 -- `open`: the tables are cleared, the turns are taken; a refusal clears all five again. Assumes nothing.
-use Rattle.open_rules.specs.Tables.{five}
-use Rattle.open_rules.proofs.Lending.{each_same, open_refused, open_read, cleared_zeros}
+use Rattle.open_rules.proofs.Lending.{each_same, open_refused, open_read}
 use Rattle.open.proofs.opened.open.Goals as goal
 
-pub run-requires : goal.run-requires
-run-requires c =
-    let x = c.args in
-    record {
-      begins = c.begin-first.ensures;
-      tags_value =
-          cleared_zeros (five x.info.now x.tracks.now x.attachments.now x.chapters.now x.tags.now) _ c.clear_all.ensures
-          (each_same c.clear_all.auto.info c.clear_all.auto.tracks c.clear_all.auto.attachments
-          c.clear_all.auto.chapters c.clear_all.auto.tags);
-    }
-
-pub returns-in-Err : goal.returns-in-Err
-returns-in-Err c =
+pub returns-then-is_err : goal.returns-then-is_err
+returns-then-is_err c =
     open_refused _ _ _ _ _ c.clear_all.ensures
     (each_same c.clear_all.auto.info c.clear_all.auto.tracks c.clear_all.auto.attachments c.clear_all.auto.chapters
     c.clear_all.auto.tags)
-    _ c.run.ensures _ _ c.in-Err.is
-    (each_same c.run.auto.info c.run.auto.tracks c.run.auto.attachments c.run.auto.chapters c.run.auto.tags)
-    c.clear_all-in-Err.ensures
+    _ c.run-reply.ensures c.if-is_err.ensures.value _
+    (each_same c.run-reply.auto.info c.run-reply.auto.tracks c.run-reply.auto.attachments c.run-reply.auto.chapters
+    c.run-reply.auto.tags)
+    c.clear_all-then-is_err.ensures
 
-pub returns-in-Ok : goal.returns-in-Ok
-returns-in-Ok c =
+pub returns-else-is_err : goal.returns-else-is_err
+returns-else-is_err c =
     open_read _ _ _ _ _ c.clear_all.ensures
     (each_same c.clear_all.auto.info c.clear_all.auto.tracks c.clear_all.auto.attachments c.clear_all.auto.chapters
     c.clear_all.auto.tags)
-    _ c.run.ensures _ _ c.in-Ok.is
+    _ c.run-reply.ensures c.if-is_err.ensures.value

@@ -1,32 +1,22 @@
 -- `run`: one turn after another. Assumes nothing.
-use Rattle.open_rules.proofs.Lending.{each_same, runs_first, run_over, run_clear, run_less}
+use mathlib.Core.Path.{ap, ◌∙◌}
+use Rattle.std.proofs.Common.{Ok}
+use Rattle.booleans.proofs.Handed.{handed}
+use Rattle.open_rules.proofs.Lending.{each_same, none_known, runs_first, run_none}
 use Rattle.open_rules.proofs.Lending.{run_again}
 use Rattle.open.proofs.opened.run.Goals as goal
 
-pub loop-reply-init : goal.loop-reply-init
-loop-reply-init c =
-    runs_first _ _ _ _ c.requires.begins c.requires.tags_value
+pub returns-in_err-stage : goal.returns-in_err-stage
+returns-in_err-stage c =
+    run_none _ _ _ _ c.begin.ensures _ c.in_err-stage.was _ _ (handed _ c.from_residual.ensures.1)
 
-pub turn-requires : goal.turn-requires
-turn-requires c =
-    c.loop-reply.invariant.ready
+pub loop-heads-init : goal.loop-heads-init
+loop-heads-init c =
+    runs_first _ _ _ _ c.begin.ensures _ c.in_ok-stage.was c.requires _ (none_known _ c.default-known.ensures)
 
-pub returns-in-Over : goal.returns-in-Over
-returns-in-Over c =
-    run_over _ _ _ _ _ _ c.loop-reply.invariant _ c.turn.ensures _ c.in-Over.is
-
-pub read_part-reply-requires : goal.read_part-reply-requires
-read_part-reply-requires c =
-    run_clear _ _ _ _ _ _ c.loop-reply.invariant _ c.turn.ensures _ _ _ c.in-Read.is _ c.rows_of-rows.ensures
-
-pub loop-reply-smaller : goal.loop-reply-smaller
-loop-reply-smaller c =
-    run_less _ _ _ _ _ _ c.loop-reply.invariant _ c.turn.ensures _ _ _ c.in-Read.is _ _ c.read_part-reply.ensures _
-    c.known_after-known.ensures _ c.stage_after-stage.ensures
-
-pub loop-reply-preserved : goal.loop-reply-preserved
-loop-reply-preserved c =
-    run_again _ _ _ _ _ _ c.loop-reply.invariant _ c.turn.ensures _ _ _ c.in-Read.is _ _ c.read_part-reply.ensures _
-    c.known_after-known.ensures _ c.stage_after-stage.ensures
-    (each_same c.read_part-reply.auto.info c.read_part-reply.auto.tracks c.read_part-reply.auto.attachments
-    c.read_part-reply.auto.chapters c.read_part-reply.auto.tags)
+pub loop-heads-preserved : goal.loop-heads-preserved
+loop-heads-preserved c =
+    run_again _ _ _ _ _ _ c.loop-heads.invariant _ c.turn.ensures _ _ _ (c.in_ok-heads.was ∙ ap Ok c.in-Read.is) _ _ c.read_part.ensures _
+    c.in_ok-rows-in-Read.was _ c.set.ensures
+    (each_same c.read_part.auto.info c.read_part.auto.tracks c.read_part.auto.attachments c.read_part.auto.chapters
+    c.read_part.auto.tags)
