@@ -7,7 +7,7 @@ ghost use Rattle.chapters.specs.First.{string_of, first_string};
 
 use bodies_rules::Range;
 use children::{Children, rows_below};
-use fields::content_field;
+use fields::Fields;
 use fields_rules::Below;
 use kinds::{Kind, ids};
 
@@ -16,8 +16,12 @@ fn string_of(recording: &[u8], table: &[u64], rows: usize, display: usize) -> Op
     requires { Filled recording.now table.now rows × (display < rows) }
     ensures { content_told result ≡ string_of recording.now (rows_of table.now rows) display }
 {
-    let master = rows_below(table, rows, display + 1);
-    content_field(recording, table, master, ids::CHAPSTRING, Kind::Utf8)
+    let fields = Fields {
+        recording,
+        table,
+        master: rows_below(table, rows, display + 1),
+    };
+    fields.content(ids::CHAPSTRING, Kind::Utf8)
 }
 
 // The first display with a set string, of the chapter that has those rows below it.
@@ -31,13 +35,8 @@ pub fn first_string(
     ensures { result ≡ first_string recording.now (rows_of
         table.now rows) chapter.parent }
 {
-    for (display, (n, _)) in Children::of(
-        table,
-        chapter,
-        ids::CHAPTERDISPLAY,
-        Kind::Master,
-    ).enumerate()
-    {
+    let displays = Children::of(table, chapter, ids::CHAPTERDISPLAY, Kind::Master);
+    for (display, (n, _)) in displays.enumerate() {
         if let Some(string) = string_of(recording, table, rows, n) {
             return Some((display as u64, string));
         }

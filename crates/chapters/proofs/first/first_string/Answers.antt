@@ -14,7 +14,7 @@ loop-display-init c =
     let e = c.into_iter-display-iterator.ensures.into_iter_gives in
     let source = ap (λ (x : Enumerate Children). x.iter) e ∙ c.enumerate-display-items.ensures.source in
     let start = ap (λ (x : Enumerate Children). x.count) e ∙ c.enumerate-display-items.ensures.count in
-    let a = at_first c.requires start (ap left source ∙ c.of.ensures) in
+    let a = at_first c.requires start (ap left source ∙ c.of-displays.ensures) in
     ((tt, tt, inl (omega (arith, a.few, c.ranges.rows.fits))), tt, a)
 
 pub string_of-requires : goal.string_of-requires
