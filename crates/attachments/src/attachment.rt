@@ -1,14 +1,12 @@
 // An attached file: its fields, and the question for the k-th.
 ghost use Rattle.std.specs.Prelude.{◌≡◌};
-ghost use Rattle.fields_rules.specs.Children.{rows_in};
-ghost use Rattle.fields_rules.specs.Contract.{Readable};
+ghost use Rattle.fields.specs.Read.{read};
 ghost use Rattle.attachments.specs.Records.{attachment_of};
 ghost use Rattle.attachments.specs.Told.{attachment_values};
 ghost use Rattle.attachments.specs.Promise.{AttachmentPromise};
 
 use bodies_rules::Range;
-use fields::content_field;
-use fields_rules::Below;
+use fields::Fields;
 use kinds::{Kind, ids};
 use locate::locate;
 use locate_rules::{Step, Way};
@@ -23,16 +21,14 @@ pub struct Attachment {
 }
 
 // The attached file, by the rows below its master.
-pub fn attachment_in(recording: &[u8], table: &[u64], master: Below) -> Attachment
-    requires { Readable recording.now table.now master }
-    ensures { attachment_values result ≡ attachment_of recording.now
-        master.parent (rows_in table.now master) }
+pub fn attachment_in(fields: &Fields) -> Attachment
+    ensures { attachment_values result ≡ read attachment_of fields.now }
 {
     Attachment {
-        description: content_field(recording, table, master, ids::FILEDESCRIPTION, Kind::Utf8),
-        name: content_field(recording, table, master, ids::FILENAME, Kind::Utf8),
-        mime_type: content_field(recording, table, master, ids::FILEMIMETYPE, Kind::String),
-        data: content_field(recording, table, master, ids::FILEDATA, Kind::Binary),
+        description: fields.content(ids::FILEDESCRIPTION, Kind::Utf8),
+        name: fields.content(ids::FILENAME, Kind::Utf8),
+        mime_type: fields.content(ids::FILEMIMETYPE, Kind::String),
+        data: fields.content(ids::FILEDATA, Kind::Binary),
     }
 }
 
@@ -57,8 +53,11 @@ pub fn attachment_at(
         second: Step::Here,
         third: Step::Here,
     };
-    match locate(recording, live, start, size, ids::ATTACHEDFILE, way, table) {
-        Err(refusal) => Err(refusal),
-        Ok((master, rows)) => Ok((attachment_in(recording, table, master), rows as u64)),
-    }
+    let (master, rows) = locate(recording, live, start, size, ids::ATTACHEDFILE, way, table)?;
+    let fields = Fields {
+        recording,
+        table,
+        master,
+    };
+    Ok((attachment_in(&fields), rows as u64))
 }

@@ -1,18 +1,24 @@
 -- A chapter's first display with a set string: as a loop looks for it, and as `display_at` tells it. Assumes nothing.
-use Prim.Native.Nat.{ℕ, zero, suc, ◌+◌, ◌<◌}
+use Prim.Native.Nat.{ℕ, zero, suc, ◌+◌, ◌-◌, ◌*◌, ◌≤◌, ◌<◌}
 use mathlib.Core.Path.{◌≡◌, refl, sym, ap, ◌∙◌}
 use mathlib.Core.List.{List, [], ◌∷◌}
 use native.Mathlib.Omega.{arith}
-use lib.ListN.{length}
+use lib.ListN.{length, drop}
 use Rattle.bodies_rules.specs.declared.body.Range.{Range}
 use Rattle.kinds.specs.declared.kind.Kind.TheVariants.{Master}
+use Rattle.elements_rules.specs.Rows.{width, rows_of}
+use Rattle.elements_rules.proofs.Numbered.{length_rows_of}
 use Rattle.elements_rules.specs.declared.row.Row.{Row}
-use Rattle.fields_rules.specs.Children.{subtree, children, nth_of}
+use Rattle.fields_rules.specs.Children.{subtree, children, nth_of, rows_in}
 use Rattle.fields_rules.specs.Values.{FieldValue, unset, content_in, range_in}
 use Rattle.fields_rules.specs.Fields.{content_of}
 use Rattle.fields_rules.specs.Told.{content_told}
 use Rattle.fields_rules.proofs.Once.{content_once}
+use Rattle.fields_rules.specs.declared.child.Below.{Below}
+use Rattle.fields_rules.proofs.Picked.{All, all_if, all_before}
 use Rattle.fields_rules.proofs.Rest.{either}
+use Rattle.children.proofs.Drained.{as_many}
+use Rattle.locate_rules.specs.Contract.{Stands}
 use Rattle.locate_rules.specs.Steps.{spot_of}
 use Rattle.locate_rules.specs.Asked.{settled}
 use Rattle.locate_rules.specs.declared.steps.Step.TheVariants.{Nth}
@@ -48,6 +54,55 @@ module _ (s : List ℕ) (rs : List Row) (j n : ℕ) (r : Row) (ds : List (Option
 
   pub string_later : x ≡ None → first ≡ first_from s rs (j + 1) ds
   string_later a = both.1 a
+
+-- ---- a loop over the displays of a chapter
+
+-- It has come to display n: these are left, and what is sought is the first of them with a set string.
+pub record Ahead (s t : List ℕ) (rows chapter n : ℕ) (ds : List (Option (ℕ × Row))) : Type 0 where
+  pub few : n + length ds ≤ rows
+  pub known : All (λ m r. m < rows) ds
+  pub sought : first_string s (rows_of t rows) chapter ≡ first_from s (rows_of t rows) n ds
+
+pub at_first : {s t : List ℕ} {rows n : ℕ} {b : Below} {ds : List (Option (ℕ × Row))} → Stands s t rows b → n ≡ 0
+    → ds ≡ children b.parent 0x80 Master (rows_in t b) → Ahead s t rows b.parent n ds
+unfolding first_string
+at_first {s} {t} {rows} {n} {b} {ds} h z e =
+    let all = children b.parent 0x80 Master (rows_in t b) in
+    let rs = rows_of t rows in
+    let few = as_many t b 0x80 Master in
+    let up = length_rows_of (drop (b.parent * width) t) (b.end - b.parent) in
+    rw (z, e) (record {
+      few = omega (arith, few, h.below.held);
+      known =
+          all_if (λ m r. m < rows) (λ m r l. omega (arith, l, up, h.below.some, h.below.held)) all
+          (all_before b.parent 0x80 Master (rows_in t b));
+      sought = ap (λ (x : List Row). first_from s rs 0 (children b.parent 0x80 Master x)) (sym h.below.are);
+    })
+
+module _ {s t : List ℕ} {rows chapter n : ℕ} {ds : List (Option (ℕ × Row))} (a : Ahead s t rows chapter n ds) where
+  pub at_end : ds ≡ [] → None ≡ first_string s (rows_of t rows) chapter
+  unfolding first_from
+  at_end e = sym (a.sought ∙ ap (first_from s (rows_of t rows) n) e)
+
+  module _ {m : ℕ} {r : Row} {left : List (Option (ℕ × Row))} (e : ds ≡ Some (m, r) ∷ left) where
+    pub is_row : m < rows
+    is_row = (rw e at a.known).0 m r refl
+
+    here : first_string s (rows_of t rows) chapter ≡ first_from s (rows_of t rows) n (Some (m, r) ∷ left)
+    here = a.sought ∙ ap (first_from s (rows_of t rows) n) e
+
+    module _ {x : Option Range} (q : content_told x ≡ string_of s (rows_of t rows) m) where
+      pub found : {g : Range} {k : ℕ} → x ≡ Some g → k ≡ n → Some (k, g) ≡ first_string s (rows_of t rows) chapter
+      found {g} w i = ap (λ (j : ℕ). Some (j, g)) i ∙ string_here s (rows_of t rows) n m r left here q w
+
+      pub goes_on : {k : ℕ} → x ≡ None → k ≡ n + 1 → Ahead s t rows chapter k left
+      goes_on w i =
+          let l = ap length e in
+          rw i (record {
+            few = omega (arith, a.few, l);
+            known = (rw e at a.known).1;
+            sought = string_later s (rows_of t rows) n m r left here q w;
+          })
 
 -- ---- by the strings of the displays
 

@@ -1,15 +1,12 @@
 // A chapter: its fields, and the question for the i-th of an edition. Times are in nanoseconds.
 ghost use Rattle.std.specs.Prelude.{◌≡◌};
-ghost use Rattle.fields_rules.specs.Children.{rows_in};
-ghost use Rattle.fields_rules.specs.Contract.{Readable};
+ghost use Rattle.fields.specs.Read.{read};
 ghost use Rattle.chapters.specs.Records.{chapter_of};
 ghost use Rattle.chapters.specs.Told.{chapter_values};
 ghost use Rattle.chapters.specs.Promise.{ChapterPromise};
 
 use bodies_rules::Range;
-use children::count_children;
-use fields::{content_field, flag_field, number_field};
-use fields_rules::Below;
+use fields::Fields;
 use kinds::{Kind, ids};
 use locate::locate;
 use locate_rules::{Step, Way};
@@ -29,26 +26,18 @@ pub struct Chapter {
 }
 
 // The chapter, by the rows below its master.
-pub fn chapter_in(recording: &[u8], table: &[u64], master: Below) -> Chapter
-    requires { Readable recording.now table.now master }
-    ensures { chapter_values result ≡ chapter_of recording.now
-        master.parent (rows_in table.now master) }
+pub fn chapter_in(fields: &Fields) -> Chapter
+    ensures { chapter_values result ≡ read chapter_of fields.now }
 {
     Chapter {
-        uid: number_field(recording, table, master, ids::CHAPTERUID),
-        time_start: number_field(recording, table, master, ids::CHAPTERTIMESTART),
-        time_end: number_field(recording, table, master, ids::CHAPTERTIMEEND),
-        hidden: flag_field(recording, table, master, ids::CHAPTERFLAGHIDDEN),
-        enabled: flag_field(recording, table, master, ids::CHAPTERFLAGENABLED),
-        segment_uid: content_field(
-            recording,
-            table,
-            master,
-            ids::CHAPTERSEGMENTUID,
-            Kind::Binary,
-        ),
-        segment_edition_uid: number_field(recording, table, master, ids::CHAPTERSEGMENTEDITIONUID),
-        displays: count_children(table, master, ids::CHAPTERDISPLAY, Kind::Master),
+        uid: fields.number(ids::CHAPTERUID),
+        time_start: fields.number(ids::CHAPTERTIMESTART),
+        time_end: fields.number(ids::CHAPTERTIMEEND),
+        hidden: fields.flag(ids::CHAPTERFLAGHIDDEN),
+        enabled: fields.flag(ids::CHAPTERFLAGENABLED),
+        segment_uid: fields.content(ids::CHAPTERSEGMENTUID, Kind::Binary),
+        segment_edition_uid: fields.number(ids::CHAPTERSEGMENTEDITIONUID),
+        displays: fields.count(ids::CHAPTERDISPLAY, Kind::Master),
     }
 }
 
@@ -78,8 +67,11 @@ pub fn chapter_at(
         second: atom,
         third: Step::Here,
     };
-    match locate(recording, live, start, size, ids::EDITIONENTRY, way, table) {
-        Err(refusal) => Err(refusal),
-        Ok((master, rows)) => Ok((chapter_in(recording, table, master), rows as u64)),
-    }
+    let (master, rows) = locate(recording, live, start, size, ids::EDITIONENTRY, way, table)?;
+    let fields = Fields {
+        recording,
+        table,
+        master,
+    };
+    Ok((chapter_in(&fields), rows as u64))
 }

@@ -1,14 +1,13 @@
 // What a chapter is shown as: its fields, and the question for the j-th of a chapter.
 ghost use Rattle.std.specs.Prelude.{◌≡◌};
-ghost use Rattle.fields_rules.specs.Children.{rows_in};
-ghost use Rattle.fields_rules.specs.Contract.{Readable};
+ghost use Rattle.fields.specs.Read.{read};
 ghost use Rattle.chapters.specs.Records.{display_of};
 ghost use Rattle.chapters.specs.Told.{display_values};
 ghost use Rattle.chapters.specs.Promise.{DisplayPromise};
 
 use bodies_rules::Range;
-use fields::{content_field, language_field};
-use fields_rules::{Below, Language};
+use fields::Fields;
+use fields_rules::Language;
 use kinds::{Kind, ids};
 use locate::locate;
 use locate_rules::{Step, Way};
@@ -21,20 +20,12 @@ pub struct ChapterDisplay {
 }
 
 // The display, by the rows below its master.
-pub fn display_in(recording: &[u8], table: &[u64], master: Below) -> ChapterDisplay
-    requires { Readable recording.now table.now master }
-    ensures { display_values result ≡ display_of recording.now
-        master.parent (rows_in table.now master) }
+pub fn display_in(fields: &Fields) -> ChapterDisplay
+    ensures { display_values result ≡ read display_of fields.now }
 {
     ChapterDisplay {
-        string: content_field(recording, table, master, ids::CHAPSTRING, Kind::Utf8),
-        language: language_field(
-            recording,
-            table,
-            master,
-            ids::CHAPLANGUAGE,
-            ids::CHAPLANGUAGE_IETF,
-        ),
+        string: fields.content(ids::CHAPSTRING, Kind::Utf8),
+        language: fields.language(ids::CHAPLANGUAGE, ids::CHAPLANGUAGE_IETF),
     }
 }
 
@@ -70,8 +61,11 @@ pub fn display_at(
         second: atom,
         third: shown,
     };
-    match locate(recording, live, start, size, ids::EDITIONENTRY, way, table) {
-        Err(refusal) => Err(refusal),
-        Ok((master, rows)) => Ok((display_in(recording, table, master), rows as u64)),
-    }
+    let (master, rows) = locate(recording, live, start, size, ids::EDITIONENTRY, way, table)?;
+    let fields = Fields {
+        recording,
+        table,
+        master,
+    };
+    Ok((display_in(&fields), rows as u64))
 }

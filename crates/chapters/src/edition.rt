@@ -1,14 +1,11 @@
 // An edition of chapters: its fields, and the question for the k-th.
 ghost use Rattle.std.specs.Prelude.{◌≡◌};
-ghost use Rattle.fields_rules.specs.Children.{rows_in};
-ghost use Rattle.fields_rules.specs.Contract.{Readable};
+ghost use Rattle.fields.specs.Read.{read};
 ghost use Rattle.chapters.specs.Records.{edition_of};
 ghost use Rattle.chapters.specs.Told.{edition_values};
 ghost use Rattle.chapters.specs.Promise.{EditionPromise};
 
-use children::count_children;
-use fields::{flag_field, number_field};
-use fields_rules::Below;
+use fields::Fields;
 use kinds::{Kind, ids};
 use locate::locate;
 use locate_rules::{Step, Way};
@@ -25,17 +22,15 @@ pub struct ChapterEdition {
 }
 
 // The edition, by the rows below its master.
-pub fn edition_in(recording: &[u8], table: &[u64], master: Below) -> ChapterEdition
-    requires { Readable recording.now table.now master }
-    ensures { edition_values result ≡ edition_of recording.now
-        master.parent (rows_in table.now master) }
+pub fn edition_in(fields: &Fields) -> ChapterEdition
+    ensures { edition_values result ≡ read edition_of fields.now }
 {
     ChapterEdition {
-        uid: number_field(recording, table, master, ids::EDITIONUID),
-        hidden: flag_field(recording, table, master, ids::EDITIONFLAGHIDDEN),
-        default: flag_field(recording, table, master, ids::EDITIONFLAGDEFAULT),
-        ordered: flag_field(recording, table, master, ids::EDITIONFLAGORDERED),
-        chapters: count_children(table, master, ids::CHAPTERATOM, Kind::Master),
+        uid: fields.number(ids::EDITIONUID),
+        hidden: fields.flag(ids::EDITIONFLAGHIDDEN),
+        default: fields.flag(ids::EDITIONFLAGDEFAULT),
+        ordered: fields.flag(ids::EDITIONFLAGORDERED),
+        chapters: fields.count(ids::CHAPTERATOM, Kind::Master),
     }
 }
 
@@ -60,8 +55,11 @@ pub fn edition_at(
         second: Step::Here,
         third: Step::Here,
     };
-    match locate(recording, live, start, size, ids::EDITIONENTRY, way, table) {
-        Err(refusal) => Err(refusal),
-        Ok((master, rows)) => Ok((edition_in(recording, table, master), rows as u64)),
-    }
+    let (master, rows) = locate(recording, live, start, size, ids::EDITIONENTRY, way, table)?;
+    let fields = Fields {
+        recording,
+        table,
+        master,
+    };
+    Ok((edition_in(&fields), rows as u64))
 }

@@ -1,2 +1,2 @@
 -- The proofs of this crate that several functions share.
-mod Drained
+pub mod Drained

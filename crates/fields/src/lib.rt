@@ -6,7 +6,4 @@
 
 mod field;
 
-pub use field::{
-    content_field, date_field, flag_field, language_field, number_field, range_of, real_field,
-    uint_in, value_field,
-};
+pub use field::{Fields, range_of, uint_in};

@@ -25,7 +25,8 @@ use Rattle.std.proofs.Common.{Option, Some, None}
 abbrev pub If : (ℕ → Row → Type 0) → Option (ℕ × Row) → Type 0
 If P c = (n : ℕ) (r : Row) → c ≡ Some (n, r) → P n r
 
-abbrev All : (ℕ → Row → Type 0) → List (Option (ℕ × Row)) → Type 0
+-- And so does each of a list of children.
+abbrev pub All : (ℕ → Row → Type 0) → List (Option (ℕ × Row)) → Type 0
 All P [] = Unit
 All P (c ∷ cs) = If P c × All P cs
 
@@ -43,6 +44,11 @@ module _ (P : ℕ → Row → Type 0) where
   nth_if k [] b = none_if
   nth_if zero (c ∷ cs) b = b.0
   nth_if (suc k) (c ∷ cs) b = nth_if k cs b.1
+
+pub all_if : {P : ℕ → Row → Type 0} (Q : ℕ → Row → Type 0) → ((n : ℕ) (r : Row) → P n r → Q n r)
+    → (cs : List (Option (ℕ × Row))) → All P cs → All Q cs
+all_if Q f [] a = tt
+all_if Q f (c ∷ cs) a = (λ n r e. f n r (a.0 n r e), all_if Q f cs a.1)
 
 -- ---- a child among rows that are counted from row `from` on
 
@@ -98,6 +104,11 @@ module _ (parent id : ℕ) (kind : Kind) where
           (children_from (from + 1) parent id kind rs))
       go true f a = (here rs from x f, a)
       go false f a = a
+
+  -- Each is one of the rows.
+  pub all_before : (rs : List Row) → All (λ n r. n < parent + length rs) (children parent id kind rs)
+  all_before rs =
+      all_if (λ n r. n < parent + length rs) (λ n r i. i.before) (children parent id kind rs) (all_children rs parent)
 
   pub last_is : (rs : List Row) (n : ℕ) (r : Row) → Some (n, r) ≡ last_of (children parent id kind rs)
       → IsChild rs parent parent id kind n r

@@ -1,8 +1,8 @@
 -- What each field is, by the child that was found. Assumes nothing.
 use Prim.Native.Nat.{ℕ, ◌*◌, ◌^◌, ◌≤◌, ◌<◌}
-use mathlib.Core.Path.{◌≡◌, sym, ap, ◌∙◌}
+use mathlib.Core.Path.{◌≡◌, refl, sym, ap, ◌∙◌}
 use mathlib.Core.List.{List}
-use mathlib.Core.Bool.{true, false, not}
+use mathlib.Core.Bool.{Bool, true, false, not}
 use lib.Dec.{eqb}
 use lib.IntN.{ℤ}
 use lib.Ieee.{Float as Floats, binary32, binary64, of_bits}
@@ -13,11 +13,14 @@ use Rattle.bodies_rules.specs.Numbers.{signed_of, float_of}
 use Rattle.bodies_rules.specs.declared.body.Range.{Range}
 use Rattle.elements_rules.specs.declared.row.Row.{Row}
 use Rattle.fields_rules.specs.Children.{children, last_of}
-use Rattle.fields_rules.specs.Values.{unset, number, flag, content, iso, ietf, text, binary, real, date}
+use Rattle.fields_rules.specs.Values.{unset, number, flag, content, ietf, text, binary, real, date}
 use Rattle.fields_rules.specs.Values.{range_in, uint_in, float_in, signed_in, number_in, flag_in, content_in, real_in}
 use Rattle.fields_rules.specs.Values.{date_in, language_in, value_in}
 use Rattle.fields_rules.specs.Fields.{number_of, flag_of, content_of, real_of, date_of, language_of, value_of}
-use Rattle.std.proofs.Common.{Option, Some, None}
+use Rattle.fields_rules.specs.Told.{number_told, flag_told, content_told, language_told}
+use Rattle.fields_rules.specs.declared.field.Language.{Language}
+use Rattle.fields_rules.specs.declared.field.Language.TheVariants.{Iso}
+use Rattle.std.proofs.Common.{Option, Some, None, option_map}
 
 -- ---- the pattern of a float or a date
 
@@ -45,24 +48,28 @@ module _ (s : List ℕ) (parent : ℕ) (below : List Row) where
       unfolding number_of
       number_unset a = ap (number_in s) (sym a ∙ e)
 
-      pub flag_unset : c ≡ None → unset ≡ flag_of s parent below id
-      unfolding flag_of
-      flag_unset a = ap (flag_in s) (sym a ∙ e)
-
       module _ {n v : ℕ} {r : Row} (a : c ≡ Some (n, r)) (q : v ≡ uint_in s r) where
         pub number_is : number v ≡ number_of s parent below id
         unfolding number_of
         number_is = ap number q ∙ ap (number_in s) (sym a ∙ e)
 
-        flag_is : flag (not (eqb v 0)) ≡ flag_of s parent below id
-        unfolding flag_of
-        flag_is = ap (λ (w : ℕ). flag (not (eqb w 0))) q ∙ ap (flag_in s) (sym a ∙ e)
+    -- A flag is by its number.
+    flag_by : (r : Option ℕ) (c : Option (ℕ × Row)) → number_told r ≡ number_in s c
+        → flag_told (option_map (λ (n : ℕ). not (eqb n 0)) r) ≡ flag_in s c
+    flag_by None None e = refl
+    flag_by None (Some (n, row)) e = cc
+    flag_by (Some v) None e = cc
+    flag_by (Some v) (Some (n, row)) e =
+        let z : v ≡ uint_in s row = cc in told (not (eqb v 0)) ∙ ap (λ (w : ℕ). flag (not (eqb w 0))) z
+      where
+        told : (b : Bool) → flag_told (Some b) ≡ flag b
+        told true = refl
+        told false = refl
 
-        pub flag_no : v ≡ 0 → flag false ≡ flag_of s parent below id
-        flag_no z = rw (eq-eqb v 0 z) at flag_is
-
-        pub flag_yes : (v ≡ 0 → ⊥) → flag true ≡ flag_of s parent below id
-        flag_yes z = rw (ne_eqb v 0 z) at flag_is
+    pub flag_is : (r : Option ℕ) {f : Option Bool} → number_told r ≡ number_of s parent below id
+        → f ≡ option_map (λ (n : ℕ). not (eqb n 0)) r → flag_told f ≡ flag_of s parent below id
+    unfolding number_of flag_of
+    flag_is r e q = ap flag_told q ∙ flag_by r _ e
 
     module _ {c : (Option (ℕ × Row))} (e : c ≡ last_of (children parent id Float below)) where
       pub real_unset : c ≡ None → unset ≡ real_of s parent below id
@@ -93,27 +100,33 @@ module _ (s : List ℕ) (parent : ℕ) (below : List Row) where
       content_at a q = ap (λ (x : Range). content x.at x.length) q ∙ ap content_in (sym a ∙ e)
 
   -- The one that decides comes first: an IETF language, else an ISO 639 one.
-  module _ (isos ietfs : ℕ) {c : (Option (ℕ × Row))} (e : c ≡ last_of (children parent ietfs String below)) where
-    pub language_ietf : {n : ℕ} {r : Row} {g : Range} → c ≡ Some (n, r) → g ≡ range_in r
+  module _ (isos ietfs : ℕ) where
+    abbrev last_string : ℕ → Option (ℕ × Row)
+    last_string id = last_of (children parent id String below)
+
+    pub language_ietf : {g : Range} → content g.at g.length ≡ content_of s parent below ietfs String
         → ietf g.at g.length ≡ language_of s parent below isos ietfs
-    unfolding language_of
-    language_ietf a q =
-        ap (λ (x : Range). ietf x.at x.length) q
-        ∙ ap (λ (x : Option (ℕ × Row)). language_in x (last_of (children parent isos String below))) (sym a ∙ e)
+    unfolding content_of language_of
+    language_ietf {g} e = go (last_string ietfs) e
+      where
+        go : (c : Option (ℕ × Row)) → content g.at g.length ≡ content_in c
+            → ietf g.at g.length ≡ language_in c (last_string isos)
+        go None q = cc
+        go (Some (n, r)) q = cc
 
-    module _ (a : c ≡ None) {d : (Option (ℕ × Row))} (f : d ≡ last_of (children parent isos String below)) where
-      without : language_in None d ≡ language_of s parent below isos ietfs
-      unfolding language_of
-      without = ap (language_in None) f
-          ∙ ap (λ (x : Option (ℕ × Row)). language_in x (last_of (children parent isos String below))) (sym a ∙ e)
-
-      pub language_iso : {n : ℕ} {r : Row} {g : Range} → d ≡ Some (n, r) → g ≡ range_in r
-          → iso g.at g.length ≡ language_of s parent below isos ietfs
-      language_iso b q =
-          ap (λ (x : Range). iso x.at x.length) q ∙ ap (language_in None) (sym b) ∙ without
-
-      pub language_unset : d ≡ None → unset ≡ language_of s parent below isos ietfs
-      language_unset b = ap (language_in None) (sym b) ∙ without
+    pub language_iso : unset ≡ content_of s parent below ietfs String → (x : Option Range) {l : Option Language}
+        → content_told x ≡ content_of s parent below isos String → l ≡ option_map Iso x
+        → language_told l ≡ language_of s parent below isos ietfs
+    unfolding content_of language_of
+    language_iso e x f q = ap language_told q ∙ go (last_string ietfs) (last_string isos) x e f
+      where
+        go : (c d : Option (ℕ × Row)) (x : Option Range) → unset ≡ content_in c → content_told x ≡ content_in d
+            → language_told (option_map Iso x) ≡ language_in c d
+        go (Some (n, r)) d x a b = cc
+        go None None None a b = refl
+        go None None (Some g) a b = cc
+        go None (Some (m, r)) None a b = cc
+        go None (Some (m, r)) (Some g) a b = cc
 
   -- The later of a text and bytes.
   module _ (texts binaries : ℕ) {c d : (Option (ℕ × Row))} (e : c ≡ last_of (children parent texts Utf8 below))

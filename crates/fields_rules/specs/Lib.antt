@@ -5,3 +5,4 @@ pub mod Fields
 pub mod Told
 pub mod Contract
 pub mod Theorems
+pub mod Alone

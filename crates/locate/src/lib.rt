@@ -6,4 +6,4 @@
 
 mod steps;
 
-pub use steps::{find, locate};
+pub use steps::{find, locate, no_record};

@@ -1,10 +1,12 @@
 // The master that a record question asks for: the payload is read into the table, and one step is taken for each level.
-ghost use Rattle.std.specs.Prelude.{◌≡◌, length};
+ghost use Rattle.std.specs.Prelude.{◌≡◌, ◌≤◌, length};
+ghost use Rattle.refusals.specs.Refusals.{no_record};
+ghost use Rattle.elements_rules.specs.Promise.{zeros};
 ghost use Rattle.elements_rules.specs.Rows.{rows_of};
 ghost use Rattle.fields_rules.specs.Contract.{Ordered};
-ghost use Rattle.locate_rules.specs.Steps.{spot_of, entered};
+ghost use Rattle.locate_rules.specs.Steps.{spot_of, stepped};
 ghost use Rattle.locate_rules.specs.Asked.{asked};
-ghost use Rattle.locate_rules.specs.Contract.{Numbered, Known, FindMet, LocateMet};
+ghost use Rattle.locate_rules.specs.Contract.{Numbered, FindMet, LocateMet};
 
 use children::{last_child, nth_child, rows_below};
 use elements::read;
@@ -15,40 +17,31 @@ use locate_rules::{Step, Way};
 use refusals::{Cause, Refusal};
 use rowstore::clear;
 
+// A child as a master: its row number plus 1.
 fn spot_of(child: Option<(usize, Row)>) -> Option<usize>
     requires { Numbered child }
     ensures { result ≡ spot_of child }
 {
-    match child {
-        None => None,
-        Some((number, _)) => Some(number + 1),
-    }
+    let (number, _) = child?;
+    Some(number + 1)
 }
 
 // One step on from a master.
-fn enter(table: &[u64], rows: usize, from: Option<usize>, step: Step) -> Option<usize>
-    requires { Ordered table.now rows × Known rows from }
-    ensures { result ≡ entered (rows_of table.now rows) from step }
+fn enter(table: &[u64], rows: usize, parent: usize, step: Step) -> Option<usize>
+    requires { Ordered table.now rows × (parent ≤ rows) }
+    ensures { result ≡ stepped (rows_of table.now rows) parent step }
 {
-    match from {
-        None => None,
-        Some(parent) => match step {
-            Step::Here => Some(parent),
-            Step::Only(k) => {
-                if k == 0 {
-                    return Some(parent);
-                }
-                None
-            }
-            Step::Nth { id, k } => {
-                let master = rows_below(table, rows, parent);
-                spot_of(nth_child(table, master, id, Kind::Master, k))
-            }
-            Step::Last(id) => {
-                let master = rows_below(table, rows, parent);
-                spot_of(last_child(table, master, id, Kind::Master))
-            }
-        },
+    match step {
+        Step::Here | Step::Only(0) => Some(parent),
+        Step::Only(_) => None,
+        Step::Nth { id, k } => {
+            let master = rows_below(table, rows, parent);
+            spot_of(nth_child(table, master, id, Kind::Master, k))
+        }
+        Step::Last(id) => {
+            let master = rows_below(table, rows, parent);
+            spot_of(last_child(table, master, id, Kind::Master))
+        }
     }
 }
 
@@ -57,14 +50,20 @@ pub fn find(table: &[u64], rows: usize, way: Way) -> Option<Below>
     requires { Ordered table.now rows }
     ensures { FindMet table.now rows way result }
 {
-    let first = way.first;
-    let second = way.second;
-    let third = way.third;
-    let one = enter(table, rows, Some(0), first);
-    let two = enter(table, rows, one, second);
-    match enter(table, rows, two, third) {
-        None => None,
-        Some(parent) => Some(rows_below(table, rows, parent)),
+    let one = enter(table, rows, 0, way.first)?;
+    let two = enter(table, rows, one, way.second)?;
+    let parent = enter(table, rows, two, way.third)?;
+    Some(rows_below(table, rows, parent))
+}
+
+// The refusal where there is no such record, 15: the table is left as zeros.
+pub fn no_record(table: &mut [u64]) -> Refusal
+    ensures { (result ≡ no_record) × (table.new ≡ zeros (length table.old)) }
+{
+    clear(table);
+    Refusal {
+        address: 0,
+        cause: Cause::Outside,
     }
 }
 
@@ -83,20 +82,9 @@ pub fn locate(
         (asked live recording.now start size parent (length table.old) way)
         (length table.old) result table.new }
 {
-    match read(recording, live, start, size, parent, table) {
-        Err(refusal) => Err(refusal),
-        Ok(count) => {
-            let rows = count as usize;
-            match find(table, rows, way) {
-                None => {
-                    clear(table);
-                    Err(Refusal {
-                        address: 0,
-                        cause: Cause::Outside,
-                    })
-                }
-                Some(master) => Ok((master, rows)),
-            }
-        }
-    }
+    let rows = read(recording, live, start, size, parent, table)? as usize;
+    let Some(master) = find(table, rows, way) else {
+        return Err(no_record(table));
+    };
+    Ok((master, rows))
 }

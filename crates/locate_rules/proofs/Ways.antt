@@ -133,15 +133,12 @@ module _ (rs : List Row) where
 
 -- ---- as the code has it: the rows of a table, and the spot that it came to
 
-pub known_at : {rows : ℕ} {from : (Option ℕ)} {parent : ℕ} → Known rows from → from ≡ Some parent → parent ≤ rows
-known_at {rows} l e = subst (Known rows) e l
-
-pub still_known : (t : List ℕ) (rows : ℕ) (from to : Option ℕ) (step : Step) → Known rows from
-    → to ≡ entered (rows_of t rows) from step → Known rows to
-still_known t rows from to step l e =
+pub still_known : (t : List ℕ) (rows parent : ℕ) (step : Step) {to : Option ℕ} → parent ≤ rows
+    → to ≡ stepped (rows_of t rows) parent step → {next : ℕ} → to ≡ Some next → next ≤ rows
+still_known t rows parent step l e f =
     let c = length_rows_of t rows in
-    let k = entered_known (rows_of t rows) from step (rw (← c) at l) in
-    subst (Known rows) (sym e) (subst (λ (m : ℕ). Known m (entered (rows_of t rows) from step)) c k)
+    let k = stepped_known (rows_of t rows) parent step (rw (← c) at l) in
+    subst (Known rows) (sym e ∙ f) (subst (λ (m : ℕ). Known m (stepped (rows_of t rows) parent step)) c k)
 
 module _ {t : List ℕ} {rows parent : ℕ} {b : Below} (m : BelowIs t rows parent b) where
   -- The children in the table are those below the master.
@@ -169,14 +166,14 @@ module _ {t : List ℕ} {rows parent : ℕ} {b : Below} (m : BelowIs t rows pare
         numbered u c (λ n r q. last_known _ parent id Master low n r (q ∙ e ∙ ap last_of (kids id Master)))
 
   -- A step to a child.
-  module _ {id : ℕ} {from to : (Option ℕ)} {step : Step} (a : from ≡ Some parent) {c : (Option (ℕ × Row))} (q : to ≡ spot_of c) where
+  module _ {id : ℕ} {to : (Option ℕ)} {step : Step} {c : (Option (ℕ × Row))} (q : to ≡ spot_of c) where
     pub nth_step : {k : ℕ} → step ≡ Nth id k → c ≡ nth_of k (children b.parent id Master (rows_in t b))
-        → to ≡ entered (rows_of t rows) from step
-    nth_step {k} f e = rw (a, f) (q ∙ ap spot_of (e ∙ ap (nth_of k) (kids id Master)))
+        → to ≡ stepped (rows_of t rows) parent step
+    nth_step {k} f e = rw f (q ∙ ap spot_of (e ∙ ap (nth_of k) (kids id Master)))
 
     pub last_step : step ≡ Last id → c ≡ last_of (children b.parent id Master (rows_in t b))
-        → to ≡ entered (rows_of t rows) from step
-    last_step f e = rw (a, f) (q ∙ ap spot_of (e ∙ ap last_of (kids id Master)))
+        → to ≡ stepped (rows_of t rows) parent step
+    last_step f e = rw f (q ∙ ap spot_of (e ∙ ap last_of (kids id Master)))
 
 pub spot_fits : {c : (Option (ℕ × Row))} {n : ℕ} {r : Row} → Numbered c → c ≡ Some (n, r) → n + 1 < 2 ^ 64
 spot_fits l e = let g = subst Numbered e l in omega arith
@@ -185,35 +182,47 @@ pub spot_at : {c : (Option (ℕ × Row))} {n : ℕ} {r : Row} → c ≡ Some (n,
 spot_at {c} {n} e = let m : n + 1 ≡ suc n = omega arith in rw (e, m)
 
 -- A step that stays.
-module _ (rs : List Row) (step : Step) {from : (Option ℕ)} where
-  pub none_from : from ≡ None → None ≡ entered rs from step
-  none_from a = rw a
+module _ (rs : List Row) (step : Step) (parent : ℕ) where
+  pub stays : step ≡ Here → Some parent ≡ stepped rs parent step
+  stays f = rw f
 
-  module _ {parent : ℕ} (a : from ≡ Some parent) where
-    pub stays : step ≡ Here → Some parent ≡ entered rs from step
-    stays f = rw (a, f)
+  pub only_here : {k : ℕ} → step ≡ Only k → k ≡ 0 → Some parent ≡ stepped rs parent step
+  only_here {k} f z = rw (f, eq-eqb k 0 z)
 
-    pub only_here : {k : ℕ} → step ≡ Only k → k ≡ 0 → Some parent ≡ entered rs from step
-    only_here {k} f z = rw (a, f, eq-eqb k 0 z)
+  pub only_none : {k : ℕ} → step ≡ Only k → (k ≡ 0 → ⊥) → None ≡ stepped rs parent step
+  only_none {k} f z = rw (f, ne_eqb k 0 z)
 
-    pub only_none : {k : ℕ} → step ≡ Only k → (k ≡ 0 → ⊥) → None ≡ entered rs from step
-    only_none {k} f z = rw (a, f, ne_eqb k 0 z)
+-- The way is a step for each level: it ends at the first that leads nowhere.
+module _ (t : List ℕ) (rows : ℕ) (w : Way) {one : (Option ℕ)} (a : one ≡ stepped (rows_of t rows) 0 w.first) where
+  abbrev from : Option ℕ → Option ℕ
+  from x = entered (rows_of t rows) (entered (rows_of t rows) x w.second) w.third
 
--- The way is a step for each level.
-module _ (t : List ℕ) (rows : ℕ) (w : Way) {one two to : (Option ℕ)} (a : one ≡ entered (rows_of t rows) (Some 0) w.first)
-    (b : two ≡ entered (rows_of t rows) one w.second) (c : to ≡ entered (rows_of t rows) two w.third) where
-  gone : to ≡ reached (rows_of t rows) w
+  to_first : (x : Option ℕ) → one ≡ x → reached (rows_of t rows) w ≡ from x
   unfolding reached
-  gone = rw (c, b, a) refl
+  to_first x e = ap from (sym a ∙ e)
 
-  pub leads_nowhere : to ≡ None → FindMet t rows w None
-  leads_nowhere e = record { leads = sym gone ∙ e }
+  pub none_first : one ≡ None → FindMet t rows w None
+  none_first e = record { leads = to_first None e }
 
-  pub leads_to : {parent : ℕ} {m : Below} → to ≡ Some parent → BelowIs t rows parent m → FindMet t rows w (Some m)
-  leads_to {parent} {m} e h =
-      record {
-        leads = (
-          sym gone ∙ e ∙ ap Some (sym h.master),
-          subst (λ (x : ℕ). BelowIs t rows x m) (sym h.master) h,
-        );
-      }
+  module _ {p : ℕ} (x : one ≡ Some p) {two : (Option ℕ)} (b : two ≡ stepped (rows_of t rows) p w.second) where
+    to_second : (y : Option ℕ) → two ≡ y → reached (rows_of t rows) w ≡ entered (rows_of t rows) y w.third
+    to_second y e = to_first (Some p) x ∙ ap (λ (z : Option ℕ). entered (rows_of t rows) z w.third) (sym b ∙ e)
+
+    pub none_second : two ≡ None → FindMet t rows w None
+    none_second e = record { leads = to_second None e }
+
+    module _ {q : ℕ} (y : two ≡ Some q) {to : (Option ℕ)} (c : to ≡ stepped (rows_of t rows) q w.third) where
+      gone : reached (rows_of t rows) w ≡ to
+      gone = to_second (Some q) y ∙ sym c
+
+      pub none_third : to ≡ None → FindMet t rows w None
+      none_third e = record { leads = gone ∙ e }
+
+      pub leads_to : {parent : ℕ} {m : Below} → to ≡ Some parent → BelowIs t rows parent m → FindMet t rows w (Some m)
+      leads_to {parent} {m} e h =
+          record {
+            leads = (
+              gone ∙ e ∙ ap Some (sym h.master),
+              subst (λ (x : ℕ). BelowIs t rows x m) (sym h.master) h,
+            );
+          }

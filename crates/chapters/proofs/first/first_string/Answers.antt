@@ -1,44 +1,35 @@
 -- `first_string` meets its contract: no display before this one has a set string. Assumes nothing.
-use mathlib.Core.Path.{sym}
+use mathlib.Core.Path.{ap, ◌∙◌}
+use mathlib.Core.Logic.{inl}
 use native.Mathlib.Omega.{arith}
-use Rattle.fields_rules.proofs.Rest.{at_first, at_end, nearer, turn_hit, turn_miss, turn_here}
-use Rattle.fields_rules.proofs.Rest.{counts_one, counts_none}
-use Rattle.locate_rules.proofs.Ways.{within}
-use Rattle.chapters.specs.First.{first_from, first_string}
-use Rattle.chapters.proofs.Displays.{string_here, string_later}
+use Rattle.std.specs.declared.iter.Enumerate.{Enumerate}
+use borrow.Author.Tests.{tests}
+use Rattle.children.specs.declared.child.Children.{Children}
+use Rattle.children.specs.Left.{left}
+use Rattle.chapters.proofs.Displays.{at_first, at_end, is_row, found, goes_on}
 use Rattle.chapters.proofs.first.first_string.Goals as goal
 
-pub loop-n-init : goal.loop-n-init
-unfolding first_string
-loop-n-init c =
-    let pre = c.requires in
-    (omega arith, at_first _ _ _ _ _ (within pre) (rw pre.below.are))
+pub loop-display-init : goal.loop-display-init
+loop-display-init c =
+    let e = c.into_iter-display-iterator.ensures.into_iter_gives in
+    let source = ap (λ (x : Enumerate Children). x.iter) e ∙ c.enumerate-display-items.ensures.source in
+    let start = ap (λ (x : Enumerate Children). x.count) e ∙ c.enumerate-display-items.ensures.count in
+    let a = at_first c.requires start (ap left source ∙ c.of-displays.ensures) in
+    ((tt, tt, inl (omega (arith, a.few, c.ranges.rows.fits))), tt, a)
 
-pub row_at-row-requires : goal.row_at-row-requires
-row_at-row-requires c =
-    let pre = c.requires in
-    omega (arith, pre.filled.ordered.held, pre.below.held, c.loop-n-test.true)
+pub string_of-requires : goal.string_of-requires
+string_of-requires c = (c.requires.filled, is_row c.loop-display.invariant.2 c.in-Some.ensures.steps.0)
 
-pub returns-in-Some : goal.returns-in-Some
-returns-in-Some c =
-    let pre = c.requires in
-    let here =
-    turn_here (within pre) c.loop-n.invariant.1 c.loop-n-test.true c.row_at-row.ensures
-    c.is_child.ensures c.if-is_child.true in
-    string_here _ _ _ _ _ _ here c.string_of.ensures c.in-Some.is
+pub returns-in-Some-string_of : goal.returns-in-Some-string_of
+returns-in-Some-string_of c =
+    found c.loop-display.invariant.2 c.in-Some.ensures.steps.0 c.string_of.ensures c.in-Some-string_of.is
+    c.in-Some.ensures.steps.1
+
+pub loop-display-preserved : goal.loop-display-preserved
+loop-display-preserved c =
+    let s = c.in-Some.ensures.steps in
+    let a = goes_on c.loop-display.invariant.2 s.0 c.string_of.ensures (search tests) s.2 in
+    ((tt, tt, inl (omega (arith, a.few, c.ranges.rows.fits))), tt, a)
 
 pub returns : goal.returns
-unfolding first_from
-returns c = sym (at_end c.loop-n.invariant.1 c.loop-n-test.false)
-
-pub loop-n-smaller-in-None : goal.loop-n-smaller-in-None
-loop-n-smaller-in-None c = search (nearer, within)
-
-pub loop-n-preserved-in-None : goal.loop-n-preserved-in-None
-loop-n-preserved-in-None c = search (turn_hit, string_later, counts_one, within)
-
-pub loop-n-smaller : goal.loop-n-smaller
-loop-n-smaller c = search (nearer, within)
-
-pub loop-n-preserved : goal.loop-n-preserved
-loop-n-preserved c = search (turn_miss, counts_none, within)
+returns c = at_end c.loop-display.invariant.2 c.in-None.ensures.steps.0.0

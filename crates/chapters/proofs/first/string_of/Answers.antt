@@ -7,11 +7,10 @@ use Rattle.fields_rules.specs.Fields.{content_of}
 use Rattle.locate_rules.proofs.Inner.{inner_readable, inner_fields}
 use Rattle.chapters.proofs.first.string_of.Goals as goal
 
+pub invariant_of-fields : goal.invariant_of-fields
+invariant_of-fields c = record { readable = inner_readable c.requires.0 c.rows_below.ensures }
+
 pub returns : goal.returns
 returns c =
     let s = c.args.recording.now in
-    inner_fields (λ (y : ℕ) (x : List Row). content_of s y x 0x85 Utf8) _ _ _ c.rows_below-master.ensures
-    c.content_field.ensures
-
-pub content_field-requires : goal.content_field-requires
-content_field-requires c = search inner_readable
+    inner_fields (λ (y : ℕ) (x : List Row). content_of s y x 0x85 Utf8) _ _ _ c.rows_below.ensures c.content.ensures

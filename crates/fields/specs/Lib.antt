@@ -1,0 +1,2 @@
+-- What the contracts of `fields` say is read.
+pub mod Read
