@@ -1,35 +1,72 @@
 // `open N N N N N BYTES`: all parts of a recording at once, each read into a table of its own.
+ghost use Rattle.std.specs.Prelude.{◌≤◌, length};
+
 use crate::rooms::Rooms;
 use answers::answer::bad;
 use answers::open::{put_absent, put_found, put_unopened};
 use lines::out::Out;
-use questions::open::asked_open;
+use questions::open::{AskedOpen, asked_open};
 use search_rules::Part;
 
-// The answer to a line whose question is `open`: `heads H` and the parts, or the refusal.
+// The answer to a line whose question is `open`.
 pub fn open(line: &[u8], live: bool, rooms: &mut Rooms, out: &mut Out) {
+    let Rooms {
+        recording,
+        info,
+        tracks,
+        attachments,
+        chapters,
+        tags,
+    } = rooms;
     let asked = asked_open(
         line,
         live,
-        &mut rooms.recording,
-        &mut rooms.info,
-        &mut rooms.tracks,
-        &mut rooms.attachments,
-        &mut rooms.chapters,
-        &mut rooms.tags,
+        recording,
+        info,
+        tracks,
+        attachments,
+        chapters,
+        tags,
     );
-    let Some(asked) = asked else {
-        return bad(out);
-    };
-    // What the call is lent: the parts of the rooms that the words filled.
-    let info = &mut rooms.info[..asked.info];
-    let tracks = &mut rooms.tracks[..asked.tracks];
-    let attachments = &mut rooms.attachments[..asked.attachments];
-    let chapters = &mut rooms.chapters[..asked.chapters];
-    let tags = &mut rooms.tags[..asked.tags];
+    match asked {
+        Some(asked) => put_open(
+            asked,
+            recording,
+            info,
+            tracks,
+            attachments,
+            chapters,
+            tags,
+            out,
+        ),
+        None => bad(out),
+    }
+}
+
+// `heads H` and the parts, or the refusal. The call is lent the parts of the rooms that the words filled.
+fn put_open(
+    asked: AskedOpen,
+    recording: &[u8],
+    info: &mut [u64],
+    tracks: &mut [u64],
+    attachments: &mut [u64],
+    chapters: &mut [u64],
+    tags: &mut [u64],
+    out: &mut Out,
+)
+    requires { (asked.bytes ≤ length recording.now) × (asked.info ≤ length info.old)
+        × (asked.tracks ≤ length tracks.old) × (asked.attachments ≤ length attachments.old)
+        × (asked.chapters ≤ length chapters.old) × (asked.tags ≤ length tags.old) }
+{
+    let recording = &recording[..asked.bytes];
+    let info = &mut info[..asked.info];
+    let tracks = &mut tracks[..asked.tracks];
+    let attachments = &mut attachments[..asked.attachments];
+    let chapters = &mut chapters[..asked.chapters];
+    let tags = &mut tags[..asked.tags];
     let reply = open::open(
-        &rooms.recording[..asked.bytes],
-        live,
+        recording,
+        asked.live,
         info,
         tracks,
         attachments,
