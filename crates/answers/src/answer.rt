@@ -1,156 +1,100 @@
 // An answer as text, behind what the output holds already.
-use crate::told::Told;
-use crate::{rows, told};
-use lines::{numbers, out};
-use std::io::Stdout;
+use crate::rows;
+use crate::told::{Ending, Told, Value};
+use bodies_rules::Range;
+use fields_rules::{Language, TagValue};
+use lines::out::Out;
+use refusals::{Cause, Refusal};
 
 // The answer to a line that is no question.
-pub fn bad(to: Stdout, out: &mut [u8; 65536], held: usize) -> usize {
-    out::put(to, out, held, b"bad question")
+pub fn bad(out: &mut Out) {
+    out.put(b"bad question");
 }
 
 // What is told. `entry` is the question's line in the list of questions: its name, its form, and the words of its
 // answer. `bytes` is what the call returned, where it returned bytes.
-pub fn put_told(
-    told: Told,
-    entry: &[u8],
-    bytes: &[u8],
-    table: &[u64],
-    to: Stdout,
-    out: &mut [u8; 65536],
-    held: usize,
-) -> usize {
-    let count = told[0];
-    let mut now = held;
-    let mut k: usize = 0;
-    while k < 32 {
-        if (k as u64) < count {
-            let at = 5 + 5 * k;
-            now = put_words(k, entry, told[at], told[at + 1], to, out, now);
-            now = put_value(
-                told[at + 2],
-                told[at + 3],
-                told[at + 4],
-                bytes,
-                to,
-                out,
-                now,
-            );
-        }
-        k += 1;
+pub fn put_told(told: Told, entry: &[u8], bytes: &[u8], table: &[u64], out: &mut Out) {
+    for (before, cell) in told.cells().iter().enumerate() {
+        put_gap(before, out);
+        // The words of the answer stand behind the question's name and its form.
+        out.put(words::word(entry, usize::from(cell.word) + 2));
+        put_value(cell.value, bytes, out);
     }
-    put_ending(
-        count, told[1], told[2], told[3], told[4], table, to, out, now,
-    )
+    put_ending(told.cells().len(), told.ending(), table, out);
 }
 
-// The word of a cell behind `before` others, and its sign.
-fn put_words(
-    before: usize,
-    entry: &[u8],
-    word: u64,
-    sign: u64,
-    to: Stdout,
-    out: &mut [u8; 65536],
-    held: usize,
-) -> usize {
-    let n = put_word(before as u64, word_of(entry, word), to, out, held);
-    let signs = b" unset no yes nan iso ietf text binary";
-    put_word(sign, words::word(signs, sign as usize), to, out, n)
-}
-
-// The words of the answer stand behind the question's name and its form.
-fn word_of(entry: &[u8], word: u64) -> &[u8] {
-    if word < 64 {
-        return words::word(entry, word as usize + 2);
+// A space behind the cells before.
+fn put_gap(before: usize, out: &mut Out) {
+    if before != 0 {
+        out.put(b" ");
     }
-    &entry[0..0]
-}
-
-// A word, and a space in front of it where `gap` is not 0.
-fn put_word(gap: u64, word: &[u8], to: Stdout, out: &mut [u8; 65536], held: usize) -> usize {
-    if gap == 0 {
-        return out::put(to, out, held, word);
-    }
-    let n = out::put(to, out, held, b" ");
-    out::put(to, out, n, word)
 }
 
 // A value behind its word.
-fn put_value(
-    kind: u64,
-    a: u64,
-    b: u64,
-    bytes: &[u8],
-    to: Stdout,
-    out: &mut [u8; 65536],
-    held: usize,
-) -> usize {
-    let gap = b" ";
-    match kind {
-        told::DECIMAL => numbers::put_decimal(to, out, held, gap, a),
-        told::NEGATIVE => numbers::put_decimal(to, out, held, b" -", a),
-        told::HEX => numbers::put_hex(to, out, held, gap, a, b as usize),
-        told::RANGE => put_range(a, b, to, out, held),
-        told::BYTES => numbers::put_bytes(to, out, held, gap, bytes),
-        told::RANGE_BYTES => {
-            let n = put_range(a, b, to, out, held);
-            numbers::put_bytes(to, out, n, gap, bytes)
+fn put_value(value: Value, bytes: &[u8], out: &mut Out) {
+    match value {
+        Value::Nothing => {}
+        Value::Unset => out.put(b" unset"),
+        Value::Flag(false) => out.put(b" no"),
+        Value::Flag(true) => out.put(b" yes"),
+        Value::Count(count) => out.print(format_args!(" {count}")),
+        Value::Integer(number) => out.print(format_args!(" {number}")),
+        Value::Float(number) => put_float(number, out),
+        Value::Id(id) => out.print(format_args!(" {id:X}")),
+        Value::Range(range) => put_range("", range, out),
+        Value::Language(Language::Iso(range)) => put_range(" iso", range, out),
+        Value::Language(Language::Ietf(range)) => put_range(" ietf", range, out),
+        Value::Tag(TagValue::Text(range)) => put_range(" text", range, out),
+        Value::Tag(TagValue::Binary(range)) => put_range(" binary", range, out),
+        Value::Bytes => out.put_bytes(b" ", bytes),
+        Value::RangeBytes(range) => {
+            put_range("", range, out);
+            out.put_bytes(b" ", bytes);
         }
-        _ => held,
     }
 }
 
-// ` ADDRESS+LENGTH`
-fn put_range(address: u64, length: u64, to: Stdout, out: &mut [u8; 65536], held: usize) -> usize {
-    let n = numbers::put_decimal(to, out, held, b" ", address);
-    numbers::put_decimal(to, out, n, b"+", length)
+// The 16 hexadecimal digits of a float's pattern, or `nan`.
+fn put_float(number: f64, out: &mut Out) {
+    if number.is_nan() {
+        out.put(b" nan");
+    } else {
+        out.print(format_args!(" {:016X}", number.to_bits()));
+    }
+}
+
+// ` ADDRESS+LENGTH` behind what the range is of.
+fn put_range(of: &str, range: Range, out: &mut Out) {
+    out.print(format_args!("{of} {}+{}", range.at, range.length));
 }
 
 // What follows the cells, of which there are `before`.
-fn put_ending(
-    before: u64,
-    ending: u64,
-    a: u64,
-    b: u64,
-    c: u64,
-    table: &[u64],
-    to: Stdout,
-    out: &mut [u8; 65536],
-    held: usize,
-) -> usize {
+fn put_ending(before: usize, ending: Ending, table: &[u64], out: &mut Out) {
     match ending {
-        told::ROWS | told::REST => {
-            let n = put_word(before, b"rows", to, out, held);
-            rows::put_rows(a, ending == told::ROWS, table, to, out, n)
+        Ending::Nothing => {}
+        Ending::Rows(rows) => {
+            put_gap(before, out);
+            out.put(b"rows");
+            rows::put_rows(rows, true, table, out);
         }
-        told::REFUSED => put_refused(a, b, c, to, out, held),
-        told::UNREAD => {
-            let n = put_refused(a, b, c, to, out, held);
-            rows::put_zeros(b" table ", table, 0, to, out, n)
+        Ending::Rest(rows) => {
+            put_gap(before, out);
+            out.put(b"rows");
+            rows::put_rows(rows, false, table, out);
         }
-        _ => held,
+        Ending::Refused(refusal) => put_refused(refusal, out),
+        Ending::Unread(refusal) => {
+            put_refused(refusal, out);
+            rows::put_clear(b" table ", rows::is_clear(table), out);
+        }
     }
 }
 
 // `refused N at A`, and for 8 the id behind the number.
-pub fn put_refused(
-    number: u64,
-    id: u64,
-    address: u64,
-    to: Stdout,
-    out: &mut [u8; 65536],
-    held: usize,
-) -> usize {
-    let n = numbers::put_decimal(to, out, held, b"refused ", number);
-    let named = put_named(number, id, to, out, n);
-    numbers::put_decimal(to, out, named, b" at ", address)
-}
-
-// The id that 8 carries.
-fn put_named(number: u64, id: u64, to: Stdout, out: &mut [u8; 65536], held: usize) -> usize {
-    if number == 8 {
-        return numbers::put_hex(to, out, held, b" ", id, 1);
+pub fn put_refused(refusal: Refusal, out: &mut Out) {
+    out.print(format_args!("refused {}", refusal.cause.number()));
+    if let Cause::InvalidSeekHead(id) = refusal.cause {
+        out.print(format_args!(" {id:X}"));
     }
-    held
+    out.print(format_args!(" at {}", refusal.address));
 }

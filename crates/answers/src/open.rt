@@ -1,30 +1,19 @@
 // The answer to `open` as text: a part with its table, or a refusal with five tables.
 use crate::answer::put_refused;
 use crate::rows;
-use lines::{numbers, out};
+use lines::out::Out;
 use refusals::Refusal;
-use std::io::Stdout;
 
 // ` absent TABLE`
-pub fn put_absent(table: &[u64], to: Stdout, out: &mut [u8; 65536], held: usize) -> usize {
-    let n = out::put(to, out, held, b" absent rows");
-    rows::put_rows(0, true, table, to, out, n)
+pub fn put_absent(table: &[u64], out: &mut Out) {
+    out.put(b" absent rows");
+    rows::put_rows(0, true, table, out);
 }
 
 // ` at A size S TABLE`
-pub fn put_found(
-    at: u64,
-    size: u64,
-    rows: u64,
-    table: &[u64],
-    to: Stdout,
-    out: &mut [u8; 65536],
-    held: usize,
-) -> usize {
-    let n = numbers::put_decimal(to, out, held, b" at ", at);
-    let n = numbers::put_decimal(to, out, n, b" size ", size);
-    let n = out::put(to, out, n, b" rows");
-    rows::put_rows(rows, true, table, to, out, n)
+pub fn put_found(at: u64, size: u64, rows: u64, table: &[u64], out: &mut Out) {
+    out.print(format_args!(" at {at} size {size} rows"));
+    rows::put_rows(rows, true, table, out);
 }
 
 // `refused N at A tables 0`, or `.. tables dirty` where a number of a table is not 0.
@@ -35,26 +24,10 @@ pub fn put_unopened(
     attachments: &[u64],
     chapters: &[u64],
     tags: &[u64],
-    to: Stdout,
-    out: &mut [u8; 65536],
-    held: usize,
-) -> usize {
-    let cause = refusal.cause;
-    let n = put_refused(
-        cause.number(),
-        cause.id() as u64,
-        refusal.address,
-        to,
-        out,
-        held,
-    );
-    let n = out::put(to, out, n, b" tables ");
-    let ends = rows::dirt(info, 0) == 0 && rows::dirt(tags, 0) == 0;
-    let rest = rows::dirt(tracks, 0) == 0
-        && rows::dirt(attachments, 0) == 0
-        && rows::dirt(chapters, 0) == 0;
-    if ends && rest {
-        return out::put(to, out, n, b"0");
-    }
-    out::put(to, out, n, b"dirty")
+    out: &mut Out,
+) {
+    put_refused(refusal, out);
+    let tables = [info, tracks, attachments, chapters, tags];
+    let clear = tables.iter().all(|table| rows::is_clear(table));
+    rows::put_clear(b" tables ", clear, out);
 }

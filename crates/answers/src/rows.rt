@@ -1,47 +1,20 @@
 // The rows of a table as an answer tells them, and whether what is left of it is zero.
-ghost use Rattle.std.specs.Prelude.{◌+◌, ◌*◌, ◌≤◌, length};
+ghost use Rattle.std.specs.Prelude.{◌≡◌, ◌*◌, ◌≤◌, ◌↔◌, length, IsTrue, EachIndex, slice_index};
 ghost use Rattle.elements_rules.specs.Rows.{width};
 
-use lines::{numbers, out};
+use lines::out::Out;
 use rowstore::WIDTH;
-use std::io::Stdout;
 
 // ` N`, each row that lies in the table, where they are told, and whether a number beyond them is not 0.
-pub fn put_rows(
-    rows: u64,
-    told: bool,
-    table: &[u64],
-    to: Stdout,
-    out: &mut [u8; 65536],
-    held: usize,
-) -> usize {
+pub fn put_rows(rows: u64, told: bool, table: &[u64], out: &mut Out) {
     let within = rows_within(rows, table);
-    let n = numbers::put_decimal(to, out, held, b" ", rows);
-    let n = put_each(within, told, table, to, out, n);
-    put_zeros(b" rest ", table, WIDTH * within, to, out, n)
-}
-
-// The first `rows` rows of the table, where they are told.
-fn put_each(
-    rows: usize,
-    told: bool,
-    table: &[u64],
-    to: Stdout,
-    out: &mut [u8; 65536],
-    held: usize,
-) -> usize
-    requires { width * rows ≤ length table.now }
-{
-    if !told {
-        return held;
+    out.print(format_args!(" {rows}"));
+    if told {
+        for row in table.chunks_exact(WIDTH).take(within) {
+            put_row(row, out);
+        }
     }
-    let mut now = held;
-    let mut k: usize = 0;
-    while k < rows {
-        now = put_row(table, WIDTH * k, to, out, now);
-        k += 1;
-    }
-    now
+    put_clear(b" rest ", is_clear(&table[WIDTH * within..]), out);
 }
 
 // How many of the rows lie in the table.
@@ -49,46 +22,28 @@ fn rows_within(rows: u64, table: &[u64]) -> usize
     ensures { width * result ≤ length table.now }
 {
     let room = table.len() / WIDTH;
-    if rows < room as u64 {
-        return rows as usize;
-    }
-    room
+    rows.min(room as u64) as usize
 }
 
 // ` / id parent address header payload kind depth after`, the id in hexadecimal digits.
-fn put_row(table: &[u64], at: usize, to: Stdout, out: &mut [u8; 65536], held: usize) -> usize
-    requires { at + width ≤ length table.now }
-{
-    let mut now = numbers::put_hex(to, out, held, b" / ", table[at], 1);
-    let mut k: usize = 1;
-    while k < WIDTH {
-        now = numbers::put_decimal(to, out, now, b" ", table[at + k]);
-        k += 1;
-    }
-    now
-}
-
-// `0` where every number from `from` on is 0, else `dirty`.
-pub fn put_zeros(
-    label: &[u8],
-    table: &[u64],
-    from: usize,
-    to: Stdout,
-    out: &mut [u8; 65536],
-    held: usize,
-) -> usize {
-    let n = out::put(to, out, held, label);
-    out::put(to, out, n, words::word(b"0 dirty", dirt(table, from)))
-}
-
-// 0 where every number from `from` on is 0, else 1.
-pub fn dirt(table: &[u64], from: usize) -> usize {
-    let mut i = from;
-    while i < table.len() {
-        if table[i] != 0 {
-            return 1;
+fn put_row(row: &[u64], out: &mut Out) {
+    if let Some((id, numbers)) = row.split_first() {
+        out.print(format_args!(" / {id:X}"));
+        for number in numbers {
+            out.print(format_args!(" {number}"));
         }
-        i += 1;
     }
-    0
+}
+
+// `0` where it is clear, else `dirty`.
+pub fn put_clear(label: &[u8], clear: bool, out: &mut Out) {
+    out.put(label);
+    out.put(if clear { b"0" } else { b"dirty" });
+}
+
+// Whether every number is 0.
+pub fn is_clear(numbers: &[u64]) -> bool
+    ensures { IsTrue result ↔ EachIndex numbers.now (λ k. slice_index numbers.now k ≡ 0) }
+{
+    numbers.iter().all(|number| *number == 0)
 }

@@ -1,7 +1,6 @@
 -- How far the counts of the program go.
-use Rattle.std.specs.Prelude.{◌<◌}
-use Rattle.ask.specs.declared.stream.State.{State}
+use Rattle.std.specs.Prelude.{ℕ, ◌<◌}
 
 -- There is room behind the unfinished line.
-abbrev pub Roomy : State → Type 0
-Roomy s = s.held < 1048576
+abbrev pub Roomy : ℕ → Type 0
+Roomy held = held < 1048576

@@ -1,20 +1,16 @@
 // `kind ID PARENT`: the kind of an id under a parent id.
-use answers::told;
-use answers::told::Told;
+use answers::told::{Ending, Told};
 use kinds::Kind;
 use questions::asked::Asked;
 
 // `kind K`
 pub fn kind(asked: Asked) -> Told {
     let kind = kind_decision::kind_of(asked.id, asked.parent);
-    told::word(
-        told::word(told::before(told::ENDED, 0), 0),
-        kind_index(kind),
-    )
+    Told::new(Ending::Nothing).word(0).word(kind_index(kind))
 }
 
 // The place of the kind's name among the words of the answer.
-fn kind_index(kind: Kind) -> u64 {
+fn kind_index(kind: Kind) -> u8 {
     match kind {
         Kind::Master => 1,
         Kind::Int => 2,

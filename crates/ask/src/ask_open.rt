@@ -1,30 +1,24 @@
 // `open N N N N N BYTES`: all parts of a recording at once, each read into a table of its own.
 ghost use Rattle.std.specs.Prelude.{◌≤◌, length};
 
+use crate::rooms::Rooms;
 use answers::answer::bad;
 use answers::open::{put_absent, put_found, put_unopened};
-use lines::{numbers, out};
-use open_rules::Parts;
+use lines::out::Out;
 use questions::open::{AskedOpen, asked_open};
-use questions::table::MOST_ASKED;
 use search_rules::Part;
-use std::io::Stdout;
 
 // The answer to a line whose question is `open`.
-pub fn open(
-    line: &[u8],
-    live: bool,
-    recording: &mut [u8; 65536],
-    info: &mut [u64; MOST_ASKED],
-    tracks: &mut [u64; MOST_ASKED],
-    attachments: &mut [u64; MOST_ASKED],
-    chapters: &mut [u64; MOST_ASKED],
-    tags: &mut [u64; MOST_ASKED],
-    to: Stdout,
-    out: &mut [u8; 65536],
-    held: usize,
-) -> usize {
-    let Some(asked) = asked_open(
+pub fn open(line: &[u8], live: bool, rooms: &mut Rooms, out: &mut Out) {
+    let Rooms {
+        recording,
+        info,
+        tracks,
+        attachments,
+        chapters,
+        tags,
+    } = rooms;
+    let asked = asked_open(
         line,
         live,
         recording,
@@ -33,25 +27,24 @@ pub fn open(
         attachments,
         chapters,
         tags,
-    ) else {
-        return bad(to, out, held);
-    };
-    lend(
-        asked,
-        recording,
-        info,
-        tracks,
-        attachments,
-        chapters,
-        tags,
-        to,
-        out,
-        held,
-    )
+    );
+    match asked {
+        Some(asked) => put_open(
+            asked,
+            recording,
+            info,
+            tracks,
+            attachments,
+            chapters,
+            tags,
+            out,
+        ),
+        None => bad(out),
+    }
 }
 
-// Lends the call its recording and its tables: the parts of the rooms that the words filled.
-fn lend(
+// `heads H` and the parts, or the refusal. The call is lent the parts of the rooms that the words filled.
+fn put_open(
     asked: AskedOpen,
     recording: &[u8],
     info: &mut [u64],
@@ -59,102 +52,45 @@ fn lend(
     attachments: &mut [u64],
     chapters: &mut [u64],
     tags: &mut [u64],
-    to: Stdout,
-    out: &mut [u8; 65536],
-    held: usize,
-) -> usize
+    out: &mut Out,
+)
     requires { (asked.bytes ≤ length recording.now) × (asked.info ≤ length info.old)
         × (asked.tracks ≤ length tracks.old) × (asked.attachments ≤ length attachments.old)
         × (asked.chapters ≤ length chapters.old) × (asked.tags ≤ length tags.old) }
 {
-    let bytes = asked.bytes;
-    let first = asked.info;
-    let second = asked.tracks;
-    let third = asked.attachments;
-    let fourth = asked.chapters;
-    let fifth = asked.tags;
-    put_open(
+    let recording = &recording[..asked.bytes];
+    let info = &mut info[..asked.info];
+    let tracks = &mut tracks[..asked.tracks];
+    let attachments = &mut attachments[..asked.attachments];
+    let chapters = &mut chapters[..asked.chapters];
+    let tags = &mut tags[..asked.tags];
+    let reply = open::open(
+        recording,
         asked.live,
-        &recording[..bytes],
-        &mut info[..first],
-        &mut tracks[..second],
-        &mut attachments[..third],
-        &mut chapters[..fourth],
-        &mut tags[..fifth],
-        to,
-        out,
-        held,
-    )
-}
-
-// `heads H` and the parts, or the refusal.
-fn put_open(
-    live: bool,
-    recording: &[u8],
-    info: &mut [u64],
-    tracks: &mut [u64],
-    attachments: &mut [u64],
-    chapters: &mut [u64],
-    tags: &mut [u64],
-    to: Stdout,
-    out: &mut [u8; 65536],
-    held: usize,
-) -> usize {
-    match open::open(recording, live, info, tracks, attachments, chapters, tags) {
-        Err(refusal) => put_unopened(
-            refusal,
-            info,
-            tracks,
-            attachments,
-            chapters,
-            tags,
-            to,
-            out,
-            held,
-        ),
+        info,
+        tracks,
+        attachments,
+        chapters,
+        tags,
+    );
+    match reply {
         Ok((parts, heads)) => {
-            let n = numbers::put_decimal(to, out, held, b"heads ", heads);
-            put_parts(parts, info, tracks, attachments, chapters, tags, to, out, n)
+            out.print(format_args!("heads {heads}"));
+            put_part(" info", parts.info, info, out);
+            put_part(" tracks", parts.tracks, tracks, out);
+            put_part(" attachments", parts.attachments, attachments, out);
+            put_part(" chapters", parts.chapters, chapters, out);
+            put_part(" tags", parts.tags, tags, out);
         }
+        Err(refusal) => put_unopened(refusal, info, tracks, attachments, chapters, tags, out),
     }
 }
 
-// ` info PART tracks PART attachments PART chapters PART tags PART`
-fn put_parts(
-    parts: Parts,
-    info: &[u64],
-    tracks: &[u64],
-    attachments: &[u64],
-    chapters: &[u64],
-    tags: &[u64],
-    to: Stdout,
-    out: &mut [u8; 65536],
-    held: usize,
-) -> usize {
-    let first = parts.info;
-    let second = parts.tracks;
-    let third = parts.attachments;
-    let fourth = parts.chapters;
-    let fifth = parts.tags;
-    let n = put_part(b" info", first, info, to, out, held);
-    let n = put_part(b" tracks", second, tracks, to, out, n);
-    let n = put_part(b" attachments", third, attachments, to, out, n);
-    let n = put_part(b" chapters", fourth, chapters, to, out, n);
-    put_part(b" tags", fifth, tags, to, out, n)
-}
-
 // A part behind its name.
-fn put_part(
-    name: &[u8],
-    part: Option<Part>,
-    table: &[u64],
-    to: Stdout,
-    out: &mut [u8; 65536],
-    held: usize,
-) -> usize {
-    let n = out::put(to, out, held, name);
+fn put_part(name: &str, part: Option<Part>, table: &[u64], out: &mut Out) {
+    out.print(name);
     match part {
-        None => put_absent(table, to, out, n),
-        Some(Part { at, size, rows }) => put_found(at, size, rows, table, to, out, n),
+        Some(part) => put_found(part.at, part.size, part.rows, table, out),
+        None => put_absent(table, out),
     }
 }

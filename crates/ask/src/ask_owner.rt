@@ -1,10 +1,9 @@
 // `owner START SIZE PARENT ADDRESS BYTES`: the element that holds an address, found by headers alone.
-use answers::told;
-use answers::told::Told;
+use answers::told::{Ending, Told};
 use owner_rules::Owner;
 use questions::asked::Asked;
-use refusals::Refusal;
 
+// `header A` or `payload A`
 pub fn owner(asked: Asked, recording: &[u8]) -> Told {
     let reply = owner::owner(
         recording,
@@ -14,15 +13,10 @@ pub fn owner(asked: Asked, recording: &[u8]) -> Told {
         asked.parent,
         asked.address,
     );
-    owner_told(reply)
-}
-
-// `header A` or `payload A`
-fn owner_told(reply: Result<Owner, Refusal>) -> Told {
-    let none = told::before(told::ENDED, 0);
+    let none = Told::new(Ending::Nothing);
     match reply {
-        Err(refusal) => told::refused(told::REFUSED, refusal),
-        Ok(Owner::Header { address, depth: _ }) => told::count(none, 0, address),
-        Ok(Owner::Payload { address, depth: _ }) => told::count(none, 1, address),
+        Ok(Owner::Header { address, depth: _ }) => none.with(0, address),
+        Ok(Owner::Payload { address, depth: _ }) => none.with(1, address),
+        Err(refusal) => Told::new(Ending::Refused(refusal)),
     }
 }

@@ -1,12 +1,10 @@
 // `payload START SIZE PARENT NUMBERS ROW BYTES`: the payload of a row, after the read of its table.
-use answers::told;
-use answers::told::Told;
-use bodies_rules::Range;
+use answers::told::{Ending, Told, Value};
 use questions::asked::Asked;
-use refusals::Refusal;
 
+// The refusal of the read, or `bytes HEX`
 pub fn payload(asked: Asked, recording: &[u8], table: &mut [u64]) -> Told {
-    let reply = elements::read(
+    let read = elements::read(
         recording,
         asked.live,
         asked.at,
@@ -14,16 +12,9 @@ pub fn payload(asked: Asked, recording: &[u8], table: &mut [u64]) -> Told {
         asked.parent,
         table,
     );
-    payload_told(reply, payloads::payload_range(recording, table, asked.row))
-}
-
-// The refusal of the read, or `bytes HEX`
-fn payload_told(read: Result<u64, Refusal>, payload: Result<Range, Refusal>) -> Told {
-    match read {
-        Err(refusal) => told::refused(told::UNREAD, refusal),
-        Ok(_) => match payload {
-            Err(refusal) => told::refused(told::REFUSED, refusal),
-            Ok(_) => told::with(told::before(told::ENDED, 0), 0, 0, told::BYTES, 0, 0),
-        },
+    match (read, payloads::payload_range(recording, table, asked.row)) {
+        (Err(refusal), _) => Told::new(Ending::Unread(refusal)),
+        (Ok(_), Err(refusal)) => Told::new(Ending::Refused(refusal)),
+        (Ok(_), Ok(_)) => Told::new(Ending::Nothing).with(0, Value::Bytes),
     }
 }

@@ -1,12 +1,8 @@
 // `utf8 BYTES`: whether the bytes are UTF-8.
-use answers::told;
-use answers::told::Told;
+use answers::told::{Ending, Told};
 
 // `utf8 yes` or `utf8 no`
 pub fn utf8(bytes: &[u8]) -> Told {
-    let t = told::word(told::before(told::ENDED, 0), 0);
-    if utf8::is_utf8(bytes) {
-        return told::word(t, 2);
-    }
-    told::word(t, 1)
+    let answer = if utf8::is_utf8(bytes) { 2 } else { 1 };
+    Told::new(Ending::Nothing).word(0).word(answer)
 }

@@ -13,6 +13,7 @@ mod ask_read;
 mod ask_utf8;
 mod ask_whose;
 mod line;
+mod rooms;
 mod stream;
 
 fn main(rt: HostRuntime) {

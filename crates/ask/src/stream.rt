@@ -1,158 +1,96 @@
 // Reads standard input line by line, and has each line answered.
-ghost use Rattle.std.specs.Prelude.{◌≤◌, ◌<◌, length};
+ghost use Rattle.std.specs.Prelude.{◌≤◌, ◌<◌, length, IfSome};
 ghost use Rattle.ask.specs.Bounds.{Roomy};
 
 use crate::line::answer;
-use lines::input::Got;
-use lines::{input, out};
-use questions::table::MOST_ASKED;
+use crate::rooms::Rooms;
+use lines::input;
+use lines::out::Out;
 use std::io::Print;
 
 // Room for the longest line that is a question, and more. A longer line is none.
 const ROOM: usize = 1_048_576;
 
-// Between two reads: how many bytes of an unfinished line the room holds, and whether input may follow.
-#[derive(Clone, Copy)]
-struct State {
-    held: usize,
-    more: bool,
-}
-
-// After the finished lines were answered: where the unfinished one begins, and whether the answers were
-// written.
-#[derive(Clone, Copy)]
-struct Answered {
-    from: usize,
-    written: bool,
-}
-
 // Answers every line, until the input ends or an answer can't be written.
 pub fn answer_all(rt: HostRuntime) {
-    let mut room = [0u8; 1_048_576];
-    let mut state = State {
-        held: 0,
-        more: true,
-    };
+    let mut room = [0u8; ROOM];
+    let mut held = 0;
     // A proved loop has to end, and nothing says that the input does. No run takes so many turns.
-    let mut turns = u64::MAX;
-    while turns > 0 {
-        if !state.more {
-            return;
+    for _ in 0..u64::MAX {
+        match turn(rt, held, &mut room) {
+            Some(left) => held = left,
+            None => return,
         }
-        state = turn(rt, state.held, &mut room);
-        turns -= 1;
     }
 }
 
-// One read, and the answers to the lines that it finished.
-fn turn(rt: HostRuntime, held: usize, room: &mut [u8; 1_048_576]) -> State
-    requires { held < 1048576 }
-    ensures { Roomy result }
+// One read, and the answers to the lines that it finished: how many bytes of an unfinished line the room holds then,
+// or `None` where nothing follows.
+fn turn(rt: HostRuntime, held: usize, room: &mut [u8; ROOM]) -> Option<usize>
+    requires { Roomy held }
+    ensures { IfSome result Roomy }
 {
     match input::read_more(rt.stdin(), room, held) {
-        Got::Failed => {
+        Ok(Some(n)) => answer_read(rt, held, held + n, room),
+        Ok(None) => {
+            answer_last(rt, held, room);
+            None
+        }
+        Err(_) => {
             let _ = rt
                 .stderr()
                 .write_all(b"ask: standard input can't be read\n");
-            ended()
+            None
         }
-        Got::Ended => answer_last(rt, held, room),
-        Got::Bytes(n) => answer_read(rt, held, held + n, room),
-    }
-}
-
-// Nothing is held, and nothing follows.
-fn ended() -> State
-    ensures { Roomy result }
-{
-    State {
-        held: 0,
-        more: false,
     }
 }
 
 // The input ended: a last line that has no line feed is given one.
-fn answer_last(rt: HostRuntime, held: usize, room: &mut [u8; 1_048_576]) -> State
-    requires { held < 1048576 }
-    ensures { Roomy result }
+fn answer_last(rt: HostRuntime, held: usize, room: &mut [u8; ROOM])
+    requires { Roomy held }
 {
-    if held == 0 {
-        return ended();
+    if held != 0 {
+        room[held] = b'\n';
+        answer_read(rt, held, held + 1, room);
     }
-    room[held] = b'\n';
-    answer_read(rt, held, held + 1, room);
-    ended()
 }
 
 // Answers the lines that the last read finished, and keeps the unfinished one. One that fills the room is
 // cut to a space: no question begins so, whatever follows.
-fn answer_read(rt: HostRuntime, held: usize, filled: usize, room: &mut [u8; 1_048_576]) -> State
+fn answer_read(rt: HostRuntime, held: usize, filled: usize, room: &mut [u8; ROOM]) -> Option<usize>
     requires { (held ≤ filled) × (filled ≤ 1048576) }
-    ensures { Roomy result }
+    ensures { IfSome result Roomy }
 {
-    let whole: &[u8] = room;
-    let answered = answer_lines(rt, &whole[..filled], held);
-    let from = answered.from;
+    let from = answer_lines(rt, &room[..filled], held)?;
     let left = filled - from;
     if left == ROOM {
         room[0] = b' ';
-        return State {
-            held: 1,
-            more: answered.written,
-        };
+        return Some(1);
     }
     input::keep(room, from, left);
-    State {
-        held: left,
-        more: answered.written,
-    }
+    Some(left)
 }
 
-// Answers the finished lines of what was read. The first `old` bytes hold no line feed.
-fn answer_lines(rt: HostRuntime, read: &[u8], old: usize) -> Answered
+// Answers the finished lines of what was read, and tells where the unfinished one begins; `None` where an answer can't
+// be written. The first `old` bytes hold no line feed.
+fn answer_lines(rt: HostRuntime, read: &[u8], old: usize) -> Option<usize>
     requires { old ≤ length read.now }
-    ensures { result.from ≤ length read.now }
+    ensures { IfSome result (λ from. from ≤ length read.now) }
 {
-    let mut recording = [0u8; 65536];
-    let mut table = [0u64; MOST_ASKED];
-    let mut tracks = [0u64; MOST_ASKED];
-    let mut attachments = [0u64; MOST_ASKED];
-    let mut chapters = [0u64; MOST_ASKED];
-    let mut tags = [0u64; MOST_ASKED];
-    let mut out = [0u8; 65536];
-    let mut gathered: usize = 0;
-    let mut from: usize = 0;
-    let mut next = words::find(read, old, b'\n');
-    while let Some(end) = next {
-        let line = &read[from..end];
-        gathered = answer(
-            line,
-            &mut recording,
-            &mut table,
-            &mut tracks,
-            &mut attachments,
-            &mut chapters,
-            &mut tags,
-            rt.stdout(),
-            &mut out,
-            gathered,
-        );
+    let mut rooms = Rooms::new();
+    let mut out = Out::new(rt.stdout());
+    let mut from = 0;
+    let mut seen = old;
+    while let Some(end) = words::find(read, seen, b'\n') {
+        answer(&read[from..end], &mut rooms, &mut out);
         from = end + 1;
-        next = words::find(read, from, b'\n');
+        seen = from;
     }
-    Answered {
-        from,
-        written: write_away(rt, &out, gathered),
+    if out.flush().is_err() {
+        let _ = rt
+            .stderr()
+            .write_all(b"ask: standard output can't be written\n");
+        return None;
     }
-}
-
-// Writes what was gathered, and answers whether all was written. A failure is told.
-fn write_away(rt: HostRuntime, out: &[u8; 65536], gathered: usize) -> bool {
-    if out::flush(rt.stdout(), out, gathered) {
-        return true;
-    }
-    let _ = rt
-        .stderr()
-        .write_all(b"ask: standard output can't be written\n");
-    false
+    Some(from)
 }

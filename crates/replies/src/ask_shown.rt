@@ -1,27 +1,15 @@
 // `shown START SIZE PARENT NUMBERS ROW BYTES`: the shown text of a row, after the read of its table.
-use answers::told;
-use answers::told::Told;
+use answers::told::{Ending, Told, Value};
 use bodies_rules::Range;
 use questions::asked::Asked;
 use refusals::Refusal;
 
 // The refusal of the read, or `text RANGE HEX`
 pub fn shown(read: Result<u64, Refusal>, text: Result<Range, Refusal>) -> Told {
-    match read {
-        Err(refusal) => told::refused(told::UNREAD, refusal),
-        Ok(_) => match text {
-            Err(refusal) => told::refused(told::REFUSED, refusal),
-            Ok(range) => {
-                told::with(
-                    told::before(told::ENDED, 0),
-                    0,
-                    0,
-                    told::RANGE_BYTES,
-                    range.at,
-                    range.length,
-                )
-            },
-        },
+    match (read, text) {
+        (Err(refusal), _) => Told::new(Ending::Unread(refusal)),
+        (Ok(_), Err(refusal)) => Told::new(Ending::Refused(refusal)),
+        (Ok(_), Ok(range)) => Told::new(Ending::Nothing).with(0, Value::RangeBytes(range)),
     }
 }
 

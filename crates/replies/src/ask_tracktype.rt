@@ -1,15 +1,14 @@
 // `tracktype N`: the type of a track by its number.
-use answers::told;
-use answers::told::Told;
+use answers::told::{Ending, Told};
 use codes::Tracktype;
 
 // The type by its name.
 pub fn tracktype(tracktype: Tracktype) -> Told {
-    told::word(told::before(told::ENDED, 0), type_index(tracktype))
+    Told::new(Ending::Nothing).word(type_index(tracktype))
 }
 
 // The place of the type's name among the words of the answer.
-pub fn type_index(tracktype: Tracktype) -> u64 {
+pub fn type_index(tracktype: Tracktype) -> u8 {
     match tracktype {
         Tracktype::Video => 0,
         Tracktype::Audio => 1,

@@ -1,14 +1,12 @@
 // `uid START SIZE NUMBERS K LIST I BYTES`: a member of one of a tag's uid lists.
-use answers::told;
+use crate::cells::Cells;
 use answers::told::Told;
-use refusals::Refusal;
 use tags_rules::UidList;
 
 // `uid N`
-pub fn uid(reply: Result<(u64, u64), Refusal>) -> Told {
-    match reply {
-        Err(refusal) => told::refused(told::UNREAD, refusal),
-        Ok((uid, rows)) => told::count(told::before(told::REST, rows), 0, uid),
+impl Cells for u64 {
+    fn cells(self, told: Told) -> Told {
+        told.with(0, self)
     }
 }
 

@@ -15,6 +15,7 @@ mod ask_tag;
 mod ask_track;
 mod ask_tracktype;
 mod ask_uid;
+mod cells;
 mod records;
 
 pub use ask_label::label;

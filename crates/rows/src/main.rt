@@ -2,76 +2,53 @@
 // C-18).
 #![tactic(auto)]
 
-use lines::input::{Got, read_more};
+ghost use Rattle.std.specs.Prelude.{◌≤◌, length, IfOk};
+
+use lines::input::read_more;
 use listing::{PAGE, listing};
 use std::env::{Env, FillError};
+use std::io;
 use std::io::{Print, Stdin, Stdout};
 
 // One byte more than a recording that is listed may have, so that a longer one is seen to be longer.
 const ROOM: usize = 65537;
 
-// Reads until the room is full or the input ends. A count beyond the room says that a read failed.
-fn read_recording(from: Stdin, room: &mut [u8]) -> usize {
+// Reads until the room is full or the input ends, and tells how many bytes came.
+fn read_recording(from: Stdin, room: &mut [u8]) -> io::Result<usize>
+    ensures { IfOk result (λ held. held ≤ length room.new) }
+{
     let mut held: usize = 0;
     while held < room.len() {
-        match read_more(from, room, held) {
-            Got::Bytes(n) => {
-                held += n;
-            }
-            Got::Ended => {
-                return held;
-            }
-            Got::Failed => {
-                return ROOM + 1;
-            }
-        }
+        let Some(n) = read_more(from, room, held)? else {
+            break;
+        };
+        held += n;
     }
-    held
+    Ok(held)
 }
 
-// Writes the listing to standard output by way of the page, and answers whether all was written.
-fn list(to: Stdout, recording: &[u8], live: bool, page: &mut [u8; PAGE]) -> bool {
+// Writes the listing to standard output by way of the page.
+fn list(to: Stdout, recording: &[u8], live: bool, page: &mut [u8; PAGE]) -> io::Result<()> {
     let n = listing(recording, live, page);
-    let text: &[u8] = page;
-    to.write_all(&text[..n]).is_ok()
+    to.write_all(&page[..n])
 }
 
 // Reads and lists. What can't be read is not listed. That, and a failed write, is told on standard error: a program
 // can't set its exit status.
 fn read_and_list(rt: HostRuntime, live: bool) {
     let mut room = [0u8; ROOM];
-    let held = read_recording(rt.stdin(), &mut room);
-    if ROOM < held {
-        let _ = rt
-            .stderr()
-            .write_all(b"rows: standard input can't be read\n");
-        return;
-    }
-    let whole: &[u8] = &room;
+    let Ok(held) = read_recording(rt.stdin(), &mut room) else {
+        return tell(rt, b"rows: standard input can't be read\n");
+    };
     let mut page = [0u8; PAGE];
-    if !list(rt.stdout(), &whole[..held], live, &mut page) {
-        let _ = rt
-            .stderr()
-            .write_all(b"rows: standard output can't be written\n");
+    if list(rt.stdout(), &room[..held], live, &mut page).is_err() {
+        tell(rt, b"rows: standard output can't be written\n");
     }
 }
 
-// What the program's arguments ask for.
-#[derive(Clone, Copy)]
-enum Wish {
-    Plain,
-    Live,
-    Wrong,
-}
-
-// Whether a word is the one that asks for live mode.
-fn is_live(word: &[u8; 6]) -> bool {
-    word[0] == b'-'
-        && word[1] == b'-'
-        && word[2] == b'l'
-        && word[3] == b'i'
-        && word[4] == b'v'
-        && word[5] == b'e'
+// A line on standard error.
+fn tell(rt: HostRuntime, line: &[u8]) {
+    let _ = rt.stderr().write_all(line);
 }
 
 // Whether the program has an argument of that number. The first byte of a longer one is all that the room has place for.
@@ -80,33 +57,25 @@ fn is_there(rt: HostRuntime, number: usize) -> bool {
     !matches!(rt.arg(number, &mut word), Err(FillError::NotPresent))
 }
 
-// Without an argument the listing is document 01's; with the one argument `--live` it is in live mode.
-fn asked(rt: HostRuntime) -> Wish {
+// Whether the listing is in live mode, with the one argument `--live`, or document 01's, without one; `None` for any
+// other arguments.
+fn asked(rt: HostRuntime) -> Option<bool> {
     if !is_there(rt, 1) {
-        return Wish::Plain;
+        return Some(false);
     }
     if is_there(rt, 2) {
-        return Wish::Wrong;
+        return None;
     }
     let mut word = [0u8; 6];
-    let n = match rt.arg(1, &mut word) {
-        Ok(n) => n,
-        Err(_) => 0,
-    };
-    if n == 6 && is_live(&word) {
-        return Wish::Live;
+    match rt.arg(1, &mut word) {
+        Ok(6) if word == *b"--live" => Some(true),
+        _ => None,
     }
-    Wish::Wrong
 }
 
 fn main(rt: HostRuntime) {
     match asked(rt) {
-        Wish::Plain => read_and_list(rt, false),
-        Wish::Live => read_and_list(rt, true),
-        Wish::Wrong => {
-            let _ = rt
-                .stderr()
-                .write_all(b"rows: the one argument that is known is --live\n");
-        }
+        Some(live) => read_and_list(rt, live),
+        None => tell(rt, b"rows: the one argument that is known is --live\n"),
     }
 }
