@@ -16,10 +16,7 @@ use rowstore::{clear, is_allowed, row_at};
 pub fn is_within(start: u64, size: u64, address: u64) -> bool
     ensures { result ≡ within start size address }
 {
-    if address < start {
-        return false;
-    }
-    address - start < size
+    start <= address && address - start < size
 }
 
 // A header is its row's own, and so is a leaf's payload; a master's payload is its children's.
@@ -48,8 +45,7 @@ fn find(table: &[u64], rows: usize, address: u64) -> Result<WhoseRow, Refusal>
     requires { rows ≤ length table.now / width }
     ensures { whose_told result ≡ whose_in (rows_of table.now rows) 0 rows address }
 {
-    let mut n: usize = 0;
-    while n < rows {
+    for n in 0..rows {
         match held_by(row_at(table, n), address) {
             Holder::Header => {
                 return Ok(WhoseRow::Header {
@@ -63,15 +59,10 @@ fn find(table: &[u64], rows: usize, address: u64) -> Result<WhoseRow, Refusal>
                     rows: rows as u64,
                 });
             }
-            Holder::Neither => {
-                n += 1;
-            }
+            Holder::Neither => {}
         }
     }
-    Err(Refusal {
-        address: 0,
-        cause: Cause::Outside,
-    })
+    Err(Cause::Outside.at(0))
 }
 
 // Reads the payload of `size` bytes from `start` on into the table, in live mode or in old mode, and names the row that
@@ -91,19 +82,11 @@ pub fn whose_byte(
 {
     clear(table);
     if !is_allowed(recording, start, table) {
-        return Err(Refusal {
-            address: 0,
-            cause: Cause::BadArgument,
-        });
+        return Err(Cause::BadArgument.at(0));
     }
     if !is_within(start, size, address) {
-        return Err(Refusal {
-            address: 0,
-            cause: Cause::Outside,
-        });
+        return Err(Cause::Outside.at(0));
     }
-    match fill(recording, live, start, size, parent, table) {
-        Err(refusal) => Err(refusal),
-        Ok(rows) => find(table, rows as usize, address),
-    }
+    let rows = fill(recording, live, start, size, parent, table)?;
+    find(table, rows as usize, address)
 }

@@ -6,7 +6,7 @@ use mathlib.Core.Bool.{Bool, true, false, cond, ◌&&◌}
 use native.Mathlib.Omega.{arith}
 use lib.ListN.{length, take, drop}
 use lib.Dec.{ltb, leb}
-use borrow.Author.Tests.{ltb-true, leb-true, le-leb, lt-leb, lt-ltb, le-ltb}
+use borrow.Author.Tests.{ltb-true, leb-true, lt-leb, lt-ltb, le-ltb}
 use Rattle.header.specs.Promise.{most_bytes}
 use Rattle.refusals.specs.Refusals.{bad_argument}
 use Rattle.refusals.specs.declared.refusal.Refusal.{Refusal}
@@ -15,9 +15,11 @@ use Rattle.elements_rules.specs.Rows.{width, row_at}
 use Rattle.elements_rules.specs.Promise.{allowed}
 use Rattle.elements_rules.specs.declared.row.Row.{Row}
 use Rattle.elements_rules.proofs.Limits.{within}
-use Rattle.places_rules.specs.Payload.{PayloadRange, range, refused, payload_range, bytes_of}
+use Rattle.places_rules.specs.Payload.{PayloadRange, range, refused, payload_range, range_in, bytes_of}
 use Rattle.places_rules.specs.Promise.{values_of, range_told, RangePromise, PayloadPromise}
-use Rattle.std.proofs.Common.{Ok, Err}
+use Rattle.std.proofs.Common.{Result, Ok, Err, Option, Some, None}
+use Rattle.std.specs.Prelude.{ok_or}
+use Rattle.std.specs.Bool.{then_some}
 
 -- ---- the limits, one after another
 
@@ -32,19 +34,36 @@ module _ (s t : List ℕ) (k : ℕ) where
     no_row l = record { reply = rw (a, le-ltb k (length t / width) l) }
 
     module _ (l : k < length t / width) (r : Row) (q : r ≡ row_at t k) where
-      pub past_end : length s < r.address + r.header + r.payload → RangePromise s t k (Err bad_argument)
-      unfolding payload_range
-      past_end h =
-          let z = lt-leb (r.address + r.header + r.payload) (length s) h in
-          record { reply = rw (a, lt-ltb k (length t / width) l, ← q, z) }
+      pub range_told_of : (o : Option Range) (e : Result Range Refusal) → o ≡ range_in s r → e ≡ ok_or o bad_argument
+          → RangePromise s t k e
+      unfolding payload_range range_in
+      range_told_of o e read asked =
+          rw (asked, read)
+          (record { reply = rw (a, lt-ltb k (length t / width) l, ← q) (go (leb (r.address + r.header + r.payload) (length s))) })
+        where
+          go : (b : Bool)
+              → range_told (ok_or
+              (cond b (Some (record { at = r.address + r.header; length = r.payload })) None) bad_argument)
+              ≡ values_of (cond b (range (r.address + r.header) r.payload) (refused bad_argument))
+          go true = refl
+          go false = refl
 
-      pub range_is :
-          r.address + r.header + r.payload ≤ length s
-          → RangePromise s t k (Ok (record { at = r.address + r.header; length = r.payload }))
-      unfolding payload_range
-      range_is h =
-          let z = le-leb (r.address + r.header + r.payload) (length s) h in
-          record { reply = rw (a, lt-ltb k (length t / width) l, ← q, z) }
+-- ---- the range of a row
+
+module _ (s : List ℕ) (r : Row) where
+  pub no_range : length s < r.address + r.header + r.payload → None ≡ range_in s r
+  unfolding range_in
+  no_range h = rw (lt-leb (r.address + r.header + r.payload) (length s) h)
+
+  pub range_by : then_some {T = Range} (leb (r.address + r.header + r.payload) (length s))
+      (record { at = r.address + r.header; length = r.payload }) ≡ range_in s r
+  unfolding range_in
+  range_by = go (leb (r.address + r.header + r.payload) (length s))
+    where
+      go : (b : Bool) → then_some {T = Range} b (record { at = r.address + r.header; length = r.payload })
+          ≡ cond b (Some (record { at = r.address + r.header; length = r.payload })) None
+      go true = refl
+      go false = refl
 
 -- ---- what a reply tells
 

@@ -23,4 +23,4 @@ pub loop-n-init : goal.loop-n-init
 loop-n-init c = walk_from _ _ _
 
 pub returns : goal.returns
-returns c = walk_ends _ _ _ _ c.loop-n.invariant c.loop-n-test.false
+returns c = rw c.at.ensures (walk_ends _ _ _ _ c.loop-n.invariant c.loop-n-test.false)

@@ -1,10 +1,6 @@
 -- What the loop of `find` keeps: the rows before row n do not hold the address.
-use Prim.Native.Nat.{◌-◌}
 use Rattle.places_rules.proofs.Spots.{Walk}
 use Rattle.places.proofs.whose.find.Given as goal
 
 abbrev pub invariant-loop-n : goal.invariant-loop-n
 invariant-loop-n l = Walk l.table l.rows l.address l.n
-
-abbrev pub decreases-loop-n : goal.decreases-loop-n
-decreases-loop-n l = l.rows - l.n
