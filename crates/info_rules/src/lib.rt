@@ -1,7 +1,6 @@
 // What the record of Info is (document 02, C-14; the crate's `Info`): its fields, and its families.
 #![tactic(auto)]
 
-mod family;
 mod info;
 
 pub use info::Info;

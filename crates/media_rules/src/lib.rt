@@ -2,7 +2,6 @@
 #![tactic(auto)]
 
 mod audio;
-mod stereo;
 mod video;
 
 pub use audio::Audio;

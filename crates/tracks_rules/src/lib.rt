@@ -3,7 +3,6 @@
 
 mod settings;
 mod track;
-mod typed;
 
 pub use settings::{Deciding, Settings};
 pub use track::Track;

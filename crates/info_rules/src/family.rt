@@ -1,3 +1,0 @@
-// The reply of `family_at`.
-use bodies_rules::Range;
-use refusals::Refusal;

@@ -1,2 +1,0 @@
-// A stereo mode that may be unset.
-use codes::StereoMode;

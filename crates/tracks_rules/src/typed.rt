@@ -1,2 +1,0 @@
-// A track's type that may be unset.
-use codes::Tracktype;
