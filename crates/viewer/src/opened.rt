@@ -4,10 +4,10 @@ ghost use Rattle.open_rules.specs.Tables.{five};
 ghost use Rattle.viewer_rules.specs.Faces.{found_face, opened_face};
 ghost use Rattle.viewer_rules.specs.Promise.{UzOpenPromise};
 
-use crate::mode::chosen_mode;
+use crate::mode::{NO_MODE, chosen_mode};
 use open::open;
 use open_rules::Parts;
-use refusals::{Cause, Refusal};
+use refusals::Refusal;
 use rowstore::clear;
 use search_rules::Part;
 use viewer_rules::{UzFound, UzOpened};
@@ -17,12 +17,7 @@ fn found_face(part: Option<Part>) -> UzFound
     ensures { result ≡ found_face part }
 {
     match part {
-        None => UzFound {
-            found: 0,
-            at: 0,
-            size: 0,
-            rows: 0,
-        },
+        None => UzFound::default(),
         Some(Part { at, size, rows }) => UzFound {
             found: 1,
             at,
@@ -37,47 +32,21 @@ fn opened_face(reply: Result<(Parts, u64), Refusal>) -> UzOpened
     ensures { result ≡ opened_face reply }
 {
     match reply {
-        Ok((parts, heads)) => {
-            // A field that is an enum is handed on by a variable of its own.
-            let of_info = parts.info;
-            let of_tracks = parts.tracks;
-            let of_attachments = parts.attachments;
-            let of_chapters = parts.chapters;
-            let of_tags = parts.tags;
-            let info = found_face(of_info);
-            let tracks = found_face(of_tracks);
-            let attachments = found_face(of_attachments);
-            let chapters = found_face(of_chapters);
-            let tags = found_face(of_tags);
-            UzOpened {
-                refused: 0,
-                id: 0,
-                refused_at: 0,
-                heads,
-                info,
-                tracks,
-                attachments,
-                chapters,
-                tags,
-            }
-        }
-        Err(refusal) => {
-            let cause = refusal.cause;
-            let number = cause.number();
-            let id = cause.id() as u64;
-            let none = found_face(None);
-            UzOpened {
-                refused: number,
-                id,
-                refused_at: refusal.address,
-                heads: 0,
-                info: none,
-                tracks: none,
-                attachments: none,
-                chapters: none,
-                tags: none,
-            }
-        }
+        Ok((parts, heads)) => UzOpened {
+            heads,
+            info: found_face(parts.info),
+            tracks: found_face(parts.tracks),
+            attachments: found_face(parts.attachments),
+            chapters: found_face(parts.chapters),
+            tags: found_face(parts.tags),
+            ..UzOpened::default()
+        },
+        Err(Refusal { address, cause }) => UzOpened {
+            refused: cause.number(),
+            id: u64::from(cause.id()),
+            refused_at: address,
+            ..UzOpened::default()
+        },
     }
 }
 
@@ -96,18 +65,13 @@ pub fn uz_open(
         (five info.new tracks.new attachments.new chapters.new
         tags.new) }
 {
-    match chosen_mode(mode) {
-        Some(live) => opened_face(open(recording, live, info, tracks, attachments, chapters, tags)),
-        None => {
-            clear(info);
-            clear(tracks);
-            clear(attachments);
-            clear(chapters);
-            clear(tags);
-            opened_face(Err(Refusal {
-                address: 0,
-                cause: Cause::BadArgument,
-            }))
-        }
-    }
+    let Some(live) = chosen_mode(mode) else {
+        clear(info);
+        clear(tracks);
+        clear(attachments);
+        clear(chapters);
+        clear(tags);
+        return opened_face(Err(NO_MODE));
+    };
+    opened_face(open(recording, live, info, tracks, attachments, chapters, tags))
 }

@@ -1,13 +1,12 @@
 // `uz_owner` and `uz_owner_chain`: the element that holds an address of a payload, by headers alone.
-ghost use Rattle.std.specs.Prelude.{Err, ◌≡◌};
-ghost use Rattle.refusals.specs.Refusals.{bad_argument};
+ghost use Rattle.std.specs.Prelude.{◌≡◌};
 ghost use Rattle.viewer_rules.specs.Faces.{owned_face};
 ghost use Rattle.viewer_rules.specs.Promise.{UzOwnerPromise, UzChainPromise};
 
-use crate::mode::chosen_mode;
+use crate::mode::{NO_MODE, chosen_mode};
 use owner::{owner, owner_chain};
 use owner_rules::Owner;
-use refusals::{Cause, Refusal};
+use refusals::Refusal;
 use rowstore::clear;
 use viewer_rules::UzOwned;
 
@@ -17,41 +16,22 @@ fn owned_face(reply: Result<Owner, Refusal>) -> UzOwned
 {
     match reply {
         Ok(Owner::Header { address, depth }) => UzOwned {
-            refused: 0,
-            refused_at: 0,
             at: address,
-            in_payload: 0,
             depth,
+            ..UzOwned::default()
         },
         Ok(Owner::Payload { address, depth }) => UzOwned {
-            refused: 0,
-            refused_at: 0,
             at: address,
             in_payload: 1,
             depth,
+            ..UzOwned::default()
         },
-        Err(refusal) => {
-            let cause = refusal.cause;
-            let number = cause.number();
-            UzOwned {
-                refused: number,
-                refused_at: refusal.address,
-                at: 0,
-                in_payload: 0,
-                depth: 0,
-            }
-        }
+        Err(Refusal { address, cause }) => UzOwned {
+            refused: cause.number(),
+            refused_at: address,
+            ..UzOwned::default()
+        },
     }
-}
-
-// What is told where no mode is named.
-fn no_mode() -> Result<Owner, Refusal>
-    ensures { result ≡ Err bad_argument }
-{
-    Err(Refusal {
-        address: 0,
-        cause: Cause::BadArgument,
-    })
 }
 
 pub fn uz_owner(
@@ -64,10 +44,10 @@ pub fn uz_owner(
 ) -> UzOwned
     ensures { UzOwnerPromise mode recording.now start size parent address result }
 {
-    match chosen_mode(mode) {
-        Some(live) => owned_face(owner(recording, live, start, size, parent, address)),
-        None => owned_face(no_mode()),
-    }
+    let Some(live) = chosen_mode(mode) else {
+        return owned_face(Err(NO_MODE));
+    };
+    owned_face(owner(recording, live, start, size, parent, address))
 }
 
 pub fn uz_owner_chain(
@@ -82,11 +62,9 @@ pub fn uz_owner_chain(
     ensures { UzChainPromise mode recording.now start size parent address
         chain.old result chain.new }
 {
-    match chosen_mode(mode) {
-        Some(live) => owned_face(owner_chain(recording, live, start, size, parent, address, chain)),
-        None => {
-            clear(chain);
-            owned_face(no_mode())
-        }
-    }
+    let Some(live) = chosen_mode(mode) else {
+        clear(chain);
+        return owned_face(Err(NO_MODE));
+    };
+    owned_face(owner_chain(recording, live, start, size, parent, address, chain))
 }

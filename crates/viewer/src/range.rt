@@ -11,19 +11,14 @@ pub fn range_face(reply: Result<Range, Refusal>) -> UzRange
     ensures { result ≡ range_face (range_told reply) }
 {
     match reply {
-        Ok(range) => UzRange {
-            refused: 0,
-            at: range.at,
-            length: range.length,
+        Ok(Range { at, length }) => UzRange {
+            at,
+            length,
+            ..UzRange::default()
         },
-        Err(refusal) => {
-            let cause = refusal.cause;
-            let number = cause.number();
-            UzRange {
-                refused: number,
-                at: 0,
-                length: 0,
-            }
-        }
+        Err(refusal) => UzRange {
+            refused: refusal.cause.number(),
+            ..UzRange::default()
+        },
     }
 }

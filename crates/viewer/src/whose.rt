@@ -4,10 +4,10 @@ ghost use Rattle.places_rules.specs.Promise.{whose_told};
 ghost use Rattle.viewer_rules.specs.Faces.{place_face};
 ghost use Rattle.viewer_rules.specs.Promise.{UzPlacePromise};
 
-use crate::mode::chosen_mode;
+use crate::mode::{NO_MODE, chosen_mode};
 use places::whose_byte;
 use places_rules::WhoseRow;
-use refusals::{Cause, Refusal};
+use refusals::Refusal;
 use rowstore::clear;
 use viewer_rules::UzPlace;
 
@@ -17,30 +17,21 @@ fn place_face(reply: Result<WhoseRow, Refusal>) -> UzPlace
 {
     match reply {
         Ok(WhoseRow::Header { row, rows }) => UzPlace {
-            refused: 0,
-            refused_at: 0,
             row,
-            in_payload: 0,
             rows,
+            ..UzPlace::default()
         },
         Ok(WhoseRow::Payload { row, rows }) => UzPlace {
-            refused: 0,
-            refused_at: 0,
             row,
             in_payload: 1,
             rows,
+            ..UzPlace::default()
         },
-        Err(refusal) => {
-            let cause = refusal.cause;
-            let number = cause.number();
-            UzPlace {
-                refused: number,
-                refused_at: refusal.address,
-                row: 0,
-                in_payload: 0,
-                rows: 0,
-            }
-        }
+        Err(Refusal { address, cause }) => UzPlace {
+            refused: cause.number(),
+            refused_at: address,
+            ..UzPlace::default()
+        },
     }
 }
 
@@ -56,14 +47,9 @@ pub fn uz_whose_byte(
     ensures { UzPlacePromise mode recording.now start size parent address
         table.old result table.new }
 {
-    match chosen_mode(mode) {
-        Some(live) => place_face(whose_byte(recording, live, start, size, parent, address, table)),
-        None => {
-            clear(table);
-            place_face(Err(Refusal {
-                address: 0,
-                cause: Cause::BadArgument,
-            }))
-        }
-    }
+    let Some(live) = chosen_mode(mode) else {
+        clear(table);
+        return place_face(Err(NO_MODE));
+    };
+    place_face(whose_byte(recording, live, start, size, parent, address, table))
 }

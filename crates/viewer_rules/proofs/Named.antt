@@ -21,15 +21,15 @@ use Rattle.bodies_rules.specs.declared.body.Range.{Range}
 use Rattle.refusals.specs.declared.refusal.Refusal.{Refusal}
 use Rattle.places_rules.specs.declared.whose.WhoseRow.{WhoseRow}
 use Prim.Native.Nat.{ℕ}
-use Rattle.std.proofs.Common.{Option, None}
+use Rattle.std.proofs.Common.{Option, Some, None}
 use Rattle.search_rules.specs.declared.part.Part.{Part}
 
-part_face_law : (q : Result (Option (Option Part) × ℕ) Refusal) → part_face (part_told q) ≡ part_named q
+part_face_law : (q : Result (Option Part × ℕ) Refusal) → part_face (part_told q) ≡ part_named q
 part_face_law (Ok (Some p, heads)) = refl
 part_face_law (Ok (None, heads)) = refl
 part_face_law (Err e) = refl
 
-range_face_law : (q : Result Ok Refusal) → range_face (range_told q) ≡ range_named q
+range_face_law : (q : Result Range Refusal) → range_face (range_told q) ≡ range_named q
 range_face_law (Ok r) = refl
 range_face_law (Err e) = refl
 

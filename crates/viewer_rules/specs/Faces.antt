@@ -17,7 +17,7 @@ use Rattle.owner_rules.specs.declared.owner.Owner.{Owner}
 use Rattle.open_rules.specs.declared.parts.Parts.{Parts}
 use Rattle.refusals.specs.declared.refusal.Refusal.{Refusal}
 use Rattle.std.specs.Prelude.{ℕ}
-use Rattle.std.specs.Prelude.{Option, None}
+use Rattle.std.specs.Prelude.{Option, Some, None}
 use Rattle.search_rules.specs.declared.part.Part.{Part}
 
 abbrev pub part_face : Reply PartTold → UzPart

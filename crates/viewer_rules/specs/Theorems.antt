@@ -202,7 +202,7 @@ OpenTellsWhere =
 -- ---- each number crosses under its own name
 
 -- The reply of the call behind each function, name by name.
-abbrev pub part_named : Result (Option (Option Part) × ℕ) Refusal → UzPart
+abbrev pub part_named : Result (Option Part × ℕ) Refusal → UzPart
 part_named (Ok (Some p, heads)) =
     record { refused = 0; id = 0; refused_at = 0; found = 1; at = p.at; size = p.size; rows = p.rows; heads = heads }
 part_named (Ok (None, heads)) =
@@ -219,7 +219,7 @@ part_named (Err e) =
       heads = 0;
     }
 
-abbrev pub range_named : Result Ok Refusal → UzRange
+abbrev pub range_named : Result Range Refusal → UzRange
 range_named (Ok r) = record { refused = 0; at = r.at; length = r.length }
 range_named (Err e) = record { refused = cause_number e.cause; at = 0; length = 0 }
 
@@ -231,17 +231,17 @@ place_named (Err e) =
 
 abbrev pub PartNamed : Type 0
 PartNamed =
-    (mode : ℕ) (live : Bool) (s : List ℕ) (part : ℕ) (t : List ℕ) (q : Result (Option (Option Part) × ℕ) Refusal) (r : UzPart) (t' u' : List ℕ)
+    (mode : ℕ) (live : Bool) (s : List ℕ) (part : ℕ) (t : List ℕ) (q : Result (Option Part × ℕ) Refusal) (r : UzPart) (t' u' : List ℕ)
     → chosen_mode mode ≡ Some live → PartPromise live s part t q t' → UzPartPromise mode s part t r u' → r ≡ part_named q
 
 abbrev pub RangeNamed : Type 0
 RangeNamed =
-    (s t : List ℕ) (row : ℕ) (q : Result Ok Refusal) (r : UzRange)
+    (s t : List ℕ) (row : ℕ) (q : Result Range Refusal) (r : UzRange)
     → RangePromise s t row q → UzRangePromise s t row r → r ≡ range_named q
 
 abbrev pub TextNamed : Type 0
 TextNamed =
-    (s t : List ℕ) (row : ℕ) (q : Result Ok Refusal) (r : UzRange)
+    (s t : List ℕ) (row : ℕ) (q : Result Range Refusal) (r : UzRange)
     → TextPromise s t row q → UzTextPromise s t row r → r ≡ range_named q
 
 abbrev pub PlaceNamed : Type 0

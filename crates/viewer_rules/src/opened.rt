@@ -2,7 +2,7 @@
 
 // `uz_found` of include/uzrafmed.h: one of the five parts.
 #[repr(C)]
-#[derive(Clone, Copy)]
+#[derive(Clone, Copy, Default)]
 pub struct UzFound {
     // 1, or 0 for an absent part; then the others are 0.
     pub found: u64,
@@ -14,7 +14,7 @@ pub struct UzFound {
 
 // `uz_opened` of include/uzrafmed.h.
 #[repr(C)]
-#[derive(Clone, Copy)]
+#[derive(Clone, Copy, Default)]
 pub struct UzOpened {
     // 0, or the number of the refusal; then every other number is 0, but the id for 8 and the refusal's address.
     pub refused: u64,

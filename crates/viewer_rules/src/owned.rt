@@ -2,7 +2,7 @@
 
 // `uz_owned` of include/uzrafmed.h.
 #[repr(C)]
-#[derive(Clone, Copy)]
+#[derive(Clone, Copy, Default)]
 pub struct UzOwned {
     // 0, or the number of the refusal; then the others are 0, but the refusal's address.
     pub refused: u64,

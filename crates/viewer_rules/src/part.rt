@@ -2,7 +2,7 @@
 
 // `uz_part` of include/uzrafmed.h.
 #[repr(C)]
-#[derive(Clone, Copy)]
+#[derive(Clone, Copy, Default)]
 pub struct UzPart {
     // 0, or the number of the refusal; then every other number is 0, but the id for 8 and the refusal's address.
     pub refused: u64,

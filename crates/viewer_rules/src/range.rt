@@ -2,7 +2,7 @@
 
 // `uz_range` of include/uzrafmed.h.
 #[repr(C)]
-#[derive(Clone, Copy)]
+#[derive(Clone, Copy, Default)]
 pub struct UzRange {
     // 0, or the number of the refusal; then the others are 0.
     pub refused: u64,

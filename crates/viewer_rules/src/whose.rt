@@ -2,7 +2,7 @@
 
 // `uz_place` of include/uzrafmed.h.
 #[repr(C)]
-#[derive(Clone, Copy)]
+#[derive(Clone, Copy, Default)]
 pub struct UzPlace {
     // 0, or the number of the refusal; then the others are 0, but the refusal's address.
     pub refused: u64,

@@ -1,17 +1,17 @@
--- `chosen_mode` meets its contract: two tests. Assumes nothing.
-use mathlib.Core.Path.{refl}
-use borrow.Author.Tests.{eq-eqb, ne_eqb}
+-- `chosen_mode` meets its contract: an arm for each mode. Assumes nothing.
+use Rattle.std.proofs.Common.{arith}
+use Rattle.std.proofs.lemmas.Bool.Decides.{nat_tests}
 use Rattle.viewer_rules.specs.Modes.{chosen_mode}
 use Rattle.viewer.proofs.mode.chosen_mode.Goals as goal
 
-pub returns-then-mode-eq0 : goal.returns-then-mode-eq0
+pub returns-in-0 : goal.returns-in-0
 unfolding chosen_mode
-returns-then-mode-eq0 c = rw (eq-eqb _ _ c.if-mode-eq0.true) refl
+returns-in-0 c = rw c.in-0.is
 
-pub returns-then-mode-eq1 : goal.returns-then-mode-eq1
+pub returns-in-1 : goal.returns-in-1
 unfolding chosen_mode
-returns-then-mode-eq1 c = rw (ne_eqb _ _ c.if-mode-eq0.false, eq-eqb _ _ c.if-mode-eq1.true) refl
+returns-in-1 c = rw c.in-1.is
 
-pub returns : goal.returns
+pub returns-in_default : goal.returns-in_default
 unfolding chosen_mode
-returns c = rw (ne_eqb _ _ c.if-mode-eq0.false, ne_eqb _ _ c.if-mode-eq1.false) refl
+returns-in_default c = grind (arith, nat_tests)

@@ -4,14 +4,14 @@ use mathlib.Core.Path.{sym, ◌∙◌}
 use Rattle.viewer_rules.proofs.Crossing.{place_crosses, place_unnamed}
 use Rattle.viewer.proofs.whose.uz_whose_byte.Goals as goal
 
-pub returns-in-Some : goal.returns-in-Some
-returns-in-Some c =
-    rw c.place_face.ensures
+pub returns : goal.returns
+returns c =
+    rw c.place_face-2.ensures
     (place_crosses _ _ _ _ _ _ _ _ _ _ (sym c.chosen_mode.ensures
     ∙ c.in-Some.is) c.whose_byte.ensures)
 
-pub returns-in-None : goal.returns-in-None
-returns-in-None c =
-    rw c.place_face-in-None.ensures
+pub returns-in_default : goal.returns-in_default
+returns-in_default c =
+    rw c.place_face.ensures
     (place_unnamed _ _ _ _ _ _ _ _ (sym c.chosen_mode.ensures
-    ∙ c.in-None.is) c.clear.ensures)
+    ∙ c.in_default.is) c.clear.ensures)
