@@ -35,7 +35,7 @@ use Rattle.segments_rules.proofs.Meetings.{Reached, passed, visited, along_unfol
 use Rattle.search_rules.specs.Part.{PartPromise}
 use Rattle.search_rules.specs.Part.{parent_of as searched_under}
 use Rattle.search_rules.proofs.Finding.{find_absent, find_rows}
-use Rattle.open_rules.specs.Parts.{id_of, which_of, parent_of, order, no_parts, part_of, placed}
+use Rattle.open_rules.specs.Parts.{id_of, which_of, parent_of, order, no_parts, part_of, placed, found_part}
 use Rattle.open_rules.specs.Tables.{Tables, Sizes, sizes_of, of, part_read}
 use Rattle.open_rules.specs.Opening.{Opening, read, refused, taken, on_lookup, on_chain, sought_from, by_heads_all}
 use Rattle.open_rules.specs.Opening.{visit, opening, children_from}
@@ -99,7 +99,8 @@ module _ (live : Bool) (s : List ℕ) (n : Sizes) (segment : Headed) (which : Wh
 
   abbrev Leads : ℕ → Type 0
   Leads at =
-      (ps : Parts) → met_from live s aim segment at ≡ Ok (Some (Head head)) → children_from live s n segment at ps ≡ read qs hs
+      (ps : Parts) → met_from live s aim segment at ≡ Ok (Some (Head head))
+      → children_from live s n segment at ps ≡ read qs hs
       → Comes ps
 
   by_turn : (at : ℕ)
@@ -128,12 +129,12 @@ module _ (live : Bool) (s : List ℕ) (n : Sizes) (segment : Headed) (which : Wh
           → (o : Outcome)
           → visited live s segment (opening live s n segment) e
           (on_outcome o (λ r. ends (refused r)) (λ f.
-          over (placed ps (which_of e.header.id) (Some (record { at = e.payload.at; size = e.header.size; rows = (count f) })))))
+          over (placed ps (which_of e.header.id) (found_part e.payload.at e.header.size (count f)))))
           ≡ read qs hs
           → Comes ps
       by_read e q c d m (done f) k =
-          by_pass e q (placed ps (which_of e.header.id) (Some (record { at = e.payload.at; size = e.header.size; rows = (count f) })))
-          (other_placed ps (which_of e.header.id) which (Some (record { at = e.payload.at; size = e.header.size; rows = (count f) }))
+          by_pass e q (placed ps (which_of e.header.id) (found_part e.payload.at e.header.size (count f)))
+          (other_placed ps (which_of e.header.id) which (found_part e.payload.at e.header.size (count f))
           (ap (λ (x : ℕ). eqb x (id_of which)) (which_of_law e.header.id d) ∙ c))
           (passed live s segment e) refl m k
       by_read e q c d m (unread r) k = never k
@@ -141,7 +142,8 @@ module _ (live : Bool) (s : List ℕ) (n : Sizes) (segment : Headed) (which : Wh
       by_id : (e : Headed) → child_at live s (stretch_of live s segment) at ≡ Ok (Some e)
           → (b : Bool) → eqb e.header.id seek_head_id ≡ b → (c : Bool) → eqb e.header.id (id_of which) ≡ c
           → (d : Bool) → member e.header.id part_ids ≡ d
-          → visited live s segment (meeting aim) e (cond b (ends (Ok (Some (Head e)))) (cond c (ends (Ok (Some (PartIs e)))) (over tt)))
+          → visited live s segment (meeting aim) e
+          (cond b (ends (Ok (Some (Head e)))) (cond c (ends (Ok (Some (PartIs e)))) (over tt)))
           ≡ Ok (Some (Head head))
           → visited live s segment (opening live s n segment) e
           (cond b (ends (by_heads_all live s n start e ps))
@@ -187,7 +189,7 @@ module _ (live : Bool) (s : List ℕ) (n : Sizes) (segment : Headed) (which : Wh
 
 -- What a part is told as that was not known before, by where it is.
 abbrev Told : Lookup → Option Part → Type 0
-Told (found_at e heads) p = (rows : ℕ) × (p ≡ Some (record { at = e.payload.at; size = e.header.size; rows = rows }))
+Told (found_at e heads) p = (rows : ℕ) × (p ≡ found_part e.payload.at e.header.size rows)
 Told (absent_at heads) p = p ≡ None
 Told (stopped_at r) p = ⊥
 
@@ -210,7 +212,7 @@ module _ (live : Bool) (s : List ℕ) (n : Sizes) (start : ℕ) (heads : Heads) 
   data Sought (v : Which) (ps : Parts) : Parts → Type 0 where
     took :
         (e : Headed) (hs : List ℕ) (rows : ℕ) → place v ≡ found_at e hs
-        → Sought v ps (placed ps v (Some (record { at = e.payload.at; size = e.header.size; rows = rows })))
+        → Sought v ps (placed ps v (found_part e.payload.at e.header.size rows))
     none : (hs : List ℕ) → place v ≡ absent_at hs → Sought v ps ps
 
   record GoesOn (v : Which) (more : List Which) (ps qs : Parts) (hs : List ℕ) : Type 0 where
@@ -224,11 +226,11 @@ module _ (live : Bool) (s : List ℕ) (n : Sizes) (start : ℕ) (heads : Heads) 
   goes_on v more ps qs hs = by (place v) refl
     where
       by_read : (e : Headed) (is : List ℕ) → place v ≡ found_at e is → (o : Outcome)
-          → on_outcome o refused (λ f. left more (placed ps v (Some (record { at = e.payload.at; size = e.header.size; rows = (count f) }))))
+          → on_outcome o refused (λ f. left more (placed ps v (found_part e.payload.at e.header.size (count f))))
           ≡ read qs hs
           → GoesOn v more ps qs hs
       by_read e is i (done f) k = record {
-        rest = placed ps v (Some (record { at = e.payload.at; size = e.header.size; rows = (count f) }));
+        rest = placed ps v (found_part e.payload.at e.header.size (count f));
         how = took e is (count f) i;
         leads = k;
       }
@@ -250,15 +252,15 @@ module _ (live : Bool) (s : List ℕ) (n : Sizes) (start : ℕ) (heads : Heads) 
   passes_by : (v : Which) (ps rs : Parts) → Sought v ps rs → eqb (id_of v) (id_of which) ≡ false
       → part_of rs which ≡ part_of ps which
   passes_by v ps _ (took e hs rows i) q =
-      other_placed ps v which (Some (record { at = e.payload.at; size = e.header.size; rows = rows })) q
+      other_placed ps v which (found_part e.payload.at e.header.size rows) q
   passes_by v ps _ (none hs i) q = refl
 
   is_told : (ps rs : Parts) → Sought which ps rs
       → ((hs : List ℕ) → place which ≡ absent_at hs → part_of ps which ≡ None)
       → Told (place which) (part_of rs which)
   is_told ps _ (took e hs rows i) a =
-      subst (λ (x : Lookup). Told x (part_of (placed ps which (Some (record { at = e.payload.at; size = e.header.size; rows = rows }))) which))
-      (sym i) (rows, own_placed ps which (Some (record { at = e.payload.at; size = e.header.size; rows = rows })))
+      subst (λ (x : Lookup). Told x (part_of (placed ps which (found_part e.payload.at e.header.size rows)) which))
+      (sym i) (rows, own_placed ps which (found_part e.payload.at e.header.size rows))
   is_told ps _ (none hs i) a = subst (λ (x : Lookup). Told x (part_of ps which)) (sym i) (a hs i)
 
   further : (v : Which) (more : List Which) (ps rs : Parts) → Sought v ps rs → Ahead (v ∷ more) ps → Ahead more rs

@@ -27,11 +27,13 @@ use Rattle.open_rules.specs.Promise.{are_allowed, open_of}
 use Rattle.open_rules.specs.Cases.{cases, Hold}
 
 pub cases_hold : Hold cases
-unfolding octet_bits bits one_more width_of big_endian_from big_endian of_width vint_of sized named header_of header_read header_at
+unfolding octet_bits bits one_more width_of big_endian_from big_endian of_width vint_of sized named
+    header_of header_read header_at
     elements member kind_in keeps demoted kind_under utf8_char behind any_of goes_on utf8 body_of
     span count join refuse_if full siblings element master_body is_table allowed filled read_of
     last_four with_members entry_of entries later latest_from sought last_head next_head chain part_at
-    ends_before is_past ended_by barred_step child_at walk ended_at within end_from pass_over unknown segment_of stretch_of
+    ends_before is_past ended_by barred_step child_at walk ended_at within end_from pass_over unknown segment_of
+    stretch_of
     overruns
     which_of part_read sought_from by_heads_all visit whole_of are_allowed open_of
 cases_hold =

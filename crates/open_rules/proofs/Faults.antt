@@ -43,7 +43,7 @@ use Rattle.search_rules.specs.Faults.{in_segment_unknown as within_searched, fro
 use Rattle.search_rules.specs.Faults.{in_part as part_searched}
 use Rattle.search_rules.proofs.Faults.{Went, the_walk, not_ended, passed_fault, overrun_known, child_before}
 use Rattle.search_rules.proofs.Faults.{place_fault}
-use Rattle.open_rules.specs.Parts.{id_of, which_of, parent_of, order, no_parts, placed}
+use Rattle.open_rules.specs.Parts.{id_of, which_of, parent_of, order, no_parts, placed, found_part}
 use Rattle.open_rules.specs.Tables.{Sizes, sizes_of, of, part_read}
 use Rattle.open_rules.specs.Opening.{Opening, read, refused, taken, on_lookup, on_chain, sought_from, by_heads_all}
 use Rattle.open_rules.specs.Opening.{visit, opening, children_from, whole_of}
@@ -205,7 +205,7 @@ module _ (live : Bool) (s : List ℕ) (n : Sizes) where
                   → (x : Outcome) → part_read live s n which e.payload.at e.header.size ≡ x
                   → OfOpening (on_outcome x refused (λ f.
                   sought_from live s n start heads later
-                  (placed ps which (Some (record { at = e.payload.at; size = e.header.size; rows = (count f) })))))
+                  (placed ps which (found_part e.payload.at e.header.size (count f)))))
               by_reading e hs q on (done f) w =
                   on now_ordered
                   (past_snoc live s n start first heads c before which p (read_there e hs q (f, w))) _
@@ -316,7 +316,7 @@ module _ (live : Bool) (s : List ℕ) (n : Sizes) where
             → Went {A = Parts} OfOpening (OpenedOver live s n segment e)
             (on_visit
             (on_outcome x (λ r. ends (refused r)) (λ f.
-            over (placed ps (which_of e.header.id) (Some (record { at = e.payload.at; size = e.header.size; rows = (count f) })))))
+            over (placed ps (which_of e.header.id) (found_part e.payload.at e.header.size (count f)))))
             ends (λ more. cond d (ends (refused (overrun e.place.at))) (over more)))
         by_reading q m d o (done f) w = passes q (λ p. (f, w)) _ d o
         by_reading q m d o (unread r) w =

@@ -35,7 +35,7 @@ use Rattle.seekchain_rules.specs.Theorems.{IsAt, GoodHeads, Named, ByHeads}
 use Rattle.seekchain_rules.proofs.Leads.{heads_lead}
 use Rattle.segments_rules.specs.Segment.{segment_of, stretch_of, overruns, within_segment, part_ids}
 use Rattle.search_rules.proofs.Trusty.{none_read}
-use Rattle.open_rules.specs.Parts.{id_of, which_of, parent_of, order, no_parts, part_of, placed}
+use Rattle.open_rules.specs.Parts.{id_of, which_of, parent_of, order, no_parts, part_of, placed, found_part}
 use Rattle.open_rules.specs.Tables.{Tables, Sizes, sizes_of, of, part_read, shown_of}
 use Rattle.open_rules.specs.Opening.{Opening, read, refused, taken, on_lookup, on_chain, sought_from, by_heads_all}
 use Rattle.open_rules.specs.Opening.{visit, opening, children_from, whole_of}
@@ -56,7 +56,8 @@ abbrev Keeps : {A B : Type 0} → (A → Type 0) → (B → Type 0) → Visit A 
 Keeps Q P (ends b) = P b
 Keeps Q P (over a) = Q a
 
-module _ {A B : Type 0} (step : ℕ → Result (Option Headed) Refusal) (pass : Headed → Result ℕ Refusal) (w : Walk A B) (Q : A → Type 0)
+module _ {A B : Type 0} (step : ℕ → Result (Option Headed) Refusal) (pass : Headed → Result ℕ Refusal) (w : Walk A B)
+    (Q : A → Type 0)
     (P : B → Type 0) (stops : (e : Refusal) → P (w.stop e)) (at_the_end : (at : ℕ) (a : A) → Q a → P (w.ended at a))
     (each : (a : A) (at : ℕ) (e : Headed) → Q a → step at ≡ Ok (Some e) → Keeps Q P (w.visit a e)) where
   -- It holds of the whole walk if each visit keeps it.
@@ -78,7 +79,8 @@ module _ {A B : Type 0} (step : ℕ → Result (Option Headed) Refusal) (pass : 
       by_visit e (ends b) i more = i
       by_visit e (over b) i more = by_pass b i (pass e) more
 
-      by : (x : Result (Option Headed) Refusal) → step at ≡ x → Onward → P (turn step pass w at a x (walk step pass w n))
+      by : (x : Result (Option Headed) Refusal) → step at ≡ x → Onward
+          → P (turn step pass w at a x (walk step pass w n))
       by (Ok (Some e)) q more = by_visit e (w.visit a e) (each a at e k q) more
       by (Ok None) q more = at_the_end at a k
       by (Err r) q more = stops r
@@ -137,8 +139,8 @@ module _ (live : Bool) (s : List ℕ) (n : Sizes) (segment : Headed) where
   none_known : (heads : List ℕ) → Known heads no_parts
   none_known heads = each_part (λ v. IsKnown heads v (part_of no_parts v)) tt tt tt tt tt
 
-  placed_known : (heads : List ℕ) (ps : Parts) (which : Which) (p : Option Part) → Known heads ps → IsKnown heads which p
-      → Known heads (placed ps which p)
+  placed_known : (heads : List ℕ) (ps : Parts) (which : Which) (p : Option Part) → Known heads ps
+      → IsKnown heads which p → Known heads (placed ps which p)
   placed_known heads ps Info p k i =
       each_part (λ v. IsKnown heads v (part_of (placed ps Info p) v)) i (k Tracks) (k Attachments) (k Chapters) (k Tags)
   placed_known heads ps Tracks p k i =
@@ -191,10 +193,10 @@ module _ (live : Bool) (s : List ℕ) (n : Sizes) (segment : Headed) where
             → (o : Outcome) → part_read live s n which e.payload.at e.header.size ≡ o
             → Sound (on_outcome o refused (λ f.
             sought_from live s n start heads more
-            (placed ps which (Some (record { at = e.payload.at; size = e.header.size; rows = (count f) })))))
+            (placed ps which (found_part e.payload.at e.header.size (count f)))))
         by_read e way g (done f) q =
-            next g (placed ps which (Some (record { at = e.payload.at; size = e.header.size; rows = (count f) })))
-            (placed_known heads.addresses ps which (Some (record { at = e.payload.at; size = e.header.size; rows = (count f) })) k (record {
+            next g (placed ps which (found_part e.payload.at e.header.size (count f)))
+            (placed_known heads.addresses ps which (found_part e.payload.at e.header.size (count f)) k (record {
               elements = f;
               was_read = q;
               counted = refl;
@@ -261,10 +263,10 @@ module _ (live : Bool) (s : List ℕ) (n : Sizes) (segment : Headed) where
       by_read : member e.header.id part_ids ≡ true
           → (o : Outcome) → part_read live s n which e.payload.at e.header.size ≡ o
           → Keeps Met Sound (on_outcome o (λ r. ends (refused r)) (λ f.
-          over (placed ps which (Some (record { at = e.payload.at; size = e.header.size; rows = (count f) })))))
+          over (placed ps which (found_part e.payload.at e.header.size (count f)))))
       by_read m (done f) q =
           λ heads.
-          placed_known heads ps which (Some (record { at = e.payload.at; size = e.header.size; rows = (count f) })) (k heads) (record {
+          placed_known heads ps which (found_part e.payload.at e.header.size (count f)) (k heads) (record {
             elements = f;
             was_read = q;
             counted = refl;
@@ -333,7 +335,7 @@ opened live s n ps heads = by (are_allowed s n) refl (segment_of live s) refl
 -- A part that an accepted call tells.
 module _ (live : Bool) (s : List ℕ) (t : Tables) (ps : Parts) (k : ℕ) (t' : Tables)
     (p : OpenPromise live s t (Ok (ps, k)) t') (which : Which) (at size rows : ℕ)
-    (x : part_of ps which ≡ Some (record { at = at; size = size; rows = rows })) where
+    (x : part_of ps which ≡ found_part at size rows) where
   abbrev n : Sizes
   n = sizes_of t
 

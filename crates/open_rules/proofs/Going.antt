@@ -32,7 +32,7 @@ use Rattle.segments_rules.specs.Contract.{PastIn}
 use Rattle.segments_rules.specs.declared.walk.Aim.TheVariants.{Every}
 use Rattle.segments_rules.specs.declared.walk.Met.TheVariants.{Head, Part as PartIs}
 use Rattle.segments_rules.proofs.Meetings.{visited, first_met, after, head_met, part_met, less, passed}
-use Rattle.open_rules.specs.Parts.{id_of, which_of, order, placed}
+use Rattle.open_rules.specs.Parts.{id_of, which_of, order, placed, found_part}
 use Rattle.open_rules.specs.Tables.{Sizes, part_read}
 use Rattle.open_rules.specs.Opening.{Opening, read, refused, sought_from, by_heads_all, visit, opening}
 use Rattle.open_rules.specs.Opening.{taken, on_lookup, on_chain, children_from}
@@ -223,9 +223,9 @@ module _ (live : Bool) (s : List ℕ) (n : Sizes) (segment : Headed) (at : ℕ) 
         by : (x : Outcome)
             → visited live s segment w e
             (on_outcome x (λ r. ends (refused r)) (λ f.
-            over (placed ps (which_of e.header.id) (Some (record { at = e.payload.at; size = e.header.size; rows = (count f) })))))
+            over (placed ps (which_of e.header.id) (found_part e.payload.at e.header.size (count f)))))
             ≡ on_outcome x refused (λ f.
-            passing (placed ps (which_of e.header.id) (Some (record { at = e.payload.at; size = e.header.size; rows = (count f) }))))
+            passing (placed ps (which_of e.header.id) (found_part e.payload.at e.header.size (count f))))
         by (done f) = refl
         by (unread r) = refl
 
@@ -238,7 +238,7 @@ module _ (live : Bool) (s : List ℕ) (n : Sizes) (segment : Headed) (at : ℕ) 
           goes = λ f p. (
             m.0.child,
             met_taken ∙ rw (x' p) (ap (λ (v : Which).
-                passing (placed ps v (Some (record { at = e.payload.at; size = e.header.size; rows = (count f) })))) (sym x)),
+                passing (placed ps v (found_part e.payload.at e.header.size (count f)))) (sym x)),
           );
           fewer = let l = m.0.room in omega arith;
           ready = (r, record { small = r.small; there = m.0.stepped.there });
@@ -268,8 +268,8 @@ module _ (live : Bool) (s : List ℕ) (n : Sizes) (segment child : Headed) (ps :
       → Turns live s n ps o (left_of live s (Behind segment child)) t
   behind_turns next k t u =
       let l = less live s segment child.place.at child next q.0 (passes (Ok next) k) in
-      turns_more live s n ps o (left_of live s (From segment next)) (left_of live s (Behind segment child)) (omega arith)
-      t u
+      turns_more live s n ps o (left_of live s (From segment next)) (left_of live s (Behind segment child))
+      (omega arith) t u
 
 -- ---- the turns
 

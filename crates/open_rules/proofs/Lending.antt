@@ -16,7 +16,7 @@ use Rattle.elements_rules.specs.Promise.{reply_of as read_reply}
 use Rattle.elements_rules.specs.Contract.{ClearFrom}
 use Rattle.elements_rules.proofs.Forests.{length_rows}
 use Rattle.elements_rules.proofs.Tables.{zeros_clear, rows_clear}
-use Rattle.open_rules.specs.Parts.{parent_of, no_parts, part_of, placed}
+use Rattle.open_rules.specs.Parts.{parent_of, no_parts, part_of, placed, found_part}
 use Rattle.open_rules.specs.Tables.{Tables, Sizes, five, sizes_of, of, put, zeroed, part_read, shown}
 use Rattle.open_rules.specs.Opening.{Opening, read, refused}
 use Rattle.open_rules.specs.Promise.{open_of, reply_of, tables_of, OpenPromise}
@@ -30,7 +30,7 @@ use Rattle.open_rules.specs.declared.turns.Turn.{Turn}
 use Rattle.open_rules.specs.declared.turns.Turn.TheVariants.{Read, Over}
 use Rattle.open_rules.proofs.Going.{never}
 use Rattle.std.proofs.Common.{Result, Ok, Err}
-use Rattle.std.proofs.Common.{Option, Some, None}
+use Rattle.std.proofs.Common.{Option, None}
 use Rattle.search_rules.specs.declared.part.Part.{Part}
 
 -- ---- five at a time
@@ -47,7 +47,8 @@ module _ (live : Bool) (s : List ℕ) (which : Which) (at size parent : ℕ) (k 
   abbrev Into : Tables → Type 0
   Into t' = ReadInto live s which at size (five a b c d e) r t'
 
-  as_parent : (u : List ℕ) → ReadPromise live s at size parent u r t → ReadPromise live s at size (parent_of which) u r t
+  as_parent : (u : List ℕ) → ReadPromise live s at size parent u r t
+      → ReadPromise live s at size (parent_of which) u r t
   as_parent u p = rw k at p
 
   pub into_info : which ≡ Info → ReadPromise live s at size parent a r t → Into (five t b c d e)
@@ -83,7 +84,7 @@ module _ (live : Bool) (s : List ℕ) (which : Which) (at size parent : ℕ) (k 
 -- The tables show a part that was put in.
 put_shown : (live : Bool) (s : List ℕ) (n : Sizes) (ps : Parts) (which : Which) (at size rows : ℕ)
     → put (shown live s n ps) which (table_of at (of n which) (part_read live s n which at size))
-    ≡ shown live s n (placed ps which (Some (record { at = at; size = size; rows = rows })))
+    ≡ shown live s n (placed ps which (found_part at size rows))
 put_shown live s n ps Info at size rows = refl
 put_shown live s n ps Tracks at size rows = refl
 put_shown live s n ps Attachments at size rows = refl
@@ -111,7 +112,7 @@ clear_none n = record {
 }
 
 clear_put : (which : Which) (ps : Parts) (t : Tables) (at size rows : ℕ) (u : List ℕ) → ClearFrom rows u
-    → ClearBehind ps t → ClearBehind (placed ps which (Some (record { at = at; size = size; rows = rows }))) (put t which u)
+    → ClearBehind ps t → ClearBehind (placed ps which (found_part at size rows)) (put t which u)
 clear_put Info ps t at size rows u c b = record {
   info = c;
   tracks = b.tracks;
@@ -263,7 +264,7 @@ module _ (live : Bool) (s : List ℕ) (t₀ : Tables) where
           run_lost t' a (reads.fails a (told_refused a (part_read live s n which at size) (as_lent (Err a) j))) reply y
 
       pub run_again : (rows : ℕ) → r ≡ Ok rows → (ps' : Parts)
-          → ps' ≡ placed ps which (Some (record { at = at; size = size; rows = rows })) → sizes_of t' ≡ sizes_of t
+          → ps' ≡ placed ps which (found_part at size rows) → sizes_of t' ≡ sizes_of t
           → Running t' next ps'
       run_again rows j ps' k l =
           let (f, o, c) = told_rows rows (part_read live s n which at size) (as_lent (Ok rows) j) in
@@ -279,7 +280,7 @@ module _ (live : Bool) (s : List ℕ) (t₀ : Tables) where
                 ∙ ap (λ (y : Tables). put y which (table_of at (of n which) (part_read live s n which at size)))
                 g.shows
                 ∙ put_shown live s n ps which at size rows;
-            clear = subst (ClearBehind (placed ps which (Some (record { at = at; size = size; rows = rows }))))
+            clear = subst (ClearBehind (placed ps which (found_part at size rows)))
                 (sym (put_in ∙ ap (λ (y : Outcome). put t which (table_of at (of n which) y)) o))
                 (clear_put which ps t at size rows (table_of at (of n which) (done f))
                 (clear_read at (of n which) rows f c) g.clear);

@@ -41,7 +41,7 @@ use Rattle.search_rules.specs.Faults.{begun, Along, ToSegment}
 use Rattle.search_rules.proofs.Faults.{child_before}
 use Rattle.search_rules.proofs.Live.{same_walk, of_known, segment_known, segment_sized}
 use Rattle.search_rules.proofs.Live.{Sizes as SegmentSized}
-use Rattle.open_rules.specs.Parts.{id_of, which_of, parent_of, order, no_parts, placed, part_of}
+use Rattle.open_rules.specs.Parts.{id_of, which_of, parent_of, order, no_parts, placed, part_of, found_part}
 use Rattle.open_rules.specs.Tables.{Tables, Sizes, sizes_of, of, part_read}
 use Rattle.open_rules.specs.Opening.{Opening, refused, taken, on_lookup, on_chain, sought_from, by_heads_all}
 use Rattle.open_rules.specs.Opening.{visit, opening, children_from, whole_of}
@@ -114,7 +114,8 @@ module _ (s : List ℕ) (n : Sizes) (k : AllKnown s (OpenComes false s n)) where
 
       chain_same : linked_heads true s start first ≡ linked_heads false s start first
       chain_same =
-          chain_known s (id_of Info) start first (heads_known Info (first_turn false s n start first)) most_heads no_heads
+          chain_known s (id_of Info) start first (heads_known Info (first_turn false s n start first)) most_heads
+          no_heads
           first initial
 
       module _ (heads : Heads) (w : linked_heads false s start first ≡ chained heads) where
@@ -153,10 +154,10 @@ module _ (s : List ℕ) (n : Sizes) (k : AllKnown s (OpenComes false s n)) where
                 → (x : Outcome) → part_read false s n which e.payload.at e.header.size ≡ x
                 → on_outcome x refused (λ f.
                 sought_from true s n start heads later
-                (placed ps which (Some (record { at = e.payload.at; size = e.header.size; rows = (count f) }))))
+                (placed ps which (found_part e.payload.at e.header.size (count f))))
                 ≡ on_outcome x refused (λ f.
                 sought_from false s n start heads later
-                (placed ps which (Some (record { at = e.payload.at; size = e.header.size; rows = (count f) }))))
+                (placed ps which (found_part e.payload.at e.header.size (count f))))
             by_reading e hs q on (done f) v =
                 on now_ordered (past_snoc false s n start first heads w before which p (read_there e hs q (f, v))) _
             by_reading e hs q on (unread r) v = refl
@@ -177,7 +178,7 @@ module _ (s : List ℕ) (n : Sizes) (k : AllKnown s (OpenComes false s n)) where
             by_place (found_at e hs) q on =
                 ap (λ (x : Outcome). on_outcome x refused (λ f.
                 sought_from true s n start heads later
-                (placed ps which (Some (record { at = e.payload.at; size = e.header.size; rows = (count f) })))))
+                (placed ps which (found_part e.payload.at e.header.size (count f)))))
                 (read_known which e (in_the_part e hs q))
                 ∙ by_reading e hs q on (part_read false s n which e.payload.at e.header.size) refl
             by_place (absent_at hs) q on =
@@ -231,7 +232,7 @@ module _ (s : List ℕ) (n : Sizes) (k : AllKnown s (OpenComes false s n)) where
               }) ps)
           by false i true m =
               ap (λ (x : Outcome). on_outcome x (λ r. ends (refused r)) (λ f.
-              over (placed ps (which_of e.header.id) (Some (record { at = e.payload.at; size = e.header.size; rows = (count f) })))))
+              over (placed ps (which_of e.header.id) (found_part e.payload.at e.header.size (count f)))))
               (met_same m)
           by false i false m = refl
 
@@ -265,7 +266,7 @@ module _ (s : List ℕ) (n : Sizes) (k : AllKnown s (OpenComes false s n)) where
             → (x : Outcome) → part_read false s n (which_of e.header.id) e.payload.at e.header.size ≡ x
             → ◌≡◌ {A = Visit Parts Opening} (on_visit
             (on_outcome x (λ r. ends (refused r)) (λ f.
-            over (placed ps (which_of e.header.id) (Some (record { at = e.payload.at; size = e.header.size; rows = (count f) })))))
+            over (placed ps (which_of e.header.id) (found_part e.payload.at e.header.size (count f)))))
             ends (λ more. cond d (ends (refused (overrun e.place.at))) (over more)))
             (over qs)
             → OpenedOver false s n segment e

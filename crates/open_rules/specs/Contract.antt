@@ -17,7 +17,7 @@ use Rattle.seekhead_rules.specs.declared.head.Wanted.{Wanted}
 use Rattle.seekhead_rules.specs.declared.head.Positions.{Positions}
 use Rattle.seekchain_rules.specs.Heads.{Heads, last_head}
 use Rattle.segments_rules.specs.Segment.{stretch_of, past_child}
-use Rattle.open_rules.specs.Parts.{id_of, no_parts, on_part, placed}
+use Rattle.open_rules.specs.Parts.{id_of, no_parts, on_part, placed, found_part}
 use Rattle.open_rules.specs.Tables.{Tables, Sizes, sizes_of, of, put, part_read, shown}
 use Rattle.open_rules.specs.Opening.{Opening, read, refused, sought_from, by_heads_all, children_from}
 use Rattle.open_rules.specs.Promise.{open_of, reply_of}
@@ -94,7 +94,7 @@ module _ (live : Bool) (s : List ℕ) (n : Sizes) where
         (r : Refusal) → part_read live s n which e.payload.at e.header.size ≡ unread r → o ≡ refused r
     pub goes :
         (f : Forest) → part_read live s n which e.payload.at e.header.size ≡ done f
-        → Stands next (placed ps which (Some (record { at = e.payload.at; size = e.header.size; rows = (count f) }))) o
+        → Stands next (placed ps which (found_part e.payload.at e.header.size (count f))) o
     pub fewer : left_of live s next < most
     pub ready : Ready s next
 
@@ -146,7 +146,8 @@ pub record ClearBehind (ps : Parts) (t : Tables) : Type 0 where
 
 -- One of the five tables was read into.
 pub record ReadInto
-    (live : Bool) (s : List ℕ) (which : Which) (at size : ℕ) (t : Tables) (r : Result ℕ Refusal) (t' : Tables) : Type 0 where
+    (live : Bool) (s : List ℕ) (which : Which) (at size : ℕ) (t : Tables) (r : Result ℕ Refusal) (t' : Tables)
+    : Type 0 where
   pub reply : read_told r ≡ read_reply (part_read live s (sizes_of t) which at size)
   pub tables : t' ≡ put t which (table_of at (of (sizes_of t) which) (part_read live s (sizes_of t) which at size))
 

@@ -16,11 +16,10 @@ use Rattle.seekchain_rules.specs.Heads.{Heads, Chain, chained, broken, linked_he
 use Rattle.seekchain_rules.specs.Lookup.{Lookup, part_at}
 use Rattle.seekchain_rules.specs.Lookup.{found as found_at, absent as absent_at, stopped as stopped_at}
 use Rattle.segments_rules.specs.Segment.{segment_of, stretch_of, within_segment, part_ids}
-use Rattle.open_rules.specs.Parts.{id_of, which_of, order, no_parts, placed}
+use Rattle.open_rules.specs.Parts.{id_of, which_of, order, no_parts, placed, found_part}
 use Rattle.open_rules.specs.Tables.{Sizes, part_read}
 use Rattle.open_rules.specs.declared.parts.Which.{Which}
 use Rattle.open_rules.specs.declared.parts.Parts.{Parts}
-use Rattle.std.specs.Prelude.{Some}
 
 -- What the call comes to: the parts, and the addresses of the heads that were read; or a refusal.
 pub data Opening : Type 0 where
@@ -32,7 +31,7 @@ module _ (live : Bool) (s : List ℕ) (n : Sizes) where
   abbrev pub taken : {A : Type 0} → Which → Headed → Parts → (Refusal → A) → (Parts → A) → A
   taken which e ps stop next =
       on_outcome (part_read live s n which e.payload.at e.header.size) stop (λ f.
-      next (placed ps which (Some (record { at = e.payload.at; size = e.header.size; rows = (count f) }))))
+      next (placed ps which (found_part e.payload.at e.header.size (count f))))
 
   -- ---- after a seek head
 

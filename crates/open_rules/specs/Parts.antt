@@ -44,6 +44,10 @@ part_of ps Attachments = ps.attachments
 part_of ps Chapters = ps.chapters
 part_of ps Tags = ps.tags
 
+-- A part whose payload is there, with so many rows.
+abbrev pub found_part : (at size rows : ℕ) → Option Part
+found_part at size rows = Some (record { at = at; size = size; rows = rows })
+
 abbrev pub on_part : {A : Type 0} → Option Part → A → (ℕ → ℕ → ℕ → A) → A
 on_part None none some = none
 on_part (Some p) none some = some p.at p.size p.rows

@@ -28,6 +28,7 @@ unfoldable pub tables_of : (live : Bool) → List ℕ → Sizes → Opening → 
 tables_of live s n (read ps heads) = shown live s n ps
 tables_of live s n (refused e) = zeroed n
 
-pub record OpenPromise (live : Bool) (s : List ℕ) (t : Tables) (r : Result (Parts × ℕ) Refusal) (t' : Tables) : Type 0 where
+pub record OpenPromise
+    (live : Bool) (s : List ℕ) (t : Tables) (r : Result (Parts × ℕ) Refusal) (t' : Tables) : Type 0 where
   pub reply : r ≡ reply_of (open_of live s (sizes_of t))
   pub tables : t' ≡ tables_of live s (sizes_of t) (open_of live s (sizes_of t))

@@ -12,7 +12,7 @@ use Rattle.segments_rules.specs.declared.walk.Aim.TheVariants.{One}
 use Rattle.segments_rules.specs.declared.walk.Met.TheVariants.{Head}
 use Rattle.search_rules.specs.Part.{PartPromise}
 use Rattle.search_rules.specs.Part.{parent_of as searched_under}
-use Rattle.open_rules.specs.Parts.{id_of, parent_of, part_of}
+use Rattle.open_rules.specs.Parts.{id_of, parent_of, part_of, found_part}
 use Rattle.open_rules.specs.Tables.{Tables, Sizes, sizes_of, of, zeroed}
 use Rattle.open_rules.specs.Opening.{Opening, read, refused}
 use Rattle.open_rules.specs.Promise.{open_of, OpenPromise}
@@ -26,7 +26,8 @@ use Rattle.search_rules.specs.declared.part.Part.{Part}
 -- promises). The numbers that stood in the lent tables do not matter, only how many there are.
 abbrev pub OneOpen : Type 0
 OneOpen =
-    (live : Bool) (s : List ℕ) (t u : Tables) (r r' : Result (Parts × ℕ) Refusal) (t' u' : Tables) → sizes_of t ≡ sizes_of u
+    (live : Bool) (s : List ℕ) (t u : Tables) (r r' : Result (Parts × ℕ) Refusal) (t' u' : Tables)
+    → sizes_of t ≡ sizes_of u
     → OpenPromise live s t r t' → OpenPromise live s u r' u' → (r ≡ r') × (t' ≡ u')
 
 -- A refusal that the promise permits is one of the list (`Listed`).
@@ -51,7 +52,7 @@ pub record AllZeroed : Type 0 where
 abbrev pub OpenIsRead : Type 0
 OpenIsRead =
     (live : Bool) (s : List ℕ) (t : Tables) (ps : Parts) (k : ℕ) (t' : Tables) → OpenPromise live s t (Ok (ps, k)) t'
-    → (which : Which) (at size rows : ℕ) → part_of ps which ≡ Some (record { at = at; size = size; rows = rows })
+    → (which : Which) (at size rows : ℕ) → part_of ps which ≡ found_part at size rows
     → ReadPromise live s at size (parent_of which) (of t which) (Ok rows) (of t' which)
 
 -- ---- the heads
@@ -95,7 +96,7 @@ pub record OpenFoundBy (live : Bool) (s : List ℕ) (id at size : ℕ) (heads : 
 abbrev pub OpenIsPart : Type 0
 OpenIsPart =
     (live : Bool) (s : List ℕ) (t : Tables) (ps : Parts) (k : ℕ) (t' : Tables) → OpenPromise live s t (Ok (ps, k)) t'
-    → (which : Which) (at size rows : ℕ) → part_of ps which ≡ Some (record { at = at; size = size; rows = rows })
+    → (which : Which) (at size rows : ℕ) → part_of ps which ≡ found_part at size rows
     → OpenFoundBy live s (id_of which) at size (heads_of (open_of live s (sizes_of t)))
 
 -- ---- beside the search

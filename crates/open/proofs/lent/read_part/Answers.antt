@@ -32,7 +32,8 @@ returns-in-Tracks c =
 
 pub returns-in-Attachments : goal.returns-in-Attachments
 returns-in-Attachments c =
-    into_attachments _ _ _ _ _ _ c.parent-parent.ensures _ _ _ _ _ _ _ c.in-Attachments.is c.read_again-in-Attachments.ensures
+    into_attachments _ _ _ _ _ _ c.parent-parent.ensures _ _ _ _ _ _ _ c.in-Attachments.is
+    c.read_again-in-Attachments.ensures
 
 pub returns-in-Chapters : goal.returns-in-Chapters
 returns-in-Chapters c =

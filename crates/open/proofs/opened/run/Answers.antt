@@ -16,7 +16,7 @@ loop-heads-init c =
 
 pub loop-heads-preserved : goal.loop-heads-preserved
 loop-heads-preserved c =
-    run_again _ _ _ _ _ _ c.loop-heads.invariant _ c.turn.ensures _ _ _ (c.in_ok-heads.was ∙ ap Ok c.in-Read.is) _ _ c.read_part.ensures _
-    c.in_ok-rows-in-Read.was _ c.set.ensures
+    run_again _ _ _ _ _ _ c.loop-heads.invariant _ c.turn.ensures _ _ _ (c.in_ok-heads.was ∙ ap Ok c.in-Read.is)
+    _ _ c.read_part.ensures _ c.in_ok-rows-in-Read.was _ c.set.ensures
     (each_same c.read_part.auto.info c.read_part.auto.tracks c.read_part.auto.attachments c.read_part.auto.chapters
     c.read_part.auto.tags)

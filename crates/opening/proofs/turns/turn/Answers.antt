@@ -4,8 +4,8 @@ use Rattle.opening.proofs.turns.turn.Goals as goal
 
 pub returns-in_ok-next-in-Behind : goal.returns-in_ok-next-in-Behind
 returns-in_ok-next-in-Behind c =
-    turn_on _ _ _ _ _ _ c.in-Behind.is _ c.stretch_of-stretch.ensures _ c.past_child.ensures _ c.in_ok-next-in-Behind.was
-    c.next_met-in-Behind.ensures
+    turn_on _ _ _ _ _ _ c.in-Behind.is _ c.stretch_of-stretch.ensures _ c.past_child.ensures _
+    c.in_ok-next-in-Behind.was c.next_met-in-Behind.ensures
 
 pub returns-in-Sought : goal.returns-in-Sought
 returns-in-Sought c =
