@@ -51,7 +51,7 @@ fn tell(rt: HostRuntime, line: &[u8]) {
     let _ = rt.stderr().write_all(line);
 }
 
-// Whether the program has an argument of that number. The first byte of a longer one is all that the room has place for.
+// Whether the program has an argument of that number. The room has place for no more than its first byte.
 fn is_there(rt: HostRuntime, number: usize) -> bool {
     let mut word = [0u8; 1];
     !matches!(rt.arg(number, &mut word), Err(FillError::NotPresent))
