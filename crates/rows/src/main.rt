@@ -18,6 +18,7 @@ fn read_recording(from: Stdin, room: &mut [u8]) -> io::Result<usize>
     ensures { IfOk result (λ held. held ≤ length room.new) }
 {
     let mut held: usize = 0;
+    // A `while`: how much a read brings is not known before it.
     while held < room.len() {
         let Some(n) = read_more(from, room, held)? else {
             break;
