@@ -81,6 +81,7 @@ fn answer_lines(rt: HostRuntime, read: &[u8], old: usize) -> Option<usize>
     let mut out = Out::new(rt.stdout());
     let mut from = 0;
     let mut seen = old;
+    // A `while`: a split would search the bytes before `old` again at each read.
     while let Some(end) = words::find(read, seen, b'\n') {
         answer(&read[from..end], &mut rooms, &mut out);
         from = end + 1;

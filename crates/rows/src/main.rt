@@ -18,6 +18,7 @@ fn read_recording(from: Stdin, room: &mut [u8]) -> io::Result<usize>
     ensures { IfOk result (λ held. held ≤ length room.new) }
 {
     let mut held: usize = 0;
+    // A `while`: how much a read brings is not known before it.
     while held < room.len() {
         let Some(n) = read_more(from, room, held)? else {
             break;
@@ -51,7 +52,7 @@ fn tell(rt: HostRuntime, line: &[u8]) {
     let _ = rt.stderr().write_all(line);
 }
 
-// Whether the program has an argument of that number. The first byte of a longer one is all that the room has place for.
+// Whether the program has an argument of that number. The room has place for no more than its first byte.
 fn is_there(rt: HostRuntime, number: usize) -> bool {
     let mut word = [0u8; 1];
     !matches!(rt.arg(number, &mut word), Err(FillError::NotPresent))
