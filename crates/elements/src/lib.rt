@@ -8,6 +8,6 @@ mod element;
 mod reply;
 mod step;
 
-pub use element::master_body;
+pub use element::{DEPTHS, master_body};
 pub use reply::{fill, read, read_again};
 pub use step::element_header;

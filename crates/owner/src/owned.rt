@@ -9,8 +9,8 @@ ghost use Rattle.owner_rules.specs.Promise.{OwnerPromise, ChainPromise};
 ghost use Rattle.owner_rules.specs.Contract.{WalkMet};
 
 use crate::chain::keep_link;
-use elements::element_header;
-use header::{Cursor, MOST_BYTES};
+use elements::{DEPTHS, element_header};
+use header::{Cursor, is_place};
 use kind_decision::kind_of;
 use kinds::MASTER;
 use owner_rules::Owner;
@@ -18,21 +18,11 @@ use places::is_within;
 use refusals::{Cause, Refusal};
 use rowstore::clear;
 
-// Elements have the depths 0 to 15, and a chain has one link for each.
-const DEPTHS: u64 = 16;
-
-// Whether the recording, the start and so many links are allowed.
+// Whether the recording, the start and so many links are allowed; a chain has one link for each depth.
 fn is_asked(recording: &[u8], start: u64, links: usize) -> bool
     ensures { result ≡ (allowed recording.now start 0 && leb links most_links) }
 {
-    let length = recording.len() as u64;
-    if MOST_BYTES < length {
-        return false;
-    }
-    if length < start {
-        return false;
-    }
-    links as u64 <= DEPTHS
+    is_place(recording, start) && links as u64 <= DEPTHS
 }
 
 // The walk to the element that holds the address, which is in the payload. At each header: the header, 17 in live mode,
@@ -56,58 +46,44 @@ fn walk(
     let mut left = size;
     let mut above = parent;
     let mut depth: u64 = 0;
+    // A `while`: how far a turn goes on is what the header tells.
     while left > 0 {
         let here = place.at;
-        match element_header(recording, live, place) {
-            Err(refusal) => {
-                return Err(refusal);
+        let headed = element_header(recording, live, place)?;
+        if depth >= DEPTHS {
+            return Err(Cause::TooDeep.at(here));
+        }
+        let whole = headed.header.length + headed.header.size;
+        if whole > left {
+            return Err(Cause::Overrun.at(here));
+        }
+        let past = address - here;
+        if past < whole {
+            keep_link(chain, depth, here);
+            if past < headed.header.length {
+                return Ok(Owner::Header {
+                    address: here,
+                    depth,
+                });
             }
-            Ok(headed) => {
-                if depth >= DEPTHS {
-                    return Err(Refusal {
-                        address: here,
-                        cause: Cause::TooDeep,
-                    });
-                }
-                let whole = headed.header.length + headed.header.size;
-                if whole > left {
-                    return Err(Refusal {
-                        address: here,
-                        cause: Cause::Overrun,
-                    });
-                }
-                let past = address - here;
-                if past < whole {
-                    keep_link(chain, depth, here);
-                    if past < headed.header.length {
-                        return Ok(Owner::Header {
-                            address: here,
-                            depth,
-                        });
-                    }
-                    let id = headed.header.id;
-                    if kind_of(id, above).number() != MASTER {
-                        return Ok(Owner::Payload {
-                            address: here,
-                            depth,
-                        });
-                    }
-                    place = headed.payload;
-                    left = headed.header.size;
-                    above = id;
-                    depth += 1;
-                } else {
-                    place = Cursor { at: here + whole };
-                    left -= whole;
-                }
+            let id = headed.header.id;
+            if kind_of(id, above).number() != MASTER {
+                return Ok(Owner::Payload {
+                    address: here,
+                    depth,
+                });
             }
+            place = headed.payload;
+            left = headed.header.size;
+            above = id;
+            depth += 1;
+        } else {
+            place = Cursor { at: here + whole };
+            left -= whole;
         }
     }
     // Not reached: something is left while the address is ahead.
-    Err(Refusal {
-        address: 0,
-        cause: Cause::Outside,
-    })
+    Err(Cause::Outside.at(0))
 }
 
 // The element that holds an address of the payload of `size` bytes from `start` on, under a parent id; in live mode,
@@ -129,16 +105,10 @@ pub fn owner_chain(
 {
     clear(chain);
     if !is_asked(recording, start, chain.len()) {
-        return Err(Refusal {
-            address: 0,
-            cause: Cause::BadArgument,
-        });
+        return Err(Cause::BadArgument.at(0));
     }
     if !is_within(start, size, address) {
-        return Err(Refusal {
-            address: 0,
-            cause: Cause::Outside,
-        });
+        return Err(Cause::Outside.at(0));
     }
     let reply = walk(recording, live, start, size, parent, address, chain);
     if let Err(_) = reply {

@@ -2,18 +2,18 @@
 use Prim.Native.Nat.{ℕ, ◌≤◌, ◌<◌}
 use mathlib.Core.Path.{◌≡◌, refl, sym, ap, ◌∙◌, subst}
 use mathlib.Core.List.{List}
-use mathlib.Core.Bool.{Bool, true, false, ◌&&◌, not}
+use mathlib.Core.Bool.{Bool, true, false, ◌&&◌}
 use native.Mathlib.Omega.{arith}
 use lib.ListN.{length}
 use lib.Dec.{leb}
-use borrow.Author.Tests.{le-leb, lt-leb, le-ltb, lt-ltb, leb-true, leb-false}
+use borrow.Author.Tests.{le-ltb, lt-ltb, leb-true, leb-false}
 use Rattle.refusals.specs.Refusals.{bad_argument, outside}
 use Rattle.refusals.specs.Reply.{Reply, accepted, refusal}
 use Rattle.refusals.specs.declared.refusal.Refusal.{Refusal}
 use Rattle.header.specs.Promise.{most_bytes}
 use Rattle.elements_rules.specs.Holds.{within}
-use Rattle.elements_rules.specs.Promise.{allowed, zeros}
-use Rattle.elements_rules.proofs.Limits.{too_long, by_start}
+use Rattle.elements_rules.specs.Promise.{is_table, allowed, zeros}
+use Rattle.elements_rules.proofs.Limits.{by_table, no_place}
 use Rattle.elements_rules.proofs.Limits as limits
 use Rattle.owner_rules.specs.Owner.{Side, header, payload, Owned, most_links, owner_at, owner_of, chain_of}
 use Rattle.owner_rules.specs.Promise.{owner_is, owner_reply, links_of, OwnerPromise, ChainPromise}
@@ -24,19 +24,15 @@ use Rattle.owner_rules.specs.declared.owner.Owner.{Owner}
 -- ---- the limits of the arguments
 
 module _ (s : List ℕ) (start links : ℕ) where
-  pub asked_too_long : most_bytes < length s → false ≡ (allowed s start 0 && leb links most_links)
-  asked_too_long l = rw (sym (too_long s start 0 l))
+  -- Without a table the place alone is left to test.
+  pub asked_place : (leb (length s) most_bytes && leb start (length s)) ≡ true
+      → leb links most_links ≡ (allowed s start 0 && leb links most_links)
+  unfolding is_table
+  asked_place q = rw (← by_table s start 0 q)
 
-  module _ (l : length s ≤ most_bytes) where
-    -- Without a table the start alone is left to test.
-    start_allowed : leb start (length s) ≡ allowed s start 0
-    start_allowed = by_start s start 0 l refl (omega arith)
-
-    pub asked_past_end : length s < start → false ≡ (allowed s start 0 && leb links most_links)
-    asked_past_end p = rw (sym start_allowed, lt-leb start (length s) p)
-
-    pub asked_links : start ≤ length s → leb links most_links ≡ (allowed s start 0 && leb links most_links)
-    asked_links p = rw (sym start_allowed, le-leb start (length s) p)
+  pub asked_none : (leb (length s) most_bytes && leb start (length s)) ≡ false
+      → (leb (length s) most_bytes && leb start (length s)) ≡ (allowed s start 0 && leb links most_links)
+  asked_none q = rw (← no_place s start 0 q, q)
 
 pub first_true : (a b : Bool) → (a && b) ≡ true → a ≡ true
 first_true true b q = refl

@@ -1,6 +1,6 @@
-// The reply of `whose_byte`.
+// What `whose_byte` tells.
 
-// The row that holds the address by its header or by its payload, and how many rows there are; or a refusal.
+// The row that holds the address by its header or by its payload, and how many rows there are.
 #[derive(Clone, Copy)]
 pub enum WhoseRow {
     Header { row: u64, rows: u64 },

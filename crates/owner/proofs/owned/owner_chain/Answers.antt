@@ -8,13 +8,13 @@ use Rattle.owner.proofs.owned.owner_chain.Goals as goal
 pub returns-then-not-is_asked : goal.returns-then-not-is_asked
 returns-then-not-is_asked c =
     let a = sym (c.is_asked.ensures ∙ asked_same _ _ c.clear.auto.table) ∙ c.if-not-is_asked.true in
-    asked_broken _ _ _ _ _ _ _ _ a c.clear.ensures
+    rw c.at.ensures (asked_broken _ _ _ _ _ _ _ _ a c.clear.ensures)
 
 pub returns-then-not-is_within : goal.returns-then-not-is_within
 returns-then-not-is_within c =
     let a = sym (c.is_asked.ensures ∙ asked_same _ _ c.clear.auto.table) ∙ c.if-not-is_asked.false in
     let w = sym c.is_within.ensures ∙ c.if-not-is_within.true in
-    asked_outside _ _ _ _ _ _ _ _ a w c.clear.ensures
+    rw c.at-then-not-is_within.ensures (asked_outside _ _ _ _ _ _ _ _ a w c.clear.ensures)
 
 pub walk-reply-requires : goal.walk-reply-requires
 walk-reply-requires c =
