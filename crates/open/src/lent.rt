@@ -1,32 +1,25 @@
 // The five lent tables: all of them are cleared, one of them is read into.
 ghost use Rattle.std.specs.Prelude.{◌≡◌};
-ghost use Rattle.open_rules.specs.Tables.{five, sizes_of, of, zeroed};
+ghost use Rattle.open_rules.specs.Tables.{sizes_of, of, zeroed, lent, SameLent};
 ghost use Rattle.elements_rules.specs.Contract.{ClearFrom};
 ghost use Rattle.open_rules.specs.Contract.{ReadInto};
 
 use elements::read_again;
 use header::Headed;
-use open_rules::Which;
+use open_rules::{Lent, Which};
 use refusals::Refusal;
 use rowstore::clear;
 
 // Fills all five with zeros.
-pub fn clear_all(
-    info: &mut [u64],
-    tracks: &mut [u64],
-    attachments: &mut [u64],
-    chapters: &mut [u64],
-    tags: &mut [u64],
-)
-    ensures { five info.new tracks.new attachments.new chapters.new
-        tags.new ≡ zeroed (sizes_of (five info.old tracks.old
-        attachments.old chapters.old tags.old)) }
+pub fn clear_all(tables: &mut Lent)
+    ensures same { SameLent tables.new tables.old }
+    ensures cleared { lent tables.new ≡ zeroed (sizes_of (lent tables.old)) }
 {
-    clear(info);
-    clear(tracks);
-    clear(attachments);
-    clear(chapters);
-    clear(tags);
+    clear(tables.info);
+    clear(tables.tracks);
+    clear(tables.attachments);
+    clear(tables.chapters);
+    clear(tables.tags);
 }
 
 // The public read of a part's payload into its table, under the part's parent id. The table has zeros alone behind the
@@ -37,28 +30,28 @@ pub fn read_part(
     which: Which,
     part: Headed,
     rows: u64,
-    info: &mut [u64],
-    tracks: &mut [u64],
-    attachments: &mut [u64],
-    chapters: &mut [u64],
-    tags: &mut [u64],
+    tables: &mut Lent,
 ) -> Result<u64, Refusal>
-    requires { ClearFrom rows (of (five info.old tracks.old attachments.old chapters.old tags.old)
-        which) }
-    ensures { ReadInto live recording.now which part.payload.at part.header.size
-        (five info.old tracks.old attachments.old chapters.old
-        tags.old) result
-        (five info.new tracks.new attachments.new chapters.new
-        tags.new) }
+    requires { ClearFrom rows (of (lent tables.old) which) }
+    ensures same { SameLent tables.new tables.old }
+    ensures reads { ReadInto live recording.now which part.payload.at part.header.size (lent tables.old) result (lent tables.new) }
 {
     let at = part.payload.at;
     let size = part.header.size;
     let parent = which.parent();
     match which {
-        Which::Info => read_again(recording, live, at, size, parent, rows, info),
-        Which::Tracks => read_again(recording, live, at, size, parent, rows, tracks),
-        Which::Attachments => read_again(recording, live, at, size, parent, rows, attachments),
-        Which::Chapters => read_again(recording, live, at, size, parent, rows, chapters),
-        Which::Tags => read_again(recording, live, at, size, parent, rows, tags),
+        Which::Info => read_again(recording, live, at, size, parent, rows, tables.info),
+        Which::Tracks => read_again(recording, live, at, size, parent, rows, tables.tracks),
+        Which::Attachments => read_again(
+            recording,
+            live,
+            at,
+            size,
+            parent,
+            rows,
+            tables.attachments,
+        ),
+        Which::Chapters => read_again(recording, live, at, size, parent, rows, tables.chapters),
+        Which::Tags => read_again(recording, live, at, size, parent, rows, tables.tags),
     }
 }

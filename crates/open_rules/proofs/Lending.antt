@@ -17,11 +17,12 @@ use Rattle.elements_rules.specs.Contract.{ClearFrom}
 use Rattle.elements_rules.proofs.Forests.{length_rows}
 use Rattle.elements_rules.proofs.Tables.{zeros_clear, rows_clear}
 use Rattle.open_rules.specs.Parts.{parent_of, no_parts, part_of, placed, found_part}
-use Rattle.open_rules.specs.Tables.{Tables, Sizes, five, sizes_of, of, put, zeroed, part_read, shown}
+use Rattle.open_rules.specs.Tables.{SameLent, Tables, Sizes, five, sizes_of, of, put, zeroed, part_read, shown}
 use Rattle.open_rules.specs.Opening.{Opening, read, refused}
 use Rattle.open_rules.specs.Promise.{open_of, reply_of, tables_of, OpenPromise}
 use Rattle.open_rules.specs.Contract.{Ready, left_of, Stands, ReadsNext, Turns, TurnsFrom, ReadInto}
 use Rattle.open_rules.specs.Contract.{rows_known, ClearBehind, Begins, Ran}
+use Rattle.open_rules.specs.declared.lent.Lent.{Lent}
 use Rattle.open_rules.specs.declared.parts.Which.{Which}
 use Rattle.open_rules.specs.declared.parts.Which.TheVariants.{Info, Tracks, Attachments, Chapters, Tags}
 use Rattle.open_rules.specs.declared.parts.Parts.{Parts}
@@ -39,6 +40,17 @@ pub each_same :
     {A : Type 0} {a b c d e a' b' c' d' e' : A} → a' ≡ a → b' ≡ b → c' ≡ c → d' ≡ d → e' ≡ e
     → five a' b' c' d' e' ≡ five a b c d e
 each_same p q r s t = rw (p, q, r, s, t) refl
+
+-- Tables that are still the same ones of those that are still the same.
+pub same_again : (a b c : Lent) → SameLent c b → SameLent b a → SameLent c a
+same_again a b c x y = record {
+  info = x.info ∙ y.info;
+  tracks = x.tracks ∙ y.tracks;
+  attachments = x.attachments ∙ y.attachments;
+  chapters = x.chapters ∙ y.chapters;
+  tags = x.tags ∙ y.tags;
+  sizes = x.sizes ∙ y.sizes;
+}
 
 -- ---- one of them is read into
 
@@ -319,3 +331,8 @@ module _ (live : Bool) (s : List ℕ) (t t₁ t₂ : Tables) (k : t₁ ≡ zeroe
           g.tables qs hs (ap (open_of live s) same ∙ v) ∙ ap (λ (m : Sizes). shown live s m qs) same
           ∙ rw v refl
       by (refused e') v w = let z : ◌≡◌ {A = ℕ} 0 1 = cc in absurd (omega arith)
+
+-- What the tables are in the end is what the caller finds in them.
+pub open_ends : (live : Bool) (s : List ℕ) (t : Tables) (r : Result (Parts × ℕ) Refusal) (t' : Tables)
+    → OpenPromise live s t r t' → (u : Tables) → u ≡ t' → OpenPromise live s t r u
+open_ends live s t r t' p u q = record { reply = p.reply; tables = q ∙ p.tables }

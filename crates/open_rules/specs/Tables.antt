@@ -1,10 +1,11 @@
 -- Five lent tables, how many numbers they have, and what they show of the parts.
-use Rattle.std.specs.Prelude.{ℕ, List, Bool, length}
+use Rattle.std.specs.Prelude.{ℕ, ◌≡◌, List, Bool, length}
 use Rattle.elements_rules.specs.Reading.{Outcome}
 use Rattle.elements_rules.specs.Promise.{read_of, zeros, table_of}
 use Rattle.open_rules.specs.Parts.{parent_of, on_part}
 use Rattle.open_rules.specs.declared.parts.Which.{Which}
 use Rattle.open_rules.specs.declared.parts.Which.TheVariants.{Info, Tracks, Attachments, Chapters, Tags}
+use Rattle.open_rules.specs.declared.lent.Lent.{Lent}
 use Rattle.open_rules.specs.declared.parts.Parts.{Parts}
 use Rattle.std.specs.Prelude.{Option}
 use Rattle.search_rules.specs.declared.part.Part.{Part}
@@ -27,9 +28,22 @@ Sizes = Five ℕ
 abbrev pub five : {A : Type 0} → A → A → A → A → A → Five A
 five a b c d e = record { info = a; tracks = b; attachments = c; chapters = d; tags = e }
 
+-- What the numbers of five lent tables are.
+abbrev pub lent : Lent → Tables
+lent l = five l.info.now l.tracks.now l.attachments.now l.chapters.now l.tags.now
+
 abbrev pub sizes_of : Tables → Sizes
 sizes_of t =
     five (length t.info) (length t.tracks) (length t.attachments) (length t.chapters) (length t.tags)
+
+-- They are still the same tables.
+pub record SameLent (new old : Lent) : Type 0 where
+  pub info : new.info.ghost_name ≡ old.info.ghost_name
+  pub tracks : new.tracks.ghost_name ≡ old.tracks.ghost_name
+  pub attachments : new.attachments.ghost_name ≡ old.attachments.ghost_name
+  pub chapters : new.chapters.ghost_name ≡ old.chapters.ghost_name
+  pub tags : new.tags.ghost_name ≡ old.tags.ghost_name
+  pub sizes : sizes_of (lent new) ≡ sizes_of (lent old)
 
 abbrev pub of : {A : Type 0} → Five A → Which → A
 of t Info = t.info

@@ -2,8 +2,10 @@
 // theorems.
 #![tactic(auto)]
 
+mod lent;
 mod parts;
 mod turns;
 
+pub use lent::Lent;
 pub use parts::{Parts, Which};
 pub use turns::{Seeking, Stage, Turn};

@@ -1,50 +1,31 @@
 // The start of `open`: the lengths, and the segment.
-ghost use Rattle.std.specs.Prelude.{◌≡◌, length};
-ghost use Rattle.open_rules.specs.Tables.{five};
+ghost use Rattle.std.specs.Prelude.{◌≡◌};
+ghost use Rattle.open_rules.specs.Tables.{sizes_of, lent};
 ghost use Rattle.open_rules.specs.Promise.{are_allowed};
 ghost use Rattle.open_rules.specs.Contract.{Begins};
 
-use open_rules::Stage;
+use open_rules::{Lent, Stage};
 use refusals::{Cause, Refusal};
 use rowstore::is_allowed;
 use segments::segment_of;
 
 // Whether the recording and each table are within their limits.
 #[tactic(auto, unfolding(open_rules::specs::Promise::are_allowed))]
-fn are_allowed(
-    recording: &[u8],
-    info: &[u64],
-    tracks: &[u64],
-    attachments: &[u64],
-    chapters: &[u64],
-    tags: &[u64],
-) -> bool
-    ensures { result ≡ are_allowed recording.now (five (length info.now)
-        (length tracks.now) (length attachments.now) (length chapters.now)
-        (length tags.now)) }
+fn are_allowed(recording: &[u8], tables: &Lent) -> bool
+    ensures { result ≡ are_allowed recording.now (sizes_of (lent tables.now)) }
 {
-    is_allowed(recording, 0, info)
-        && is_allowed(recording, 0, tracks)
-        && is_allowed(recording, 0, attachments)
-        && is_allowed(recording, 0, chapters)
-        && is_allowed(recording, 0, tags)
+    is_allowed(recording, 0, tables.info)
+        && is_allowed(recording, 0, tables.tracks)
+        && is_allowed(recording, 0, tables.attachments)
+        && is_allowed(recording, 0, tables.chapters)
+        && is_allowed(recording, 0, tables.tags)
 }
 
 // Where `open` stands first: 14 for a length, then at the segment's first child.
-pub fn begin(
-    recording: &[u8],
-    live: bool,
-    info: &[u64],
-    tracks: &[u64],
-    attachments: &[u64],
-    chapters: &[u64],
-    tags: &[u64],
-) -> Result<Stage, Refusal>
-    ensures { Begins live recording.now (five (length info.now)
-        (length tracks.now) (length attachments.now) (length chapters.now)
-        (length tags.now)) result }
+pub fn begin(recording: &[u8], live: bool, tables: &Lent) -> Result<Stage, Refusal>
+    ensures { Begins live recording.now (sizes_of (lent tables.now)) result }
 {
-    if !are_allowed(recording, info, tracks, attachments, chapters, tags) {
+    if !are_allowed(recording, tables) {
         return Err(Refusal {
             address: 0,
             cause: Cause::BadArgument,

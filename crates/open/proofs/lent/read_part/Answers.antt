@@ -22,23 +22,23 @@ pub read_again-requires-in-Tags : goal.read_again-requires-in-Tags
 read_again-requires-in-Tags c =
     rw c.in-Tags.is at c.requires
 
-pub returns-in-Info : goal.returns-in-Info
-returns-in-Info c =
+pub returns-in-Info-clause-reads : goal.returns-in-Info-clause-reads
+returns-in-Info-clause-reads c =
     into_info _ _ _ _ _ _ c.parent-parent.ensures _ _ _ _ _ _ _ c.in-Info.is c.read_again.ensures
 
-pub returns-in-Tracks : goal.returns-in-Tracks
-returns-in-Tracks c =
+pub returns-in-Tracks-clause-reads : goal.returns-in-Tracks-clause-reads
+returns-in-Tracks-clause-reads c =
     into_tracks _ _ _ _ _ _ c.parent-parent.ensures _ _ _ _ _ _ _ c.in-Tracks.is c.read_again-in-Tracks.ensures
 
-pub returns-in-Attachments : goal.returns-in-Attachments
-returns-in-Attachments c =
+pub returns-in-Attachments-clause-reads : goal.returns-in-Attachments-clause-reads
+returns-in-Attachments-clause-reads c =
     into_attachments _ _ _ _ _ _ c.parent-parent.ensures _ _ _ _ _ _ _ c.in-Attachments.is
     c.read_again-in-Attachments.ensures
 
-pub returns-in-Chapters : goal.returns-in-Chapters
-returns-in-Chapters c =
+pub returns-in-Chapters-clause-reads : goal.returns-in-Chapters-clause-reads
+returns-in-Chapters-clause-reads c =
     into_chapters _ _ _ _ _ _ c.parent-parent.ensures _ _ _ _ _ _ _ c.in-Chapters.is c.read_again-in-Chapters.ensures
 
-pub returns-in-Tags : goal.returns-in-Tags
-returns-in-Tags c =
+pub returns-in-Tags-clause-reads : goal.returns-in-Tags-clause-reads
+returns-in-Tags-clause-reads c =
     into_tags _ _ _ _ _ _ c.parent-parent.ensures _ _ _ _ _ _ _ c.in-Tags.is c.read_again-in-Tags.ensures
