@@ -43,8 +43,8 @@ pub fn open(line: &[u8], live: bool, rooms: &mut Rooms, out: &mut Out) {
     }
 }
 
-// `heads H` and the parts, or the refusal. The call is lent the parts of the rooms that the words filled; the tables stand
-// apart, as `open` takes them.
+// `heads H` and the parts, or the refusal. The call is lent the parts of the rooms that the words filled; the tables
+// stand apart, as `open` takes them.
 fn put_open(
     asked: AskedOpen,
     recording: &[u8],
