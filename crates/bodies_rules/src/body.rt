@@ -19,7 +19,7 @@ pub enum Value {
     Bytes(Range),
 }
 
-// A value, or it is a master.
+// A value, or it is a master: that is a body too, so this is no Option.
 #[derive(Clone, Copy)]
 pub enum Body {
     Value(Value),

@@ -1,6 +1,6 @@
 // A row, and how elements are read.
 
-// An element in the table.
+// An element in the table. Its fields are numbers of 64 bits, since C reads the table as such (include/uzrafmed.h).
 #[derive(Clone, Copy)]
 pub struct Row {
     pub id: u64,

@@ -1,7 +1,8 @@
 // What a walk over the children of the segment looks for, and what it meets.
 use header::Headed;
 
-// The parts that a walk looks for: one by its id, or every part of the recording.
+// The parts that a walk looks for: one by its id, or every part of the recording. To look for every part is no missing
+// id, so this is no Option.
 #[derive(Clone, Copy)]
 pub enum Aim {
     One(u32),
