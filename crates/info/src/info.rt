@@ -1,14 +1,11 @@
 // Info: its fields, and the question for record 0, the only one.
 ghost use Rattle.std.specs.Prelude.{◌≡◌};
-ghost use Rattle.fields_rules.specs.Children.{rows_in};
-ghost use Rattle.fields_rules.specs.Contract.{Readable};
+ghost use Rattle.fields.specs.Read.{read};
 ghost use Rattle.info_rules.specs.Records.{info_of};
 ghost use Rattle.info_rules.specs.Told.{info_values};
 ghost use Rattle.info_rules.specs.Promise.{InfoPromise};
 
-use children::count_children;
-use fields::{content_field, date_field, number_field, real_field};
-use fields_rules::Below;
+use fields::Fields;
 use info_rules::Info;
 use kinds::{Kind, ids};
 use locate::locate;
@@ -16,22 +13,20 @@ use locate_rules::{Step, Way};
 use refusals::Refusal;
 
 // The record, by the rows below its master.
-pub fn info_in(recording: &[u8], table: &[u64], master: Below) -> Info
-    requires { Readable recording.now table.now master }
-    ensures { info_values result ≡ info_of recording.now
-        master.parent (rows_in table.now master) }
+pub fn info_in(fields: &Fields) -> Info
+    ensures { info_values result ≡ read info_of fields.now }
 {
     Info {
-        uid: content_field(recording, table, master, ids::SEGMENTUID, Kind::Binary),
-        prev_uid: content_field(recording, table, master, ids::PREVUID, Kind::Binary),
-        next_uid: content_field(recording, table, master, ids::NEXTUID, Kind::Binary),
-        families: count_children(table, master, ids::SEGMENTFAMILY, Kind::Binary),
-        title: content_field(recording, table, master, ids::TITLE, Kind::Utf8),
-        duration: real_field(recording, table, master, ids::DURATION),
-        timestamp_scale: number_field(recording, table, master, ids::TIMECODESCALE),
-        date_utc: date_field(recording, table, master, ids::DATEUTC),
-        muxing_app: content_field(recording, table, master, ids::MUXINGAPP, Kind::Utf8),
-        writing_app: content_field(recording, table, master, ids::WRITINGAPP, Kind::Utf8),
+        uid: fields.content(ids::SEGMENTUID, Kind::Binary),
+        prev_uid: fields.content(ids::PREVUID, Kind::Binary),
+        next_uid: fields.content(ids::NEXTUID, Kind::Binary),
+        families: fields.count(ids::SEGMENTFAMILY, Kind::Binary),
+        title: fields.content(ids::TITLE, Kind::Utf8),
+        duration: fields.real(ids::DURATION),
+        timestamp_scale: fields.number(ids::TIMECODESCALE),
+        date_utc: fields.date(ids::DATEUTC),
+        muxing_app: fields.content(ids::MUXINGAPP, Kind::Utf8),
+        writing_app: fields.content(ids::WRITINGAPP, Kind::Utf8),
     }
 }
 
@@ -52,8 +47,11 @@ pub fn info_at(
         second: Step::Here,
         third: Step::Here,
     };
-    match locate(recording, live, start, size, ids::INFO, way, table) {
-        Err(refusal) => Err(refusal),
-        Ok((master, rows)) => Ok((info_in(recording, table, master), rows as u64)),
-    }
+    let (master, rows) = locate(recording, live, start, size, ids::INFO, way, table)?;
+    let fields = Fields {
+        recording,
+        table,
+        master,
+    };
+    Ok((info_in(&fields), rows as u64))
 }

@@ -2,20 +2,11 @@
 use Prim.Native.Nat.{ℕ}
 use mathlib.Core.Path.{◌≡◌, ap}
 use mathlib.Core.List.{List, ◌∷◌}
-use lib.ListN.{length, drop, get_or}
-use Rattle.kinds.specs.declared.kind.Kind.{Kind}
-use Rattle.elements_rules.specs.declared.row.Row.{Row}
-use Rattle.fields_rules.specs.Children.{children}
-use Rattle.fields_rules.specs.Values.{FieldValue, unset, count}
-use Rattle.fields_rules.specs.Fields.{count_of}
+use lib.ListN.{drop, get_or}
+use Rattle.fields_rules.specs.Values.{FieldValue, unset}
 
 pub then : {a b : FieldValue} {l m : List FieldValue} → a ≡ b → l ≡ m → a ∷ l ≡ b ∷ m
 then {a} {b} {l} {m} p q = rw (p, q)
-
-pub counted : (s : List ℕ) (parent : ℕ) (below : List Row) (id : ℕ) (kind : Kind) (n : ℕ)
-    → n ≡ length (children parent id kind below) → count n ≡ count_of s parent below id kind
-unfolding count_of
-counted s parent below id kind n e = ap count e
 
 -- And one by its number; those behind it.
 pub told_at : {l m : List FieldValue} (k : ℕ) → l ≡ m → get_or l k unset ≡ get_or m k unset

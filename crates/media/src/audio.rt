@@ -1,13 +1,11 @@
 // The settings of an audio track: its fields, and the question for record 0, the only one.
 ghost use Rattle.std.specs.Prelude.{◌≡◌};
-ghost use Rattle.fields_rules.specs.Children.{rows_in};
-ghost use Rattle.fields_rules.specs.Contract.{Readable};
+ghost use Rattle.fields.specs.Read.{read};
 ghost use Rattle.media_rules.specs.Records.{audio_of};
 ghost use Rattle.media_rules.specs.Told.{audio_values};
 ghost use Rattle.media_rules.specs.Promise.{AudioPromise};
 
-use fields::{number_field, real_field};
-use fields_rules::Below;
+use fields::Fields;
 use kinds::ids;
 use locate::locate;
 use locate_rules::{Step, Way};
@@ -15,15 +13,13 @@ use media_rules::Audio;
 use refusals::Refusal;
 
 // The audio settings, by the rows below their master.
-pub fn audio_in(recording: &[u8], table: &[u64], master: Below) -> Audio
-    requires { Readable recording.now table.now master }
-    ensures { audio_values result ≡ audio_of recording.now
-        master.parent (rows_in table.now master) }
+pub fn audio_in(fields: &Fields) -> Audio
+    ensures { audio_values result ≡ read audio_of fields.now }
 {
     Audio {
-        sample_rate: real_field(recording, table, master, ids::SAMPLINGFREQUENCY),
-        channels: number_field(recording, table, master, ids::CHANNELS),
-        bit_depth: number_field(recording, table, master, ids::BITDEPTH),
+        sample_rate: fields.real(ids::SAMPLINGFREQUENCY),
+        channels: fields.number(ids::CHANNELS),
+        bit_depth: fields.number(ids::BITDEPTH),
     }
 }
 
@@ -44,8 +40,11 @@ pub fn audio_at(
         second: Step::Here,
         third: Step::Here,
     };
-    match locate(recording, live, start, size, ids::AUDIO, way, table) {
-        Err(refusal) => Err(refusal),
-        Ok((master, rows)) => Ok((audio_in(recording, table, master), rows as u64)),
-    }
+    let (master, rows) = locate(recording, live, start, size, ids::AUDIO, way, table)?;
+    let fields = Fields {
+        recording,
+        table,
+        master,
+    };
+    Ok((audio_in(&fields), rows as u64))
 }

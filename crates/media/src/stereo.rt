@@ -34,8 +34,5 @@ fn mode_of(number: u64) -> Option<StereoMode>
 pub fn stereo_of(number: Option<u64>) -> Option<StereoMode>
     ensures { stereo_told result ≡ said stereo number }
 {
-    match number {
-        None => None,
-        Some(n) => mode_of(n),
-    }
+    mode_of(number?)
 }

@@ -1,13 +1,11 @@
 // A simple tag: its fields, and the question for the i-th of a tag.
 ghost use Rattle.std.specs.Prelude.{◌≡◌};
-ghost use Rattle.fields_rules.specs.Children.{rows_in};
-ghost use Rattle.fields_rules.specs.Contract.{Readable};
+ghost use Rattle.fields.specs.Read.{read};
 ghost use Rattle.tags_rules.specs.Records.{simple_of};
 ghost use Rattle.tags_rules.specs.Told.{simple_values};
 ghost use Rattle.tags_rules.specs.Promise.{SimplePromise};
 
-use fields::{content_field, flag_field, language_field, value_field};
-use fields_rules::Below;
+use fields::Fields;
 use kinds::{Kind, ids};
 use locate::locate;
 use locate_rules::{Step, Way};
@@ -15,22 +13,16 @@ use refusals::Refusal;
 use tags_rules::SimpleTag;
 
 // The simple tag, by the rows below its master.
-pub fn simple_tag_in(recording: &[u8], table: &[u64], master: Below) -> SimpleTag
-    requires { Readable recording.now table.now master }
-    ensures { simple_values result ≡ simple_of recording.now
-        master.parent (rows_in table.now master) }
+pub fn simple_tag_in(fields: &Fields) -> SimpleTag
+    ensures { simple_values result ≡ read simple_of fields.now }
 {
     SimpleTag {
-        name: content_field(recording, table, master, ids::TAGNAME, Kind::Utf8),
-        language: language_field(
-            recording,
-            table,
-            master,
-            ids::TAGLANGUAGE,
+        name: fields.content(ids::TAGNAME, Kind::Utf8),
+        language: fields.language(ids::TAGLANGUAGE,
             ids::TAGLANGUAGE_IETF,
         ),
-        default: flag_field(recording, table, master, ids::TAGDEFAULT),
-        value: value_field(recording, table, master, ids::TAGSTRING, ids::TAGBINARY),
+        default: fields.flag(ids::TAGDEFAULT),
+        value: fields.value(ids::TAGSTRING, ids::TAGBINARY),
     }
 }
 
@@ -57,8 +49,11 @@ pub fn simple_tag_at(
         second: simple,
         third: Step::Here,
     };
-    match locate(recording, live, start, size, ids::TAG, way, table) {
-        Err(refusal) => Err(refusal),
-        Ok((master, rows)) => Ok((simple_tag_in(recording, table, master), rows as u64)),
-    }
+    let (master, rows) = locate(recording, live, start, size, ids::TAG, way, table)?;
+    let fields = Fields {
+        recording,
+        table,
+        master,
+    };
+    Ok((simple_tag_in(&fields), rows as u64))
 }

@@ -1,15 +1,14 @@
 // A tag: what it applies to and how many simple tags it has, and the question for the k-th.
 ghost use Rattle.std.specs.Prelude.{◌≡◌};
 ghost use Rattle.elements_rules.specs.Rows.{rows_of};
-ghost use Rattle.fields_rules.specs.Children.{rows_in};
-ghost use Rattle.fields_rules.specs.Contract.{Readable};
+ghost use Rattle.fields.specs.Read.{read};
 ghost use Rattle.locate_rules.specs.Contract.{Stands};
 ghost use Rattle.tags_rules.specs.Records.{target_of, targets_of, tag_of};
 ghost use Rattle.tags_rules.specs.Told.{target_values, targets_values, tag_values};
 ghost use Rattle.tags_rules.specs.Promise.{TagPromise};
 
 use children::{count_children, last_child, rows_below};
-use fields::{content_field, number_field};
+use fields::Fields;
 use fields_rules::Below;
 use kinds::{Kind, ids};
 use locate::locate;
@@ -18,18 +17,16 @@ use refusals::Refusal;
 use tags_rules::{Tag, Target};
 
 // What a tag applies to, by the rows below its Targets.
-pub fn target_in(recording: &[u8], table: &[u64], master: Below) -> Target
-    requires { Readable recording.now table.now master }
-    ensures { target_values result ≡ target_of recording.now
-        master.parent (rows_in table.now master) }
+pub fn target_in(fields: &Fields) -> Target
+    ensures { target_values result ≡ read target_of fields.now }
 {
     Target {
-        target_type_value: number_field(recording, table, master, ids::TARGETTYPEVALUE),
-        target_type: content_field(recording, table, master, ids::TARGETTYPE, Kind::String),
-        tracks: count_children(table, master, ids::TAG_TRACK_UID, Kind::Uint),
-        editions: count_children(table, master, ids::TAG_EDITION_UID, Kind::Uint),
-        chapters: count_children(table, master, ids::TAG_CHAPTER_UID, Kind::Uint),
-        attachments: count_children(table, master, ids::TAG_ATTACHMENT_UID, Kind::Uint),
+        target_type_value: fields.number(ids::TARGETTYPEVALUE),
+        target_type: fields.content(ids::TARGETTYPE, Kind::String),
+        tracks: fields.count(ids::TAG_TRACK_UID, Kind::Uint),
+        editions: fields.count(ids::TAG_EDITION_UID, Kind::Uint),
+        chapters: fields.count(ids::TAG_CHAPTER_UID, Kind::Uint),
+        attachments: fields.count(ids::TAG_ATTACHMENT_UID, Kind::Uint),
     }
 }
 
@@ -39,13 +36,13 @@ pub fn targets_in(recording: &[u8], table: &[u64], rows: usize, master: Below) -
     ensures { targets_values result ≡ targets_of recording.now (rows_of
         table.now rows) master.parent }
 {
-    match last_child(table, master, ids::TARGETS, Kind::Master) {
-        None => None,
-        Some((number, _)) => {
-            let inner = rows_below(table, rows, number + 1);
-            Some(target_in(recording, table, inner))
-        }
-    }
+    let (number, _) = last_child(table, master, ids::TARGETS, Kind::Master)?;
+    let fields = Fields {
+        recording,
+        table,
+        master: rows_below(table, rows, number + 1),
+    };
+    Some(target_in(&fields))
 }
 
 // The tag, by the rows below its master and those below its last Targets.
@@ -78,8 +75,6 @@ pub fn tag_at(
         second: Step::Here,
         third: Step::Here,
     };
-    match locate(recording, live, start, size, ids::TAG, way, table) {
-        Err(refusal) => Err(refusal),
-        Ok((master, rows)) => Ok((tag_in(recording, table, rows, master), rows as u64)),
-    }
+    let (master, rows) = locate(recording, live, start, size, ids::TAG, way, table)?;
+    Ok((tag_in(recording, table, rows, master), rows as u64))
 }

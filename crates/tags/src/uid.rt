@@ -1,19 +1,16 @@
 // A member of one of the uid lists that say what a tag applies to.
 ghost use Rattle.std.specs.Prelude.{◌≡◌};
-ghost use Rattle.fields_rules.specs.Contract.{Readable};
 ghost use Rattle.fields_rules.specs.Values.{number_in};
 ghost use Rattle.fields_rules.specs.Told.{number_told};
 ghost use Rattle.tags_rules.specs.Records.{member_id, member_in};
 ghost use Rattle.tags_rules.specs.Promise.{UidPromise};
 
 use children::nth_child;
-use fields::uint_in;
-use fields_rules::Below;
+use fields::{Fields, uint_in};
 use kinds::{Kind, ids};
-use locate::locate;
+use locate::{locate, no_record};
 use locate_rules::{Step, Way};
-use refusals::{Cause, Refusal};
-use rowstore::clear;
+use refusals::Refusal;
 use tags_rules::UidList;
 
 // The id of a list's members.
@@ -29,14 +26,12 @@ fn member_id(list: UidList) -> u32
 }
 
 // Member i of a uid list of the Targets `targets`; unset where there is none.
-pub fn uid_in(recording: &[u8], table: &[u64], targets: Below, list: UidList, i: u64) -> Option<u64>
-    requires { Readable recording.now table.now targets }
-    ensures { number_told result ≡ number_in recording.now (member_in table.now targets list i) }
+pub fn uid_in(targets: &Fields, list: UidList, i: u64) -> Option<u64>
+    ensures { number_told result ≡ number_in targets.now.recording.now
+        (member_in targets.now.table.now targets.now.master list i) }
 {
-    match nth_child(table, targets, member_id(list), Kind::Uint, i) {
-        None => None,
-        Some((_, row)) => Some(uint_in(recording, row)),
-    }
+    let (_, row) = nth_child(targets.table, targets.master, member_id(list), Kind::Uint, i)?;
+    Some(uint_in(targets.recording, row))
 }
 
 // Member i of a uid list of tag k of the Tags payload of `size` bytes from `start` on, in live mode or in old mode.
@@ -61,17 +56,14 @@ pub fn uid_at(
         second: targets,
         third: Step::Here,
     };
-    match locate(recording, live, start, size, ids::TAG, way, table) {
-        Err(refusal) => Err(refusal),
-        Ok((master, rows)) => match uid_in(recording, table, master, list, i) {
-            None => {
-                clear(table);
-                Err(Refusal {
-                    address: 0,
-                    cause: Cause::Outside,
-                })
-            }
-            Some(uid) => Ok((uid, rows as u64)),
-        },
-    }
+    let (master, rows) = locate(recording, live, start, size, ids::TAG, way, table)?;
+    let fields = Fields {
+        recording,
+        table,
+        master,
+    };
+    let Some(uid) = uid_in(&fields, list, i) else {
+        return Err(no_record(table));
+    };
+    Ok((uid, rows as u64))
 }

@@ -7,6 +7,7 @@ ghost use Rattle.tracks_rules.specs.Told.{settings_values};
 
 use children::{last_child, rows_below};
 use elements_rules::Row;
+use fields::Fields;
 use fields_rules::Below;
 use kinds::{Kind, ids};
 use media::{audio_in, video_in};
@@ -42,12 +43,22 @@ pub fn settings_in(recording: &[u8], table: &[u64], rows: usize, master: Below) 
 {
     let video = last_child(table, master, ids::VIDEO, Kind::Master);
     let audio = last_child(table, master, ids::AUDIO, Kind::Master);
-    Some(match later(video, audio)? {
+    match later(video, audio)? {
         Deciding::Video(number) => {
-            Settings::Video(video_in(recording, table, rows_below(table, rows, number + 1)))
+            let fields = Fields {
+                recording,
+                table,
+                master: rows_below(table, rows, number + 1),
+            };
+            Some(Settings::Video(video_in(&fields)))
         }
         Deciding::Audio(number) => {
-            Settings::Audio(audio_in(recording, table, rows_below(table, rows, number + 1)))
+            let fields = Fields {
+                recording,
+                table,
+                master: rows_below(table, rows, number + 1),
+            };
+            Some(Settings::Audio(audio_in(&fields)))
         }
-    })
+    }
 }

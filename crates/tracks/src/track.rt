@@ -8,7 +8,7 @@ ghost use Rattle.tracks_rules.specs.Promise.{TrackPromise};
 
 use crate::settings::settings_in;
 use crate::typed::typed_of;
-use fields::{content_field, flag_field, language_field, number_field};
+use fields::Fields;
 use fields_rules::Below;
 use kinds::{Kind, ids};
 use locate::locate;
@@ -22,25 +22,30 @@ pub fn track_in(recording: &[u8], table: &[u64], rows: usize, master: Below) -> 
     ensures { track_values result ≡ track_of recording.now (rows_of
         table.now rows) master.parent }
 {
+    let fields = Fields {
+        recording,
+        table,
+        master,
+    };
     Track {
-        number: number_field(recording, table, master, ids::TRACKNUMBER),
-        uid: number_field(recording, table, master, ids::TRACKUID),
-        tracktype: typed_of(number_field(recording, table, master, ids::TRACKTYPE)),
-        enabled: flag_field(recording, table, master, ids::FLAGENABLED),
-        default: flag_field(recording, table, master, ids::FLAGDEFAULT),
-        forced: flag_field(recording, table, master, ids::FLAGFORCED),
+        number: fields.number(ids::TRACKNUMBER),
+        uid: fields.number(ids::TRACKUID),
+        tracktype: typed_of(fields.number(ids::TRACKTYPE)),
+        enabled: fields.flag(ids::FLAGENABLED),
+        default: fields.flag(ids::FLAGDEFAULT),
+        forced: fields.flag(ids::FLAGFORCED),
         hearing_impaired: None,
         visual_impaired: None,
         text_descriptions: None,
         original: None,
         commentary: None,
-        lacing: flag_field(recording, table, master, ids::FLAGLACING),
-        default_duration: number_field(recording, table, master, ids::DEFAULTDURATION),
-        name: content_field(recording, table, master, ids::NAME, Kind::Utf8),
-        language: language_field(recording, table, master, ids::LANGUAGE, ids::LANGUAGE_IETF),
-        codec_id: content_field(recording, table, master, ids::CODEC_ID, Kind::String),
-        codec_private: content_field(recording, table, master, ids::CODEC_PRIVATE, Kind::Binary),
-        codec_name: content_field(recording, table, master, ids::CODEC_NAME, Kind::Utf8),
+        lacing: fields.flag(ids::FLAGLACING),
+        default_duration: fields.number(ids::DEFAULTDURATION),
+        name: fields.content(ids::NAME, Kind::Utf8),
+        language: fields.language(ids::LANGUAGE, ids::LANGUAGE_IETF),
+        codec_id: fields.content(ids::CODEC_ID, Kind::String),
+        codec_private: fields.content(ids::CODEC_PRIVATE, Kind::Binary),
+        codec_name: fields.content(ids::CODEC_NAME, Kind::Utf8),
         settings: settings_in(recording, table, rows, master),
     }
 }
@@ -67,8 +72,6 @@ pub fn track_at(
         second: Step::Here,
         third: Step::Here,
     };
-    match locate(recording, live, start, size, ids::TRACKENTRY, way, table) {
-        Err(refusal) => Err(refusal),
-        Ok((master, rows)) => Ok((track_in(recording, table, rows, master), rows as u64)),
-    }
+    let (master, rows) = locate(recording, live, start, size, ids::TRACKENTRY, way, table)?;
+    Ok((track_in(recording, table, rows, master), rows as u64))
 }

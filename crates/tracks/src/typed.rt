@@ -10,8 +10,5 @@ use codes::Tracktype;
 pub fn typed_of(number: Option<u64>) -> Option<Tracktype>
     ensures { typed_told result ≡ said typed number }
 {
-    match number {
-        None => None,
-        Some(n) => Some(Tracktype::new(n)),
-    }
+    Some(Tracktype::new(number?))
 }

@@ -1,13 +1,10 @@
 -- `audio_at` meets its contract: the master is found, and its fields are told. Assumes nothing.
 use Rattle.media_rules.specs.Records.{audio_of}
-use Rattle.locate_rules.proofs.Told.{readable_at, told_refused, told_below}
+use Rattle.locate_rules.proofs.Told.{readable_at, told_below}
 use Rattle.media.proofs.audio.audio_at.Goals as goal
 
-pub audio_in-requires : goal.audio_in-requires
-audio_in-requires c = search readable_at
+pub invariant_of-fields : goal.invariant_of-fields
+invariant_of-fields c = record { readable = readable_at c.locate.ensures c.in_ok-master.was }
 
-pub returns-in-Err : goal.returns-in-Err
-returns-in-Err c = search told_refused
-
-pub returns-in-Ok : goal.returns-in-Ok
-returns-in-Ok c = search (told_below audio_of)
+pub returns : goal.returns
+returns c = told_below audio_of c.locate.ensures c.in_ok-master.was c.audio_in.ensures

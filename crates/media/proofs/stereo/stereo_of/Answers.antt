@@ -1,9 +1,10 @@
 -- `stereo_of` meets its contract: a set number by its mode. Assumes nothing.
+use Rattle.media_rules.specs.Video.{stereo}
 use Rattle.media_rules.proofs.Said.{said_unset, said_is}
 use Rattle.media.proofs.stereo.stereo_of.Goals as goal
 
-pub returns-in-None : goal.returns-in-None
-returns-in-None c = search said_unset
+pub returns-in_err-number : goal.returns-in_err-number
+returns-in_err-number c = rw c.from_residual.ensures (said_unset stereo c.in_err-number.was)
 
-pub returns-in-Some : goal.returns-in-Some
-returns-in-Some c = search said_is
+pub returns : goal.returns
+returns c = said_is stereo c.in_ok-number.was c.mode_of.ensures

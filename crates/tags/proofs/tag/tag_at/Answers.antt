@@ -1,12 +1,9 @@
 -- `tag_at` meets its contract: the master is found, and its fields are told. Assumes nothing.
-use Rattle.locate_rules.proofs.Told.{stands_at, told_refused, told_found}
+use Rattle.locate_rules.proofs.Told.{stands_at, told_found}
 use Rattle.tags.proofs.tag.tag_at.Goals as goal
 
 pub tag_in-requires : goal.tag_in-requires
-tag_in-requires c = search stands_at
+tag_in-requires c = stands_at c.locate.ensures c.in_ok-master.was
 
-pub returns-in-Err : goal.returns-in-Err
-returns-in-Err c = search told_refused
-
-pub returns-in-Ok : goal.returns-in-Ok
-returns-in-Ok c = search told_found
+pub returns : goal.returns
+returns c = told_found c.locate.ensures c.in_ok-master.was c.tag_in.ensures

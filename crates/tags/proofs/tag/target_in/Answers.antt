@@ -1,8 +1,8 @@
 -- `target_in` meets its contract: field by field. Assumes nothing.
 use Rattle.tags_rules.specs.Records.{target_of}
-use Rattle.locate_rules.proofs.Lists.{then, counted}
+use Rattle.locate_rules.proofs.Lists.{then}
 use Rattle.tags.proofs.tag.target_in.Goals as goal
 
 pub returns : goal.returns
 unfolding target_of
-returns c = search (then, counted) depth 10
+returns c = search then depth 10

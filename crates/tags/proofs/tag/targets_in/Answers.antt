@@ -8,17 +8,18 @@ use Rattle.tags.proofs.tag.targets_in.Goals as goal
 pub last_child-requires : goal.last_child-requires
 last_child-requires c = search within
 
+pub returns-in_err-number : goal.returns-in_err-number
+returns-in_err-number c =
+    let unset = c.in_err-number.was in rw c.from_residual.ensures (no_targets c.requires c.last_child.ensures unset)
+
 pub overflow_add-number : goal.overflow_add-number
-overflow_add-number c = search (inner_fits, arith)
+overflow_add-number c = let is = c.in_ok-number.was in search (inner_fits, arith)
 
-pub rows_below-inner-requires : goal.rows_below-inner-requires
-rows_below-inner-requires c = search inner_known
+pub rows_below-requires : goal.rows_below-requires
+rows_below-requires c = let is = c.in_ok-number.was in search inner_known
 
-pub target_in-requires : goal.target_in-requires
-target_in-requires c = search inner_readable
+pub invariant_of-fields : goal.invariant_of-fields
+invariant_of-fields c = record { readable = inner_readable c.requires.filled c.rows_below.ensures }
 
-pub returns-in-None : goal.returns-in-None
-returns-in-None c = search no_targets
-
-pub returns-in-Some : goal.returns-in-Some
-returns-in-Some c = search are_targets
+pub returns : goal.returns
+returns c = let is = c.in_ok-number.was in search are_targets

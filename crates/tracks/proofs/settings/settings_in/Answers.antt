@@ -18,8 +18,8 @@ overflow_add-number c = let is = c.in_ok-number.was in search (video_fits, arith
 pub rows_below-requires : goal.rows_below-requires
 rows_below-requires c = let is = c.in_ok-number.was in search video_known
 
-pub video_in-requires : goal.video_in-requires
-video_in-requires c = search inner_readable
+pub invariant_of-fields : goal.invariant_of-fields
+invariant_of-fields c = record { readable = inner_readable c.requires.filled c.rows_below.ensures }
 
 pub overflow_add-number-in-Audio : goal.overflow_add-number-in-Audio
 overflow_add-number-in-Audio c = let is = c.in_ok-number.was in search (audio_fits, arith)
@@ -27,8 +27,8 @@ overflow_add-number-in-Audio c = let is = c.in_ok-number.was in search (audio_fi
 pub rows_below-requires-in-Audio : goal.rows_below-requires-in-Audio
 rows_below-requires-in-Audio c = let is = c.in_ok-number.was in search audio_known
 
-pub audio_in-requires : goal.audio_in-requires
-audio_in-requires c = search inner_readable
+pub invariant_of-fields-in-Audio : goal.invariant_of-fields-in-Audio
+invariant_of-fields-in-Audio c = record { readable = inner_readable c.requires.filled c.rows_below-in-Audio.ensures }
 
 pub returns-in_err-number : goal.returns-in_err-number
 returns-in_err-number c = rw c.from_residual.ensures (no_settings c.requires c.last_child-video.ensures c.last_child-audio.ensures c.later.ensures (c.in_err-number.was))

@@ -7,10 +7,10 @@ use Rattle.codes.specs.declared.tracktype.Tracktype.{Tracktype}
 use Rattle.tracks_rules.specs.Typed.{typed}
 use Rattle.tracks.proofs.typed.typed_of.Goals as goal
 
-pub returns-in-None : goal.returns-in-None
-returns-in-None c = search said_unset
+pub returns-in_err-number : goal.returns-in_err-number
+returns-in_err-number c = rw c.from_residual.ensures (said_unset typed c.in_err-number.was)
 
-pub returns-in-Some : goal.returns-in-Some
+pub returns : goal.returns
 unfolding typed
-returns-in-Some c =
-    said_is typed c.in-Some.is (ap (λ (x : Tracktype). number (type_number x)) c.new.ensures)
+returns c =
+    said_is typed c.in_ok-number.was (ap (λ (x : Tracktype). number (type_number x)) c.new.ensures)
