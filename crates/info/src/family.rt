@@ -17,7 +17,13 @@ use refusals::Refusal;
 pub fn family_in(fields: &Fields, i: u64) -> Option<Range>
     ensures { content_told result ≡ content_in (family_in fields.now.table.now fields.now.master i) }
 {
-    let (_, row) = nth_child(fields.table, fields.master, ids::SEGMENTFAMILY, Kind::Binary, i)?;
+    let (_, row) = nth_child(
+        fields.table,
+        fields.master,
+        ids::SEGMENTFAMILY,
+        Kind::Binary,
+        i,
+    )?;
     Some(range_of(row))
 }
 

@@ -1,6 +1,6 @@
 -- Any two replies and tables that a promise permits to one question are equal, its refusals are listed and honest, and
 -- what the two modes have in common. Assumes nothing.
-use mathlib.Core.Path.{◌≡◌, refl, ap}
+use mathlib.Core.Path.{◌≡◌, refl}
 use Rattle.refusals.proofs.Listed.{listed}
 use Rattle.bodies_rules.specs.declared.body.Range.{Range}
 use Rattle.fields_rules.proofs.Once.{number_once, content_once, real_once, date_once, count_once}

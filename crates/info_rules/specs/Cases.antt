@@ -1,6 +1,6 @@
 -- Worked records of Info, as one table: a question about a small payload, and the answer. They show the rules of
 -- document 01, Records, and of document 02, C-14 and C-18.
-use Rattle.std.specs.Prelude.{ℕ, List, [], ◌∷◌, ◌++◌, Bool, true, false, length, pos, negsuc}
+use Rattle.std.specs.Prelude.{ℕ, List, [], ◌∷◌, Bool, true, false, length, pos, negsuc}
 use Rattle.std.specs.Float.{binary64}
 use Rattle.std.specs.Float.Ieee.{of_bits}
 use Rattle.fields_rules.specs.Values.{FieldValue, unset, number, content, real, date, count}

@@ -1,6 +1,5 @@
-// Info, and the reply of `info_at`.
+// Info.
 use bodies_rules::Range;
-use refusals::Refusal;
 
 #[derive(Clone, Copy)]
 pub struct Info {

@@ -1,5 +1,4 @@
-// The settings of an audio track, and the reply of `audio_at`.
-use refusals::Refusal;
+// The settings of an audio track.
 
 // By value; the sample rate in Hz is a 64-bit float.
 #[derive(Clone, Copy)]

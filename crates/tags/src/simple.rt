@@ -18,9 +18,7 @@ pub fn simple_tag_in(fields: &Fields) -> SimpleTag
 {
     SimpleTag {
         name: fields.content(ids::TAGNAME, Kind::Utf8),
-        language: fields.language(ids::TAGLANGUAGE,
-            ids::TAGLANGUAGE_IETF,
-        ),
+        language: fields.language(ids::TAGLANGUAGE, ids::TAGLANGUAGE_IETF),
         default: fields.flag(ids::TAGDEFAULT),
         value: fields.value(ids::TAGSTRING, ids::TAGBINARY),
     }

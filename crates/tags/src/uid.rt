@@ -30,7 +30,13 @@ pub fn uid_in(targets: &Fields, list: UidList, i: u64) -> Option<u64>
     ensures { number_told result ≡ number_in targets.now.recording.now
         (member_in targets.now.table.now targets.now.master list i) }
 {
-    let (_, row) = nth_child(targets.table, targets.master, member_id(list), Kind::Uint, i)?;
+    let (_, row) = nth_child(
+        targets.table,
+        targets.master,
+        member_id(list),
+        Kind::Uint,
+        i,
+    )?;
     Some(uint_in(targets.recording, row))
 }
 

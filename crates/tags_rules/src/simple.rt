@@ -1,7 +1,6 @@
-// A simple tag, and the reply of `simple_tag_at`.
+// A simple tag.
 use bodies_rules::Range;
 use fields_rules::{Language, TagValue};
-use refusals::Refusal;
 
 #[derive(Clone, Copy)]
 pub struct SimpleTag {

@@ -1,6 +1,5 @@
-// A tag, what it applies to, and the reply of `tag_at`.
+// A tag, and what it applies to.
 use bodies_rules::Range;
-use refusals::Refusal;
 
 // What a tag applies to: the target number as it stands, and how many uids each list has.
 #[derive(Clone, Copy)]

@@ -1,5 +1,4 @@
-// The lists of uids of a tag's target, and the reply of `uid_at`.
-use refusals::Refusal;
+// The lists of uids of a tag's target.
 
 #[derive(Clone, Copy)]
 pub enum UidList {

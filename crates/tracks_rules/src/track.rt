@@ -1,9 +1,8 @@
-// A track, and the reply of `track_at`.
+// A track.
 use crate::settings::Settings;
 use bodies_rules::Range;
 use codes::Tracktype;
 use fields_rules::Language;
-use refusals::Refusal;
 
 #[derive(Clone, Copy)]
 pub struct Track {

@@ -37,4 +37,3 @@ returns c =
     (then c.content-3.ensures
     (then c.content-4.ensures
     refl))))))))))))))))))
-
