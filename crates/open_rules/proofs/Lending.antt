@@ -1,5 +1,5 @@
 -- Five lent tables: cleared, read into, and what they show from turn to turn. Assumes nothing.
-use Prim.Native.Nat.{ℕ, ◌-◌, ◌*◌, ◌<◌}
+use Prim.Native.Nat.{ℕ, ◌-◌, ◌*◌}
 use mathlib.Core.Path.{◌≡◌, refl, sym, ap, ◌∙◌, subst}
 use mathlib.Core.List.{List}
 use mathlib.Core.Bool.{Bool, true, false}
@@ -15,24 +15,21 @@ use Rattle.elements_rules.specs.Promise.{read_told, table_of, ReadPromise}
 use Rattle.elements_rules.specs.Promise.{reply_of as read_reply}
 use Rattle.elements_rules.specs.Contract.{ClearFrom}
 use Rattle.elements_rules.proofs.Forests.{length_rows}
-use Rattle.elements_rules.proofs.Tables.{zeros_clear, rows_clear}
-use Rattle.open_rules.specs.Parts.{parent_of, no_parts, part_of, placed, found_part}
+use Rattle.elements_rules.proofs.Tables.{rows_clear}
+use Rattle.open_rules.specs.Parts.{parent_of, placed, found_part}
 use Rattle.open_rules.specs.Tables.{SameLent, Tables, Sizes, five, sizes_of, of, put, zeroed, part_read, shown}
 use Rattle.open_rules.specs.Opening.{Opening, read, refused}
 use Rattle.open_rules.specs.Promise.{open_of, reply_of, tables_of, OpenPromise}
 use Rattle.open_rules.specs.Contract.{Ready, left_of, Stands, ReadsNext, Turns, TurnsFrom, ReadInto}
-use Rattle.open_rules.specs.Contract.{rows_known, ClearBehind, Begins, Ran}
+use Rattle.open_rules.specs.Contract.{ClearBehind, Ran}
 use Rattle.open_rules.specs.declared.lent.Lent.{Lent}
 use Rattle.open_rules.specs.declared.parts.Which.{Which}
 use Rattle.open_rules.specs.declared.parts.Which.TheVariants.{Info, Tracks, Attachments, Chapters, Tags}
 use Rattle.open_rules.specs.declared.parts.Parts.{Parts}
 use Rattle.open_rules.specs.declared.turns.Stage.{Stage}
 use Rattle.open_rules.specs.declared.turns.Turn.{Turn}
-use Rattle.open_rules.specs.declared.turns.Turn.TheVariants.{Read, Over}
-use Rattle.open_rules.proofs.Going.{never}
-use Rattle.std.proofs.Common.{Result, Ok, Err}
-use Rattle.std.proofs.Common.{Option, None}
-use Rattle.search_rules.specs.declared.part.Part.{Part}
+use Rattle.open_rules.specs.declared.turns.Turn.TheVariants.{Read}
+use Rattle.std.proofs.Common.{Result, Ok}
 
 -- ---- five at a time
 
@@ -107,22 +104,9 @@ told_rows : (n : ℕ) (o : Outcome) → read_told (Ok n) ≡ read_reply o → (f
 told_rows n (done f) q = (f, refl, cc)
 told_rows n (unread e) q = let z : ◌≡◌ {A = ℕ} 0 1 = cc in absurd (omega arith)
 
-told_refused : (e : Refusal) (o : Outcome) → read_told (Err e) ≡ read_reply o → o ≡ unread e
-told_refused e (done f) q = let z : ◌≡◌ {A = ℕ} 0 1 = cc in absurd (omega arith)
-told_refused e (unread e') q = cc
-
 -- ---- behind the rows
 
--- Cleared tables are clear behind no rows, and one that was read into is behind the rows that it got.
-clear_none : (n : Sizes) → ClearBehind no_parts (zeroed n)
-clear_none n = record {
-  info = zeros_clear 0 n.info;
-  tracks = zeros_clear 0 n.tracks;
-  attachments = zeros_clear 0 n.attachments;
-  chapters = zeros_clear 0 n.chapters;
-  tags = zeros_clear 0 n.tags;
-}
-
+-- A table that was read into is clear behind the rows that it got.
 clear_put : (which : Which) (ps : Parts) (t : Tables) (at size rows : ℕ) (u : List ℕ) → ClearFrom rows u
     → ClearBehind ps t → ClearBehind (placed ps which (found_part at size rows)) (put t which u)
 clear_put Info ps t at size rows u c b = record {
@@ -161,29 +145,11 @@ clear_put Tags ps t at size rows u c b = record {
   tags = c;
 }
 
-clear_of : (which : Which) (ps : Parts) (t : Tables) → ClearBehind ps t
-    → ClearFrom (rows_known (part_of ps which)) (of t which)
-clear_of Info ps t b = b.info
-clear_of Tracks ps t b = b.tracks
-clear_of Attachments ps t b = b.attachments
-clear_of Chapters ps t b = b.chapters
-clear_of Tags ps t b = b.tags
-
 -- The table of a payload that was read.
 clear_read : (at numbers rows : ℕ) (f : Forest) → rows ≡ count f → ClearFrom rows (table_of at numbers (done f))
 unfolding table_of
 clear_read at numbers rows f q =
     rows_clear (rows_at at f) rows (numbers - count f * width) (q ∙ sym (length_rows 0 0 at 0 f))
-
--- Of each part nothing is known.
-pub none_known : (ps : Parts)
-    → (ps.info ≡ None) × ((ps.tracks ≡ None) × ((ps.attachments ≡ None) × ((ps.chapters ≡ None) × (ps.tags ≡ None))))
-    → ps ≡ no_parts
-none_known ps (p, (q, (r, (s, t)))) = by p q r s t
-  where
-    by : {a b c d e : Option Part} → a ≡ None → b ≡ None → c ≡ None → d ≡ None → e ≡ None
-        → ◌≡◌ {A = Parts} (record { info = a; tracks = b; attachments = c; chapters = d; tags = e }) no_parts
-    by p q r s t = rw (p, q, r, s, t) refl
 
 -- ---- from turn to turn
 
@@ -200,30 +166,6 @@ module _ (live : Bool) (s : List ℕ) (t₀ : Tables) where
     pub shows : t ≡ shown live s n ps
     pub clear : ClearBehind ps t
 
-  pub runs_first : (r : Result Stage Refusal) → Begins live s n r → (first : Stage) → r ≡ Ok first → t₀ ≡ zeroed n
-      → (ps : Parts) → ps ≡ no_parts → Running t₀ first ps
-  runs_first r b first x z ps k =
-      let g = rw x at b in
-      rw k (record {
-        same = refl;
-        ready = g.0;
-        stands = g.1;
-        shows = z;
-        clear = subst (ClearBehind no_parts) (sym z) (clear_none n);
-      })
-
-  -- A refusal ends the call, whatever the tables are then.
-  run_lost : (t : Tables) (e : Refusal) → open_of live s n ≡ refused e → (reply : Result (Parts × ℕ) Refusal)
-      → reply ≡ Err e → Ran live s t₀ reply t
-  run_lost t e q reply y = record {
-    reply = y ∙ sym (ap reply_of q);
-    tables = λ qs heads w. never (sym q ∙ w);
-  }
-
-  pub run_none : (r : Result Stage Refusal) → Begins live s n r → (e : Refusal) → r ≡ Err e → (t : Tables)
-      → (reply : Result (Parts × ℕ) Refusal) → reply ≡ Err e → Ran live s t₀ reply t
-  run_none r b e x t reply y = run_lost t e (rw x at b) reply y
-
   module _ (t : Tables) (stage : Stage) (ps : Parts) (g : Running t stage ps) (turn : Result Turn Refusal)
       (u : TurnsFrom live s stage turn) where
     -- What a turn does with what the call comes to.
@@ -231,24 +173,6 @@ module _ (live : Bool) (s : List ℕ) (t₀ : Tables) where
     turned x q =
         subst (λ (y : Result Turn Refusal). Turns live s n ps (open_of live s n) (left_of live s stage) y) q
         (u n ps (open_of live s n) g.stands)
-
-    pub run_stopped : (e : Refusal) → turn ≡ Err e → (reply : Result (Parts × ℕ) Refusal) → reply ≡ Err e
-        → Ran live s t₀ reply t
-    run_stopped e x reply y = run_lost t e (turned (Err e) x) reply y
-
-    pub run_over : (k : ℕ) → turn ≡ Ok (Over k) → Ran live s t₀ (Ok (ps, k)) t
-    run_over k x =
-        let (heads, q, l) = turned (Ok (Over k)) x in
-        record {
-          reply = sym (ap reply_of q ∙ ap (λ (k : ℕ). Ok (ps, k)) l);
-          tables = λ qs hs w. g.shows ∙ ap (shown live s n) (same (sym q ∙ w));
-        }
-      where
-        same : {heads : List ℕ} {qs : Parts} {hs : List ℕ} → read ps heads ≡ read qs hs → ps ≡ qs
-        same w = cc
-
-    pub run_clear : (which : Which) (used : ℕ) → used ≡ rows_known (part_of ps which) → ClearFrom used (of t which)
-    run_clear which used k = rw k (clear_of which ps t g.clear)
 
     module _ (which : Which) (e : Headed) (next : Stage) (x : turn ≡ Ok (Read which e next)) (r : Result ℕ Refusal)
         (t' : Tables) (i : ReadInto live s which e.payload.at e.header.size t r t') where
@@ -261,29 +185,19 @@ module _ (live : Bool) (s : List ℕ) (t₀ : Tables) where
       reads : ReadsNext live s n ps (open_of live s n) (left_of live s stage) which e next
       reads = turned (Ok (Read which e next)) x
 
-      pub run_less : left_of live s next < left_of live s stage
-      run_less = reads.fewer
-
       -- The reading is that of a table of the lent size.
       as_lent : (y : Result ℕ Refusal) → r ≡ y → read_told y ≡ read_reply (part_read live s n which at size)
       as_lent y j =
           ap read_told (sym j) ∙ i.reply
           ∙ ap (λ (m : Sizes). read_reply (part_read live s m which at size)) g.same
 
-      pub run_unread : (a : Refusal) → r ≡ Err a → (reply : Result (Parts × ℕ) Refusal) → reply ≡ Err a
-          → Ran live s t₀ reply t'
-      run_unread a j reply y =
-          run_lost t' a (reads.fails a (told_refused a (part_read live s n which at size) (as_lent (Err a) j))) reply y
-
       pub run_again : (rows : ℕ) → r ≡ Ok rows → (ps' : Parts)
           → ps' ≡ placed ps which (found_part at size rows) → sizes_of t' ≡ sizes_of t
           → Running t' next ps'
       run_again rows j ps' k l =
           let (f, o, c) = told_rows rows (part_read live s n which at size) (as_lent (Ok rows) j) in
-          let put_in : t' ≡ put t which (table_of at (of n which) (part_read live s n which at size)) =
-          i.tables
-          ∙ ap (λ (m : Sizes). put t which (table_of at (of m which) (part_read live s m which at size))) g.same
-          in
+          let put_in : t' ≡ put t which (table_of at (of n which) (part_read live s n which at size)) = i.tables
+          ∙ ap (λ (m : Sizes). put t which (table_of at (of m which) (part_read live s m which at size))) g.same in
           rw k (record {
             same = l ∙ g.same;
             ready = reads.ready;
