@@ -3,7 +3,9 @@ use Prim.Native.Nat.{ℕ, ◌+◌, ◌-◌, ◌≤◌, ◌<◌}
 use mathlib.Core.Path.{◌≡◌, refl, sym, ap, ◌∙◌}
 use mathlib.Core.List.{List, [], ◌∷◌}
 use native.Mathlib.Omega.{arith}
-use lib.ListN.{length, take, drop}
+use lib.ListN.{length, take, drop, length-drop}
+use lib.Seq.{take_all}
+use Rattle.std.specs.List.{slice_range}
 use borrow.Author.Tests.{le-leb, lt-leb}
 use Rattle.bodies_rules.specs.declared.body.Range.{Range}
 use Rattle.shown_rules.specs.Shown.{shown}
@@ -23,6 +25,14 @@ own_other (b ∷ text) own e = refl
 none_shown : (text : List ℕ) → length text ≡ 0 → text ≡ []
 none_shown [] e = refl
 none_shown (b ∷ text) e = absurd (omega arith)
+
+-- A part that is taken in two steps: what stands from an address on, and its first octets.
+pub two_steps : (s : List ℕ) (at n : ℕ) (rest part : List ℕ) → rest ≡ slice_range s at (length s)
+    → part ≡ slice_range rest 0 n → part ≡ take n (drop at s)
+two_steps s at n rest part p q =
+    let whole : length (drop at s) ≤ length s - at = simp length-drop (omega arith) in
+    let all : n - 0 ≡ n = omega arith in
+    q ∙ rw all (ap (take n) (p ∙ take_all (length s - at) (drop at s) whole))
 
 -- ---- the label by the string
 
@@ -45,11 +55,9 @@ module _ (s own : List ℕ) {string : (Option Range)} where
       label_in = ap (λ (x : Option Range). label_of s x own) e ∙ rw (le-leb (r.at + r.length) (length s) l)
 
       -- What is shown of the string.
-      module _ {text : List ℕ} (m : text ≡ shown (take (r.at + r.length - r.at) (drop r.at s))) where
+      module _ {text : List ℕ} (m : text ≡ shown (take r.length (drop r.at s))) where
         labelled : label_of s string own ≡ or_own text own
-        labelled =
-            let whole : r.at + r.length - r.at ≡ r.length = omega arith in
-            label_in ∙ ap (λ (x : List ℕ). or_own x own) (sym (rw whole at m))
+        labelled = label_in ∙ ap (λ (x : List ℕ). or_own x own) (sym m)
 
         pub label_empty : length text ≡ 0 → LabelPromise s string own own
         label_empty z = record { reply = sym (labelled ∙ own_empty text own (none_shown text z)) }

@@ -9,27 +9,16 @@ use shown::shown_part;
 pub fn stage_label<'a>(recording: &'a [u8], string: Option<Range>, own: &'a [u8]) -> &'a [u8]
     ensures { LabelPromise recording.now string own.now result.now }
 {
-    match string {
-        None => own,
-        Some(range) => {
-            let at = range.at;
-            let length = range.length;
-            let end = recording.len() as u64;
-            // What is left is told by a difference, so that no sum can pass 2^64.
-            if end < at {
-                return own;
-            }
-            if end - at < length {
-                return own;
-            }
-            let past = at + length;
-            let first = at as usize;
-            let last = past as usize;
-            let text = shown_part(&recording[first..last]);
-            if text.len() == 0 {
-                return own;
-            }
-            text
-        }
-    }
+    let Some(range) = string else {
+        return own;
+    };
+    // The part is taken in two steps, so that no sum can pass 2^64.
+    let Some(rest) = recording.get(range.at as usize..) else {
+        return own;
+    };
+    let Some(part) = rest.get(..range.length as usize) else {
+        return own;
+    };
+    let text = shown_part(part);
+    if text.is_empty() { own } else { text }
 }

@@ -1,7 +1,8 @@
 // The C face: all parts of a recording at once, the search for one, a row's payload range and shown text, and the
 // address question, with a table and without, for the kit's viewer in C.
 //
-// A slice crosses as a pointer and a count, an answer as a struct of numbers. include/uzrafmed.h is the C side.
+// A slice crosses as a pointer and a count, an answer as a struct of numbers. include/uzrafmed.h is the C side. How a
+// reply crosses is told by a function and no `From`, since the reply and the struct are other crates' types.
 #![tactic(auto)]
 
 mod mode;

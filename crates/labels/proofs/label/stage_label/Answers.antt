@@ -1,25 +1,34 @@
--- `stage_label` meets its contract: the range is tested by differences, so that no sum wraps. Assumes nothing.
+-- `stage_label` meets its contract: the part is taken in two steps, so that no sum wraps. Assumes nothing.
+use mathlib.Core.Path.{sym, ap, ◌∙◌}
 use native.Mathlib.Omega.{arith}
-use Rattle.labels.proofs.Stages.{label_unset, label_outside, label_empty, label_is}
+use borrow.Author.Tests.{eqb-true, eqb-false}
+use Rattle.shown_rules.specs.Shown.{shown}
+use Rattle.labels.proofs.Stages.{label_unset, label_outside, label_empty, label_is, two_steps}
 use Rattle.labels.proofs.label.stage_label.Goals as goal
 
-pub returns-then-end-at : goal.returns-then-end-at
-returns-then-end-at c =
-    label_outside _ _ c.in-Some.is (omega (arith, c.if-end-at.true))
+pub returns-in_default : goal.returns-in_default
+returns-in_default c = label_unset _ _ c.in_default.is
 
-pub returns-then-end-at-2 : goal.returns-then-end-at-2
-returns-then-end-at-2 c =
-    label_outside _ _ c.in-Some.is (omega (arith, c.if-end-at.false, c.if-end-at-2.true))
+pub returns-in_default-get : goal.returns-in_default-get
+returns-in_default-get c = label_outside _ _ c.in-Some.is (grind (arith, c.in_default-get.ensures.lookup))
 
-pub returns-then-text-eq0 : goal.returns-then-text-eq0
-returns-then-text-eq0 c =
-    label_empty _ _ c.in-Some.is (omega (arith, c.if-end-at.false, c.if-end-at-2.false))
-    c.shown_part-text.ensures c.if-text-eq0.true
+pub returns-in_default-get-2 : goal.returns-in_default-get-2
+returns-in_default-get-2 c =
+    let rest = c.in-Some-get.ensures.lookup in
+    label_outside _ _ c.in-Some.is (grind (arith, rest, c.in_default-get-2.ensures.lookup))
 
-pub returns-else-text-eq0 : goal.returns-else-text-eq0
-returns-else-text-eq0 c =
-    label_is _ _ c.in-Some.is (omega (arith, c.if-end-at.false, c.if-end-at-2.false))
-    c.shown_part-text.ensures c.if-text-eq0.false
+pub returns-then-is_empty : goal.returns-then-is_empty
+returns-then-is_empty c =
+    let rest = c.in-Some-get.ensures.lookup in
+    let part = c.in-Some-get-2.ensures.lookup in
+    let is = two_steps c.args.recording.now c.in-Some.range.at _ _ _ rest.0.2 part.0.2 in
+    label_empty _ _ c.in-Some.is (omega (arith, rest, part)) (c.shown_part-text.ensures ∙ ap shown is)
+    (eqb-true _ 0 (sym c.if-is_empty.ensures))
 
-pub returns-in-None : goal.returns-in-None
-returns-in-None c = search label_unset
+pub returns-else-is_empty : goal.returns-else-is_empty
+returns-else-is_empty c =
+    let rest = c.in-Some-get.ensures.lookup in
+    let part = c.in-Some-get-2.ensures.lookup in
+    let is = two_steps c.args.recording.now c.in-Some.range.at _ _ _ rest.0.2 part.0.2 in
+    label_is _ _ c.in-Some.is (omega (arith, rest, part)) (c.shown_part-text.ensures ∙ ap shown is)
+    (eqb-false _ 0 (sym c.if-is_empty.ensures))
