@@ -84,10 +84,7 @@ pub fn head_body(
         table = head_child(recording, live, wanted, table, child)?;
         let next = child.payload.at + child.header.size;
         if end < next {
-            return Err(Refusal {
-                address: at,
-                cause: Cause::Overrun,
-            });
+            return Err(Cause::Overrun.at(at));
         }
         at = next;
     }

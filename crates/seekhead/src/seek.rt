@@ -63,10 +63,7 @@ pub fn seek_body(recording: &[u8], live: bool, element: Headed) -> Result<Seek, 
         seek = seek_member(recording, live, seek, member)?;
         let next = member.payload.at + member.header.size;
         if end < next {
-            return Err(Refusal {
-                address: at,
-                cause: Cause::Overrun,
-            });
+            return Err(Cause::Overrun.at(at));
         }
         at = next;
     }

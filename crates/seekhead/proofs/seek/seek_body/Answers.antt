@@ -47,9 +47,10 @@ overflow_add-next c =
 
 pub returns-then-end-next : goal.returns-then-end-next
 returns-then-end-next c =
-    pass_overruns _ _ _ _ _ _ _ _ _ c.loop-at.invariant _ refl c.loop-at-test.true _
+    rw c.at.ensures
+    (pass_overruns _ _ _ _ _ _ _ _ _ c.loop-at.invariant _ refl c.loop-at-test.true _
     (sym c.element_header.ensures ∙ c.in_ok-member.was) _
-    (sym c.in_ok-seek.was ∙ c.seek_member.ensures) c.if-end-next.true
+    (sym c.in_ok-seek.was ∙ c.seek_member.ensures) c.if-end-next.true)
 
 pub loop-at-smaller : goal.loop-at-smaller
 loop-at-smaller c =
