@@ -17,7 +17,7 @@ pub fn put_told(told: Told, entry: &[u8], bytes: &[u8], table: &[u64], out: &mut
     for (before, cell) in told.cells().iter().enumerate() {
         put_gap(before, out);
         // The words of the answer stand behind the question's name and its form.
-        out.put(words::word(entry, usize::from(cell.word) + 2));
+        out.put(words::word(entry, cell.word.saturating_add(2) as usize));
         put_value(cell.value, bytes, out);
     }
     put_ending(told.cells().len(), told.ending(), table, out);

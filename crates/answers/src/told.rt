@@ -114,7 +114,7 @@ impl<T: Into<Value>> From<Option<T>> for Value {
 // A word, by its place among the words of the answer, and the value behind it.
 #[derive(Clone, Copy)]
 pub struct Cell {
-    pub word: u8,
+    pub word: u64,
     pub value: Value,
 }
 
@@ -166,7 +166,7 @@ impl Told {
     }
 
     // One cell more.
-    pub fn with<V: Into<Value>>(self, word: u8, value: V) -> Told
+    pub fn with<V: Into<Value>>(self, word: u64, value: V) -> Told
         ensures { OneMore V.converts word value self result }
     {
         let value = value.into();
@@ -179,7 +179,7 @@ impl Told {
     }
 
     // A word alone.
-    pub fn word(self, word: u8) -> Told
+    pub fn word(self, word: u64) -> Told
         ensures { length self.0 < 32 → result ≡ (self.0 ++ record { word = word; value = Nothing } ∷ [], self.1) }
     {
         self.with(word, Value::Nothing)

@@ -10,7 +10,7 @@ pub fn kind(asked: Asked) -> Told {
 }
 
 // The place of the kind's name among the words of the answer.
-fn kind_index(kind: Kind) -> u8 {
+fn kind_index(kind: Kind) -> u64 {
     match kind {
         Kind::Master => 1,
         Kind::Int => 2,

@@ -1,6 +1,7 @@
 -- How far the counts of a question go, and the parts of its line and its list.
 use Rattle.std.specs.Prelude.{ℕ, ◌≤◌, ◌==◌, List, [], ◌∷◌}
 use Rattle.std.specs.List.{slice_split}
+use Rattle.questions.specs.declared.asked.Asked.{Asked}
 use Rattle.questions.specs.declared.open.AskedOpen.{AskedOpen}
 
 -- A question's table has at most so many numbers.
@@ -10,6 +11,10 @@ most_asked = 36000
 -- No more numbers than a table of a question may have.
 abbrev pub InTable : ℕ → Type 0
 InTable n = n ≤ most_asked
+
+-- What a call is lent lies in the room for a recording and for a table.
+abbrev pub Lent : Asked → Type 0
+Lent a = (a.bytes ≤ 65536) × (a.numbers ≤ most_asked)
 
 -- What `open` is lent lies in the room for a recording and for each table.
 pub record AllLent (a : AskedOpen) : Type 0 where

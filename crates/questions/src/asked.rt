@@ -3,9 +3,8 @@
 // A form has a letter for each word: `n` ID, `p` PARENT, `a` AT or START, `s` SIZE, `d` ADDRESS, `r` ROW,
 // `k` K or a track type's N, `i` I, `j` J, `u` LIST, `b` BYTES, `t` NUMBERS, `l` the table's numbers themselves,
 // `g` RANGE, `w` a word that the question itself reads.
-ghost use Rattle.std.specs.Prelude.{◌≡◌, ◌++◌, MatchBool};
-ghost use Rattle.words.specs.Words.{Few};
-ghost use Rattle.questions.specs.Bounds.{InTable, live_word};
+ghost use Rattle.std.specs.Prelude.{◌≡◌, ◌++◌, MatchBool, IfSome};
+ghost use Rattle.questions.specs.Bounds.{Lent, live_word};
 
 use crate::table;
 use crate::table::MOST_ASKED;
@@ -31,8 +30,6 @@ pub struct Asked {
     pub range: Option<Range>,
     pub bytes: usize,
     pub numbers: usize,
-    ghost in_recording: { Few bytes },
-    ghost in_table: { InTable numbers },
 }
 
 // Whether a line begins with `live`, and what stands behind it: the question itself.
@@ -52,7 +49,9 @@ pub fn asked_of(
     form: &[u8],
     recording: &mut [u8; 65536],
     table: &mut [u64; MOST_ASKED],
-) -> Option<Asked> {
+) -> Option<Asked>
+    ensures { IfSome result Lent }
+{
     if form.is_empty() || words::word_count(line) != form.len() + 1 {
         return None;
     }
@@ -64,8 +63,10 @@ pub fn asked_of(
 }
 
 impl Asked {
-    // No word yet. `Default` can't be derived beside a ghost field.
-    fn new(live: bool) -> Asked {
+    // No word yet.
+    fn new(live: bool) -> Asked
+        ensures { Lent result }
+    {
         Asked {
             live,
             id: 0,
@@ -90,7 +91,10 @@ impl Asked {
         word: &[u8],
         recording: &mut [u8; 65536],
         table: &mut [u64; MOST_ASKED],
-    ) -> Option<()> {
+    ) -> Option<()>
+        requires { Lent self.old }
+        ensures { Lent self.new }
+    {
         match letter {
             b'n' => self.id = words::id(word)?,
             b'p' => self.parent = words::id(word)?,

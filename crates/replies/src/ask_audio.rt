@@ -11,7 +11,7 @@ impl Cells for Audio {
 }
 
 // The settings behind these words.
-pub fn with_audio(told: Told, rate: u8, channels: u8, depth: u8, audio: Audio) -> Told {
+pub fn with_audio(told: Told, rate: u64, channels: u64, depth: u64, audio: Audio) -> Told {
     told.with(rate, audio.sample_rate)
         .with(channels, audio.channels)
         .with(depth, audio.bit_depth)

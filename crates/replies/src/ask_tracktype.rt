@@ -8,7 +8,7 @@ pub fn tracktype(tracktype: Tracktype) -> Told {
 }
 
 // The place of the type's name among the words of the answer.
-pub fn type_index(tracktype: Tracktype) -> u8 {
+pub fn type_index(tracktype: Tracktype) -> u64 {
     match tracktype {
         Tracktype::Video => 0,
         Tracktype::Audio => 1,
