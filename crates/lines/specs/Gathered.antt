@@ -1,5 +1,5 @@
 -- What is gathered for standard output.
-use Rattle.std.specs.Prelude.{ℕ, ◌≡◌, ◌+◌, ◌≤◌, List, ◌++◌, length, take, Option, Some, None, Result, Ok, Err, IfSome}
+use Rattle.std.specs.Prelude.{ℕ, ◌≡◌, ◌+◌, ◌≤◌, List, ◌++◌, length, take, Option, Some, None, Result, Ok, Err, IfSome, ◌⊎◌}
 use Rattle.std.specs.declared.io.Error.{Error}
 use Rattle.lines.specs.declared.out.Out.TheInside.{Inside}
 
@@ -14,3 +14,11 @@ gathered out = held_bytes out.room out.held
 -- Bytes that find room stand behind those that were gathered.
 abbrev pub Gathers : Option (List ℕ) → List ℕ → Option (List ℕ) → Type 0
 Gathers old bytes new = IfSome old (λ held. length held + length bytes ≤ 65536 → new ≡ Some (held ++ bytes))
+
+-- The same, unless a write fails.
+abbrev pub GathersOrFails : Option (List ℕ) → List ℕ → Option (List ℕ) → Type 0
+GathersOrFails old bytes new = new ≡ None ⊎ Gathers old bytes new
+
+-- Once a write has failed, nothing more is gathered.
+abbrev pub StaysFailed : Option (List ℕ) → Option (List ℕ) → Type 0
+StaysFailed old new = old ≡ None → new ≡ None

@@ -1,0 +1,2 @@
+-- What the proofs of `lines` share.
+pub mod Gathered
