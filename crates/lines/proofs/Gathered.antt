@@ -1,11 +1,13 @@
 -- What is gathered in several pieces is gathered as one.
 use mathlib.Core.Logic.{◌⊎◌, inl, inr}
 use mathlib.Core.Path.{◌≡◌, refl, sym, ap, ◌∙◌, subst}
-use Rattle.std.proofs.Common.{arith, ℕ, ◌+◌, ◌≤◌, List, [], ◌∷◌, ◌++◌, length, Option, Some, None, IfSome}
-use Rattle.std.proofs.lemmas.List.{append-nil, append_assoc, length-append}
-use Rattle.std.specs.List.{concat, FoldsTo}
-use Rattle.std.specs.Fmt.{WritesInCalls, WritesText}
-use Rattle.lines.specs.Gathered.{Gathers, GathersOrFails}
+use Rattle.std.proofs.Common.{arith, ℕ, ◌-◌, ◌^◌, ◌<◌, true, false, take, get_or, ◌+◌, ◌≤◌, List, [], ◌∷◌, ◌++◌, length, Option, Some, None, IfSome}
+use Rattle.std.proofs.lemmas.List.{append-nil, append_assoc, length-append, flat_map_more, take_more}
+use Rattle.std.specs.List.{concat, flat_map, FoldsTo}
+use Rattle.std.specs.Fmt.{WritesInCalls, WritesText, digits, digits_output, styled_digits_output, format_spec, padded_integral}
+use Rattle.std.specs.Option.{option_map}
+use Rattle.std.proofs.lemmas.Fmt.{hex_byte}
+use Rattle.lines.specs.Gathered.{Gathers, GathersOrFails, StaysFailed, two_digits}
 
 -- Nothing put leaves what was gathered.
 pub gathers_nothing : (old : Option (List ℕ)) → Gathers old [] old
@@ -32,3 +34,25 @@ gathers_written a text b written = subst (λ (text : List ℕ). Gathers a text b
 pub gathers_text : (a : Option (List ℕ)) (text : Option (List ℕ)) (b : Option (List ℕ)) → WritesText Gathers a text b → IfSome text (λ text. GathersOrFails a text b)
 gathers_text a None b written = tt
 gathers_text a (Some text) b written = inr (gathers_written a text b written)
+
+-- What may fail, and then stays failed, is gathered as one too.
+pub gathers_on : (a : Option (List ℕ)) (x : List ℕ) (b : Option (List ℕ)) (y : List ℕ) (c : Option (List ℕ)) → GathersOrFails a x b → GathersOrFails b y c → StaysFailed b c → GathersOrFails a (x ++ y) c
+gathers_on a x b y c (inl failed) two stays = inl (stays failed)
+gathers_on a x b y c (inr one) (inl failed) stays = inl failed
+gathers_on a x b y c (inr one) (inr two) stays = inr (gathers_more a x b y c one two)
+
+-- One more byte in hexadecimal digits, behind those so far.
+pub hex_more : (a : Option (List ℕ)) (bytes : List ℕ) (i : ℕ) (b : Option (List ℕ)) (d : _) (spec : _) (c : Option (List ℕ))
+    → i < length bytes → get_or bytes i 0 < 256 → digits_output d ≡ Some (digits 16 true (get_or bytes i 0)) → spec ≡ format_spec 32 0 4 2 (2 ^ 64 - 1)
+    → GathersOrFails a (flat_map two_digits (take i bytes)) b
+    → IfSome (styled_digits_output d spec) (λ text. GathersOrFails b text c) → StaysFailed b c
+    → GathersOrFails a (flat_map two_digits (take (i + 1) bytes)) c
+hex_more a bytes i b d spec c in_bytes byte shown plain so_far more stays =
+    let text : styled_digits_output d spec ≡ Some (two_digits (get_or bytes i 0)) =
+    ap (styled_digits_output d) plain
+    ∙ ap (option_map (padded_integral (format_spec 32 0 4 2 (2 ^ 64 - 1)) false [])) shown
+    ∙ ap Some (hex_byte true (get_or bytes i 0) byte) in
+    let one : GathersOrFails b (two_digits (get_or bytes i 0)) c = subst (λ (t : Option (List ℕ)). IfSome t (λ text. GathersOrFails b text c)) text more in
+    let joined : flat_map two_digits (take i bytes) ++ two_digits (get_or bytes i 0) ≡ flat_map two_digits (take (i + 1) bytes) =
+    flat_map_more two_digits [] (take i bytes) (get_or bytes i 0) ∙ ap (λ t. flat_map two_digits t) (sym (take_more bytes i 0 in_bytes)) in
+    subst (λ (t : List ℕ). GathersOrFails a t c) joined (gathers_on a (flat_map two_digits (take i bytes)) b (two_digits (get_or bytes i 0)) c so_far one stays)

@@ -1,5 +1,7 @@
 -- What is gathered for standard output.
-use Rattle.std.specs.Prelude.{ℕ, ◌≡◌, ◌+◌, ◌≤◌, List, ◌++◌, length, take, Option, Some, None, Result, Ok, Err, IfSome, ◌⊎◌}
+use Rattle.std.specs.Prelude.{ℕ, ◌≡◌, ◌+◌, ◌/◌, ◌%◌, true, [], ◌∷◌, ◌≤◌, List, ◌++◌, length, take, Option, Some, None, Result, Ok, Err, IfSome, ◌⊎◌}
+use Rattle.std.specs.Fmt.{digit_glyph}
+use Rattle.std.specs.List.{flat_map}
 use Rattle.std.specs.declared.io.Error.{Error}
 use Rattle.lines.specs.declared.out.Out.TheInside.{Inside}
 
@@ -22,3 +24,12 @@ GathersOrFails old bytes new = new ≡ None ⊎ Gathers old bytes new
 -- Once a write has failed, nothing more is gathered.
 abbrev pub StaysFailed : Option (List ℕ) → Option (List ℕ) → Type 0
 StaysFailed old new = old ≡ None → new ≡ None
+
+-- A byte in two hexadecimal digits.
+abbrev pub two_digits : ℕ → List ℕ
+two_digits byte = digit_glyph true (byte / 16) ∷ digit_glyph true (byte % 16) ∷ []
+
+-- Bytes in hexadecimal digits, or `-` for none.
+abbrev pub in_hex : List ℕ → List ℕ
+in_hex [] = 45 ∷ []
+in_hex (byte ∷ bytes) = flat_map two_digits (byte ∷ bytes)

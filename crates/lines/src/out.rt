@@ -1,6 +1,6 @@
 // Gathers what a program writes to standard output, and hands it on in large pieces.
-ghost use Rattle.std.specs.Prelude.{◌≡◌, ◌≤◌, [], ◌∷◌, None, Some, IfSome, OnOk, ◌⊎◌};
-ghost use Rattle.lines.specs.Gathered.{Gathers, GathersOrFails, StaysFailed};
+ghost use Rattle.std.specs.Prelude.{◌≡◌, ◌≤◌, [], ◌∷◌, ◌++◌, None, Some, IfSome, OnOk, ◌⊎◌};
+ghost use Rattle.lines.specs.Gathered.{Gathers, GathersOrFails, StaysFailed, in_hex};
 
 use std::fmt::{Display, Write};
 use std::io::{Print, Stdout};
@@ -66,7 +66,10 @@ impl Out {
     }
 
     // Bytes in hexadecimal digits, two for each, or `-` for none, behind their label.
-    pub fn put_bytes(&mut self, label: &[u8], bytes: &[u8]) {
+    pub fn put_bytes(&mut self, label: &[u8], bytes: &[u8])
+        ensures text { GathersOrFails self.old (label.now ++ in_hex bytes.now) self.new }
+        ensures failed { StaysFailed self.old self.new }
+    {
         self.put(label);
         if bytes.is_empty() {
             self.put(b"-");
