@@ -17,9 +17,18 @@ gathered out = held_bytes out.room out.held
 abbrev pub Gathers : Option (List ℕ) → List ℕ → Option (List ℕ) → Type 0
 Gathers old bytes new = IfSome old (λ held. length held + length bytes ≤ 65536 → new ≡ Some (held ++ bytes))
 
+-- What is held is an end of what was gathered and put, and what stands before it was written away; or a write failed.
+abbrev pub Keeps : Option (List ℕ) → List ℕ → Option (List ℕ) → Type 0
+Keeps None bytes new = new ≡ None
+Keeps (Some held) bytes new = IfSome new (λ rest. (away : List ℕ) × (away ++ rest ≡ held ++ bytes))
+
+-- Both at once.
+abbrev pub Takes : Option (List ℕ) → List ℕ → Option (List ℕ) → Type 0
+Takes old bytes new = Gathers old bytes new × Keeps old bytes new
+
 -- The same, unless a write fails.
-abbrev pub GathersOrFails : Option (List ℕ) → List ℕ → Option (List ℕ) → Type 0
-GathersOrFails old bytes new = new ≡ None ⊎ Gathers old bytes new
+abbrev pub TakesOrFails : Option (List ℕ) → List ℕ → Option (List ℕ) → Type 0
+TakesOrFails old bytes new = new ≡ None ⊎ Takes old bytes new
 
 -- Once a write has failed, nothing more is gathered.
 abbrev pub StaysFailed : Option (List ℕ) → Option (List ℕ) → Type 0

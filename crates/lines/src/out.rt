@@ -1,6 +1,6 @@
 // Gathers what a program writes to standard output, and hands it on in large pieces.
 ghost use Rattle.std.specs.Prelude.{◌≡◌, ◌≤◌, [], ◌∷◌, ◌++◌, None, Some, IfSome, OnOk, ◌⊎◌};
-ghost use Rattle.lines.specs.Gathered.{Gathers, GathersOrFails, StaysFailed, in_hex};
+ghost use Rattle.lines.specs.Gathered.{Gathers, Keeps, StaysFailed, Takes, TakesOrFails, in_hex};
 
 use std::fmt::{Display, Write};
 use std::io::{Print, Stdout};
@@ -45,6 +45,7 @@ impl Out {
     // Bytes as they are.
     pub fn put(&mut self, bytes: &[u8])
         ensures gathers { Gathers self.old bytes.now self.new }
+        ensures kept { Keeps self.old bytes.now self.new }
         ensures failed { StaysFailed self.old self.new }
     {
         for byte in bytes {
@@ -54,7 +55,7 @@ impl Out {
 
     // A value as it is displayed. One that cannot be displayed is told at the end, as a failed write.
     pub fn print<D: Display + Drop>(&mut self, value: D)
-        ensures text { IfSome (D.output value) (λ text. GathersOrFails self.old text self.new) }
+        ensures text { IfSome (D.output value) (λ text. TakesOrFails self.old text self.new) }
         ensures failed { StaysFailed self.old self.new }
     {
         if self.held.is_err() {
@@ -67,7 +68,7 @@ impl Out {
 
     // Bytes in hexadecimal digits, two for each, or `-` for none, behind their label.
     pub fn put_bytes(&mut self, label: &[u8], bytes: &[u8])
-        ensures text { GathersOrFails self.old (label.now ++ in_hex bytes.now) self.new }
+        ensures text { TakesOrFails self.old (label.now ++ in_hex bytes.now) self.new }
         ensures failed { StaysFailed self.old self.new }
     {
         self.put(label);
@@ -82,6 +83,7 @@ impl Out {
     // A full room is written away first.
     fn put_one(&mut self, byte: u8)
         ensures gathers { Gathers self.old (byte ∷ []) self.new }
+        ensures kept { Keeps self.old (byte ∷ []) self.new }
         ensures failed { StaysFailed self.old self.new }
     {
         if let Ok(ROOM) = self.held {
@@ -113,7 +115,7 @@ impl Out {
 
 // Text is gathered like any bytes: a write that fails is told at the end.
 impl fmt::Write for Out {
-    ghost write_str_gives = { Gathers };
+    ghost write_str_gives = { Takes };
 
     fn write_str(&mut self, s: &str) -> fmt::Result {
         self.put(s.as_bytes());
