@@ -1,6 +1,6 @@
 // Gathers what a program writes to standard output, and hands it on in large pieces.
-ghost use Rattle.std.specs.Prelude.{◌≡◌, ◌≤◌, [], ◌∷◌, OnOk, ◌⊎◌};
-ghost use Rattle.lines.specs.Gathered.{Gathers};
+ghost use Rattle.std.specs.Prelude.{◌≡◌, ◌≤◌, [], ◌∷◌, ◌++◌, None, Some, IfSome, OnOk, ◌⊎◌};
+ghost use Rattle.lines.specs.Gathered.{Gathers, Keeps, StaysFailed, Takes, TakesOrFails, in_hex};
 
 use std::fmt::{Display, Write};
 use std::io::{Print, Stdout};
@@ -44,20 +44,33 @@ impl Out {
 
     // Bytes as they are.
     pub fn put(&mut self, bytes: &[u8])
-        ensures { Gathers self.old bytes.now self.new }
+        ensures gathers { Gathers self.old bytes.now self.new }
+        ensures kept { Keeps self.old bytes.now self.new }
+        ensures failed { StaysFailed self.old self.new }
     {
         for byte in bytes {
             self.put_one(*byte);
         }
     }
 
-    // A value as it is displayed.
-    pub fn print<D: Display + Drop>(&mut self, value: D) {
-        let _ = self.write(value);
+    // A value as it is displayed. One that cannot be displayed is told at the end, as a failed write.
+    pub fn print<D: Display + Drop>(&mut self, value: D)
+        ensures text { IfSome (D.output value) (λ text. TakesOrFails self.old text self.new) }
+        ensures failed { StaysFailed self.old self.new }
+    {
+        if self.held.is_err() {
+            return;
+        }
+        if self.write(value).is_err() {
+            self.held = Err(io::ErrorKind::Other.into());
+        }
     }
 
     // Bytes in hexadecimal digits, two for each, or `-` for none, behind their label.
-    pub fn put_bytes(&mut self, label: &[u8], bytes: &[u8]) {
+    pub fn put_bytes(&mut self, label: &[u8], bytes: &[u8])
+        ensures text { TakesOrFails self.old (label.now ++ in_hex bytes.now) self.new }
+        ensures failed { StaysFailed self.old self.new }
+    {
         self.put(label);
         if bytes.is_empty() {
             self.put(b"-");
@@ -69,7 +82,9 @@ impl Out {
 
     // A full room is written away first.
     fn put_one(&mut self, byte: u8)
-        ensures { Gathers self.old (byte ∷ []) self.new }
+        ensures gathers { Gathers self.old (byte ∷ []) self.new }
+        ensures kept { Keeps self.old (byte ∷ []) self.new }
+        ensures failed { StaysFailed self.old self.new }
     {
         if let Ok(ROOM) = self.held {
             self.write_away();
@@ -81,7 +96,8 @@ impl Out {
     }
 
     fn write_away(&mut self)
-        ensures { self.new ≡ Some [] ⊎ self.new ≡ None }
+        ensures done { self.new ≡ Some [] ⊎ self.new ≡ None }
+        ensures failed { StaysFailed self.old self.new }
     {
         if let Ok(held) = self.held {
             self.held = self.to.write_all(&self.room[..held]).map(|()| 0);
@@ -99,6 +115,8 @@ impl Out {
 
 // Text is gathered like any bytes: a write that fails is told at the end.
 impl fmt::Write for Out {
+    ghost write_str_gives = { Takes };
+
     fn write_str(&mut self, s: &str) -> fmt::Result {
         self.put(s.as_bytes());
         Ok(())

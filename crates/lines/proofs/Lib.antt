@@ -1,0 +1,3 @@
+-- What the proofs of `lines` share.
+pub mod Gathered
+pub mod Kept
