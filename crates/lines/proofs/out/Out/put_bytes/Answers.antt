@@ -1,4 +1,4 @@
--- `put_bytes`: one more byte stands in hexadecimal digits behind those so far.
+-- `put_bytes`: one more byte stands in hexadecimal digits behind those so far, and all of them behind the label.
 use mathlib.Core.Logic.{inr}
 use mathlib.Core.Path.{◌≡◌, subst}
 use Rattle.std.proofs.Common.{rules, ℕ, List, Option, take, length, ◌<◌}
