@@ -49,7 +49,8 @@ info astkb uid previous next families title duration scale date muxing writing\n
 family astkib uid\n\
 shown asptrb text\n";
 
-// The first question that may be in live mode, by its number in the list: it and those behind it read elements.
+// The first question that may be in live mode, by its place in the list, which is written in that order: it and those
+// behind it read elements.
 const FIRST_LIVE: usize = 7;
 
 // The answer to a line, and its line feed. `open` is lent every table; any other question is lent that for Info alone.

@@ -34,11 +34,13 @@ pub fn read_part(
 ) -> Result<u64, Refusal>
     requires { ClearFrom rows (of (lent tables.old) which) }
     ensures same { SameLent tables.new tables.old }
-    ensures reads { ReadInto live recording.now which part.payload.at part.header.size (lent tables.old) result (lent tables.new) }
+    ensures reads { ReadInto live recording.now which part.payload.at part.header.size
+        (lent tables.old) result (lent tables.new) }
 {
     let at = part.payload.at;
     let size = part.header.size;
     let parent = which.parent();
+    // A read in each arm: a reference that is one of five borrows gets no proof.
     match which {
         Which::Info => read_again(recording, live, at, size, parent, rows, tables.info),
         Which::Tracks => read_again(recording, live, at, size, parent, rows, tables.tracks),

@@ -18,6 +18,7 @@ fn run(recording: &[u8], live: bool, tables: &mut Lent) -> Result<(Parts, u64), 
 {
     let mut stage = begin(recording, live, tables)?;
     let mut known = Parts::default();
+    // A `loop`: the turn that ends it tells how many heads there were.
     loop {
         match turn(recording, live, stage)? {
             Turn::Over(heads) => {

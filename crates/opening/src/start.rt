@@ -9,7 +9,8 @@ use refusals::{Cause, Refusal};
 use rowstore::is_allowed;
 use segments::segment_of;
 
-// Whether the recording and each table are within their limits.
+// Whether the recording and each table are within their limits. A chain of tests, since the check finds no proof for
+// `all` over an array of the five.
 #[tactic(auto, unfolding(open_rules::specs::Promise::are_allowed))]
 fn are_allowed(recording: &[u8], tables: &Lent) -> bool
     ensures { result ≡ are_allowed recording.now (sizes_of (lent tables.now)) }

@@ -17,7 +17,6 @@ use Rattle.elements_rules.proofs.Family.{nth_before}
 use Rattle.elements_rules.proofs.Forests.{length_rows}
 use Rattle.elements_rules.proofs.Parts.{taken_there}
 use Rattle.places_rules.specs.Whose.{holder_in}
-use Rattle.places_rules.specs.declared.whose.Holder.{Holder}
 use Rattle.places_rules.specs.declared.whose.Holder.TheVariants.{Header as RowHeader, Payload as RowPayload}
 use Rattle.places_rules.proofs.Spots.{holder_header, holder_payload}
 use Rattle.owner_rules.specs.Owner.{Side, header, payload, Owned, in_master, owner_at}
@@ -25,6 +24,8 @@ use Rattle.owner_rules.specs.Way.{IsMaster}
 use Rattle.owner_rules.specs.Theorems.{ParentsOf, below}
 use Rattle.owner_rules.proofs.Steps.{in_header, in_payload, in_master_law, behind}
 use Rattle.owner_rules.proofs.Headers.{either, master_or_not}
+use Rattle.std.proofs.Common.{Option, Some}
+use Rattle.places_rules.specs.declared.whose.Holder.{Holder}
 
 -- ---- rows by their numbers
 
@@ -36,9 +37,9 @@ nth_behind (r ∷ rs) ss k =
     ap (nth (r ∷ (rs ++ ss))) e ∙ nth_behind rs ss k
 
 -- What of a row holds the address, where an owner is told by that side.
-abbrev pub holder_of : Side → Holder
-holder_of header = RowHeader
-holder_of payload = RowPayload
+abbrev pub holder_of : Side → Option Holder
+holder_of header = Some RowHeader
+holder_of payload = Some RowPayload
 
 module _ (live : Bool) (s : List ℕ) (x : ℕ) (all : List Row) where
   -- The row of an owner that was found below some masters.

@@ -28,7 +28,6 @@ use Rattle.places_rules.specs.Whose.{by_header, by_payload, holder_in, asked_of,
 use Rattle.places_rules.specs.Promise.{whose_told, WhosePromise}
 use Rattle.places_rules.specs.Theorems.{Owner as RowOwner}
 use Rattle.places_rules.specs.declared.whose.Holder.TheVariants.{Header as HeaderHolds, Payload as PayloadHolds}
-use Rattle.places_rules.specs.declared.whose.Holder.TheVariants.{Neither}
 use Rattle.places_rules.specs.declared.whose.WhoseRow.TheVariants.{Header as RowHeader, Payload as RowPayload}
 use Rattle.places_rules.proofs.Unique.{replied, replied_back}
 use Rattle.places_rules.proofs.Owners.{asked_done, table_rows, row_owns}
@@ -43,6 +42,7 @@ use Rattle.std.proofs.Common.{Result, Ok, Err}
 use Rattle.owner_rules.specs.declared.owner.Owner.{Owner}
 use Rattle.refusals.specs.declared.refusal.Refusal.{Refusal}
 use Rattle.places_rules.specs.declared.whose.WhoseRow.{WhoseRow}
+use Rattle.std.proofs.Common.{Some, None}
 
 -- ---- the limits, and one row
 
@@ -62,7 +62,7 @@ module _ (r : Row) (x : ℕ) where
   unfolding holder_in
   held p q = go (in_header r x) (in_leaf r x) p q
     where
-      go : (a b : Bool) (p : Side) → cond a HeaderHolds (cond b PayloadHolds Neither) ≡ holder_of p → (a || b) ≡ true
+      go : (a b : Bool) (p : Side) → cond a (Some HeaderHolds) (cond b (Some PayloadHolds) None) ≡ holder_of p → (a || b) ≡ true
       go true b p w = refl
       go false true p w = refl
       go false false header w = let z : ◌≡◌ {A = ℕ} 0 1 = cc in absurd (omega arith)
@@ -88,7 +88,7 @@ module _ (r : Row) (x : ℕ) where
   side_payload payload q b = refl
   side_payload header q b = by (in_header r x) refl (rw b at q)
     where
-      by : (a : Bool) → in_header r x ≡ a → cond a HeaderHolds PayloadHolds ≡ HeaderHolds → header ≡ payload
+      by : (a : Bool) → in_header r x ≡ a → cond a (Some HeaderHolds) (Some PayloadHolds) ≡ Some HeaderHolds → header ≡ payload
       by true e w = absurd (not_both e b)
       by false e w = let z : ◌≡◌ {A = ℕ} 0 1 = cc in absurd (let y : ⊥ = omega arith in y)
 

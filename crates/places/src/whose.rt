@@ -20,24 +20,24 @@ pub fn is_within(start: u64, size: u64, address: u64) -> bool
 }
 
 // A header is its row's own, and so is a leaf's payload; a master's payload is its children's.
-fn held_by(row: Row, address: u64) -> Holder
+fn held_by(row: Row, address: u64) -> Option<Holder>
     ensures { result ≡ holder_in row address }
 {
     if address < row.address {
-        return Holder::Neither;
+        return None;
     }
     let past = address - row.address;
     if past < row.header {
-        return Holder::Header;
+        return Some(Holder::Header);
     }
     if row.kind == MASTER {
-        return Holder::Neither;
+        return None;
     }
     let into = past - row.header;
     if into < row.payload {
-        return Holder::Payload;
+        return Some(Holder::Payload);
     }
-    Holder::Neither
+    None
 }
 
 // The first of the table's rows that holds the address.
@@ -47,19 +47,19 @@ fn find(table: &[u64], rows: usize, address: u64) -> Result<WhoseRow, Refusal>
 {
     for n in 0..rows {
         match held_by(row_at(table, n), address) {
-            Holder::Header => {
+            Some(Holder::Header) => {
                 return Ok(WhoseRow::Header {
                     row: n as u64,
                     rows: rows as u64,
                 });
             }
-            Holder::Payload => {
+            Some(Holder::Payload) => {
                 return Ok(WhoseRow::Payload {
                     row: n as u64,
                     rows: rows as u64,
                 });
             }
-            Holder::Neither => {}
+            None => {}
         }
     }
     Err(Cause::Outside.at(0))

@@ -23,8 +23,9 @@ use Rattle.places_rules.specs.Payload.{refused as no_range}
 use Rattle.places_rules.specs.Whose.{named, holder_in, whose_in, asked_of, whose_of}
 use Rattle.places_rules.specs.Promise.{values_of}
 use Rattle.places_rules.specs.Theorems.{PlacesHonest}
+use Rattle.places_rules.specs.declared.whose.Holder.TheVariants.{Header, Payload}
+use Rattle.std.proofs.Common.{Option, Some, None}
 use Rattle.places_rules.specs.declared.whose.Holder.{Holder}
-use Rattle.places_rules.specs.declared.whose.Holder.TheVariants.{Header, Payload, Neither}
 
 -- A choice between a range and 14.
 pub range_refused : (b : Bool) (r : PayloadRange) (e : Refusal)
@@ -50,11 +51,11 @@ unfolding whose_in
 none_holds [] row total x e q = cc
 none_holds (r ∷ rs) row total x e q = by (holder_in r x) q (none_holds rs (row + 1) total x e)
   where
-    by : (h : Holder) → refusal e ≡ named h row total (whose_in rs (row + 1) total x)
+    by : (h : Option Holder) → refusal e ≡ named h row total (whose_in rs (row + 1) total x)
         → (refusal e ≡ whose_in rs (row + 1) total x → outside ≡ e) → outside ≡ e
-    by Header w rest = let z : ◌≡◌ {A = ℕ} 0 1 = cc in absurd (let y : ⊥ = omega arith in y)
-    by Payload w rest = let z : ◌≡◌ {A = ℕ} 0 1 = cc in absurd (let y : ⊥ = omega arith in y)
-    by Neither w rest = rest w
+    by (Some Header) w rest = let z : ◌≡◌ {A = ℕ} 0 1 = cc in absurd (let y : ⊥ = omega arith in y)
+    by (Some Payload) w rest = let z : ◌≡◌ {A = ℕ} 0 1 = cc in absurd (let y : ⊥ = omega arith in y)
+    by None w rest = rest w
 
 module _ (live : Bool) (s : List ℕ) (start size parent x numbers : ℕ) where
   abbrev HonestHere : Refusal → Type 0

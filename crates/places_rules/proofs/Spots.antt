@@ -15,8 +15,9 @@ use Rattle.elements_rules.specs.Rows.{width, row_at, rows_of}
 use Rattle.elements_rules.specs.Holds.{within}
 use Rattle.elements_rules.specs.declared.row.Row.{Row}
 use Rattle.places_rules.specs.Whose.{holder_in, named, whose_in}
+use Rattle.places_rules.specs.declared.whose.Holder.TheVariants.{Header, Payload}
+use Rattle.std.proofs.Common.{Option, Some, None}
 use Rattle.places_rules.specs.declared.whose.Holder.{Holder}
-use Rattle.places_rules.specs.declared.whose.Holder.TheVariants.{Header, Payload, Neither}
 
 -- ---- a span, tested without a sum
 
@@ -34,14 +35,14 @@ module _ (start size x : ℕ) where
 -- ---- one row
 
 module _ (r : Row) (x : ℕ) where
-  pub holder_before : x < r.address → Neither ≡ holder_in r x
+  pub holder_before : x < r.address → None ≡ holder_in r x
   unfolding holder_in
   holder_before l =
       let m : x < r.address + r.header = omega arith in
       rw (lt-leb r.address x l, lt-leb (r.address + r.header) x m, and-false)
 
   module _ (l : r.address ≤ x) where
-    pub holder_header : x - r.address < r.header → Header ≡ holder_in r x
+    pub holder_header : x - r.address < r.header → Some Header ≡ holder_in r x
     unfolding holder_in
     holder_header h =
         let m : x < r.address + r.header = omega arith in
@@ -51,12 +52,12 @@ module _ (r : Row) (x : ℕ) where
       behind : r.address + r.header ≤ x
       behind = omega arith
 
-      pub holder_master : r.kind ≡ 1 → Neither ≡ holder_in r x
+      pub holder_master : r.kind ≡ 1 → None ≡ holder_in r x
       unfolding holder_in
       holder_master k = rw (le-leb r.address x l, le-ltb x (r.address + r.header) behind, eq-eqb r.kind 1 k)
 
       module _ (k : r.kind ≡ 1 → ⊥) where
-        pub holder_payload : x - r.address - r.header < r.payload → Payload ≡ holder_in r x
+        pub holder_payload : x - r.address - r.header < r.payload → Some Payload ≡ holder_in r x
         unfolding holder_in
         holder_payload p =
             let m : x < r.address + r.header + r.payload = omega arith in
@@ -68,7 +69,7 @@ module _ (r : Row) (x : ℕ) where
               lt-ltb x (r.address + r.header + r.payload) m,
             )
 
-        pub holder_behind : r.payload ≤ x - r.address - r.header → Neither ≡ holder_in r x
+        pub holder_behind : r.payload ≤ x - r.address - r.header → None ≡ holder_in r x
         unfolding holder_in
         holder_behind p =
             let m : r.address + r.header + r.payload ≤ x = omega arith in
@@ -98,7 +99,7 @@ module _ (t : List ℕ) (rows x n : ℕ) (w : Walk t rows x n) where
 
   module _ (l : n < rows) (r : Row) (e : r ≡ row_at t n) where
     pub walk_step :
-        (p : Holder) → p ≡ holder_in r x
+        (p : Option Holder) → p ≡ holder_in r x
         → whose_in (rows_of t rows) 0 rows x
         ≡ named p n rows (whose_in (rows_of (drop ((n + 1) * width) t) (rows - (n + 1))) (n + 1) rows x)
     unfolding whose_in rows_of row_at
@@ -107,5 +108,5 @@ module _ (t : List ℕ) (rows x n : ℕ) (w : Walk t rows x n) where
         let d : n * width + width ≡ (n + 1) * width = omega arith in
         w.rest ∙ rw (f, drop-drop width (n * width) t, d, q, e)
 
-    pub walk_on : Neither ≡ holder_in r x → Walk t rows x (n + 1)
-    walk_on q = record { some = omega arith; rest = walk_step Neither q }
+    pub walk_on : None ≡ holder_in r x → Walk t rows x (n + 1)
+    walk_on q = record { some = omega arith; rest = walk_step None q }

@@ -8,22 +8,23 @@ use Rattle.elements_rules.specs.Rows.{rows_at}
 use Rattle.elements_rules.specs.Holds.{within, in_header, in_leaf}
 use Rattle.elements_rules.specs.Promise.{allowed, filled}
 use Rattle.elements_rules.specs.declared.row.Row.{Row}
+use Rattle.places_rules.specs.declared.whose.Holder.TheVariants.{Header, Payload}
+use Rattle.std.specs.Prelude.{Option, Some, None}
 use Rattle.places_rules.specs.declared.whose.Holder.{Holder}
-use Rattle.places_rules.specs.declared.whose.Holder.TheVariants.{Header, Payload, Neither}
 
 -- What of a row holds the address.
-unfoldable pub holder_in : Row → ℕ → Holder
-holder_in r x = cond (in_header r x) Header (cond (in_leaf r x) Payload Neither)
+unfoldable pub holder_in : Row → ℕ → Option Holder
+holder_in r x = cond (in_header r x) (Some Header) (cond (in_leaf r x) (Some Payload) None)
 
 -- The row that holds the address, by its header or by its payload, and how many rows there are.
 pub data Whose : Type 0 where
   by_header : (row rows : ℕ) → Whose
   by_payload : (row rows : ℕ) → Whose
 
-abbrev pub named : Holder → ℕ → ℕ → Reply Whose → Reply Whose
-named Header row total others = accepted (by_header row total)
-named Payload row total others = accepted (by_payload row total)
-named Neither row total others = others
+abbrev pub named : Option Holder → ℕ → ℕ → Reply Whose → Reply Whose
+named (Some Header) row total others = accepted (by_header row total)
+named (Some Payload) row total others = accepted (by_payload row total)
+named None row total others = others
 
 -- The first row that holds the address, the rows counted from `row` on. Where none does the answer would be 15; that
 -- one always does is a theorem (`OneRowOwns`).

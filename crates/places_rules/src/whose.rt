@@ -7,10 +7,9 @@ pub enum WhoseRow {
     Payload { row: u64, rows: u64 },
 }
 
-// What of a row holds an address.
+// What of a row holds an address, where it does.
 #[derive(Clone, Copy)]
 pub enum Holder {
     Header,
     Payload,
-    Neither,
 }

@@ -10,7 +10,7 @@ impl Cells for u64 {
     }
 }
 
-// The list by its place among `track edition chapter attachment`.
+// The list by its place among `track edition chapter attachment`: the line's word is a place in that list.
 pub fn list_at(place: u64) -> UidList {
     match place {
         0 => UidList::Track,

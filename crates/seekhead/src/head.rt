@@ -2,15 +2,17 @@
 ghost use Rattle.std.specs.Prelude.{◌≡◌, [], ◌∷◌};
 ghost use Rattle.seekhead_rules.specs.Table.{later as later_of, positions_from};
 ghost use Rattle.walks_rules.specs.Contract.{Readable};
-ghost use Rattle.seekhead_rules.specs.Contract.{Taken, child_told, inserted, head_told};
+ghost use Rattle.seekhead_rules.specs.Contract.{inserted, entries_more, head_told};
+ghost use Rattle.seekhead_rules.specs.Seeks.{segment_id};
+ghost use Rattle.seekhead_rules.proofs.Members.{entries_gather};
 
+use crate::level::{Gather, gathered};
 use crate::seek::seek_body;
 use crate::skim::skim_body;
-use elements::element_header;
-use header::{Cursor, Headed};
+use header::Headed;
 use kinds::ids;
-use refusals::{Cause, Refusal};
-use seekhead_rules::{Positions, Seek, Seektable, Wanted};
+use refusals::Refusal;
+use seekhead_rules::{Entries, Positions, Seek, Seektable, Wanted};
 
 // The latest position of an id, after one more entry: the last Seek of an id wins.
 fn later(old: Option<u64>, id: u32, seek: Seek) -> Option<u64>
@@ -46,23 +48,27 @@ fn insert(table: Seektable, wanted: Wanted, seek: Seek) -> Seektable
     }
 }
 
-// The table with the child of a head whose header was read: an entry if it is a Seek, else nothing more.
-fn head_child(
-    recording: &[u8],
-    live: bool,
-    wanted: Wanted,
-    table: Seektable,
-    child: Headed,
-) -> Result<Seektable, Refusal>
-    requires { Taken live recording.now child }
-    ensures { result ≡ child_told live recording.now wanted table child }
-{
-    if child.header.id == ids::SEEK {
-        let seek = seek_body(recording, live, child)?;
-        return Ok(insert(table, wanted, seek));
+impl Gather for Entries {
+    ghost depth = { 0 };
+
+    ghost parent = { segment_id };
+
+    ghost make = { entries_more };
+
+    ghost laws = { entries_gather };
+
+    // The table with the child of a head whose header was read: an entry if it is a Seek, else nothing more.
+    fn with(self, recording: &[u8], live: bool, child: Headed) -> Result<Entries, Refusal> {
+        if child.header.id == ids::SEEK {
+            let seek = seek_body(recording, live, child)?;
+            return Ok(Entries {
+                table: insert(self.table, self.wanted, seek),
+                ..self
+            });
+        }
+        skim_body(recording, live, child, ids::SEGMENT, 0)?;
+        Ok(self)
     }
-    skim_body(recording, live, child, ids::SEGMENT, 0)?;
-    Ok(table)
 }
 
 // The positions of the wanted ids with those of a head whose header was read, and its entry for a further head.
@@ -76,20 +82,7 @@ pub fn head_body(
     requires { Readable recording.now head }
     ensures { result ≡ head_told live recording.now wanted parts head }
 {
-    let mut at = head.payload.at;
-    let end = at + head.header.size;
-    let mut table = Seektable { parts, head: None };
-    while at < end {
-        let child = element_header(recording, live, Cursor { at })?;
-        table = head_child(recording, live, wanted, table, child)?;
-        let next = child.payload.at + child.header.size;
-        if end < next {
-            return Err(Refusal {
-                address: at,
-                cause: Cause::Overrun,
-            });
-        }
-        at = next;
-    }
-    Ok(table)
+    let table = Seektable { parts, head: None };
+    let entries = gathered(Entries { wanted, table }, recording, live, head)?;
+    Ok(entries.table)
 }

@@ -4,6 +4,7 @@
 #![tactic(auto)]
 
 mod head;
+mod level;
 mod seek;
 mod skim;
 

@@ -1,16 +1,17 @@
 // A Seek: an entry of a seek head.
 ghost use Rattle.std.specs.Prelude.{◌≡◌, min};
 ghost use Rattle.bodies_rules.specs.Bodies.{body as body_is};
-ghost use Rattle.seekhead_rules.specs.Seeks.{last_four, noted as noted_of};
+ghost use Rattle.seekhead_rules.specs.Seeks.{seek_id, with_members, last_four, noted as noted_of};
 ghost use Rattle.walks_rules.specs.Contract.{Readable};
-ghost use Rattle.seekhead_rules.specs.Contract.{Taken, Whole, member_told, seek_told};
+ghost use Rattle.seekhead_rules.specs.Contract.{Whole, seek_told};
+ghost use Rattle.seekhead_rules.proofs.Members.{members_gather};
 
+use crate::level::{Gather, gathered};
 use crate::skim::skim_body;
 use bodies_rules::{Body, Value};
-use elements::element_header;
-use header::{Cursor, Headed, big_endian};
+use header::{Headed, big_endian};
 use kinds::ids;
-use refusals::{Cause, Refusal};
+use refusals::Refusal;
 use seekhead_rules::Seek;
 
 // The last four bytes of an element's payload as a number; all of them where there are fewer.
@@ -41,13 +42,20 @@ fn noted(recording: &[u8], seek: Seek, member: Headed, body: Body) -> Seek
     }
 }
 
-// A Seek with the member whose header was read.
-fn seek_member(recording: &[u8], live: bool, seek: Seek, member: Headed) -> Result<Seek, Refusal>
-    requires { Taken live recording.now member }
-    ensures { result ≡ member_told live recording.now seek member }
-{
-    let body = skim_body(recording, live, member, ids::SEEK, 1)?;
-    Ok(noted(recording, seek, member, body))
+impl Gather for Seek {
+    ghost depth = { 1 };
+
+    ghost parent = { seek_id };
+
+    ghost make = { with_members };
+
+    ghost laws = { members_gather };
+
+    // A Seek with the member whose header was read.
+    fn with(self, recording: &[u8], live: bool, member: Headed) -> Result<Seek, Refusal> {
+        let body = skim_body(recording, live, member, ids::SEEK, 1)?;
+        Ok(noted(recording, self, member, body))
+    }
 }
 
 // A Seek whose header was read, with its members.
@@ -55,20 +63,5 @@ pub fn seek_body(recording: &[u8], live: bool, element: Headed) -> Result<Seek, 
     requires { Readable recording.now element }
     ensures { result ≡ seek_told live recording.now element }
 {
-    let mut at = element.payload.at;
-    let end = at + element.header.size;
-    let mut seek = Seek { id: 0, position: 0 };
-    while at < end {
-        let member = element_header(recording, live, Cursor { at })?;
-        seek = seek_member(recording, live, seek, member)?;
-        let next = member.payload.at + member.header.size;
-        if end < next {
-            return Err(Refusal {
-                address: at,
-                cause: Cause::Overrun,
-            });
-        }
-        at = next;
-    }
-    Ok(seek)
+    gathered(Seek { id: 0, position: 0 }, recording, live, element)
 }

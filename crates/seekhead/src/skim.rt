@@ -44,9 +44,8 @@ pub fn skim_body(
         )?;
         return Ok(Body::Master);
     }
-    let (body, _) = read_body(recording, element, kind).map_err(|cause| Refusal {
-        address: element.place.at,
-        cause,
-    })?;
+    let (body, _) = read_body(recording, element, kind).map_err(|cause| cause.at(
+        element.place.at,
+    ))?;
     Ok(body)
 }

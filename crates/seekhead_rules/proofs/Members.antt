@@ -19,12 +19,13 @@ use Rattle.elements_rules.proofs.Parts.{step_read}
 use Rattle.seekhead_rules.specs.Seeks.{segment_id, seek_head_id, seek_id, seek_body, noted, no_seek, with_members}
 use Rattle.seekhead_rules.specs.Seeks.{entry_of, entries}
 use Rattle.seekhead_rules.specs.Table.{latest_from}
-use Rattle.seekhead_rules.specs.Contract.{element_at, Holds, member_told, seek_told, inserted}
-use Rattle.seekhead_rules.specs.Contract.{with_entries, child_told}
+use Rattle.seekhead_rules.specs.Contract.{element_at, Holds, one_told, seek_told, inserted}
+use Rattle.seekhead_rules.specs.Contract.{with_entries, entries_more, Gathers}
 use Rattle.header.specs.declared.cursor.Headed.{Headed}
 use Rattle.seekhead_rules.specs.declared.seek.Seek.{Seek}
 use Rattle.seekhead_rules.specs.declared.head.Wanted.{Wanted}
 use Rattle.seekhead_rules.specs.declared.head.Seektable.{Seektable}
+use Rattle.seekhead_rules.specs.declared.head.Entries.{Entries}
 use Rattle.header.proofs.Inside.{header_there}
 use Rattle.seekhead_rules.proofs.PositionLaws.{latest_append, positions_append, positions_none}
 use Rattle.seekhead_rules.proofs.Levels.{Level, Lawful, told_read, told_stopped}
@@ -96,12 +97,46 @@ children_law s wanted = record {
       rw (entries_join s at f g, positions_append wanted table.parts, latest_append seek_head_id table.head) refl;
 }
 
+-- ---- what is gathered
+
+abbrev pub level :
+    {A : Type 0} → (depth parent : ℕ) → (List ℕ → ℕ → Forest → A → A) → List ℕ → Level
+level {A} depth parent make s =
+    record { A = A; R = (Result A Refusal); read = Ok; stop = Err; depth = depth; parent = parent; make = make s }
+
+pub level_law :
+    {A : Type 0} (depth parent : ℕ) (make : List ℕ → ℕ → Forest → A → A) → Gathers depth make
+    → (s : List ℕ) → Lawful (level depth parent make s)
+level_law depth parent make g s = record {
+  one = λ a b q. (cc);
+  other = λ a e q. let z : ◌≡◌ {A = ℕ} 0 1 = cc in omega arith;
+  cause = λ e e' q. (cc);
+  shallow = g.shallow;
+  nothing = g.nothing s;
+  further = g.further s;
+}
+
+pub members_gather : Gathers 1 with_members
+members_gather = record {
+  shallow = omega arith;
+  nothing = λ s. (members_law s).nothing;
+  further = λ s. (members_law s).further;
+}
+
+pub entries_gather : Gathers 0 entries_more
+entries_gather = record {
+  shallow = omega arith;
+  nothing = λ s at e. ap (λ x. record { wanted = e.wanted; table = x }) ((children_law s e.wanted).nothing at e.table);
+  further = λ s at f g e.
+      ap (λ x. record { wanted = e.wanted; table = x }) ((children_law s e.wanted).further at f g e.table);
+}
+
 -- ---- a member of a Seek
 
 pub member_more : (live : Bool) (s : List ℕ) (seek : Seek) (e : Headed)
     → element_header_read live s e.place.at ≡ Ok e
     → (b : Body) → Holds live s 1 seek_id e b → (r : Seek) → r ≡ noted s e (body b) seek
-    → Ok r ≡ member_told live s seek e
+    → Ok r ≡ one_told 1 seek_id with_members live s seek e
 unfolding with_members
 member_more live s seek e q b x r w =
     let t = header_there s e.place.at e (step_read live s e.place.at e q).1 in
@@ -116,13 +151,13 @@ seek_is_master : (h : Header) → h.id ≡ seek_id → number_of (kind_under h.i
 unfolding kind_under member keeps kind_in elements
 seek_is_master h q = rw q refl
 
-module _ (live : Bool) (s : List ℕ) (wanted : Wanted) (table : Seektable) (e : Headed) where
+module _ (live : Bool) (s : List ℕ) (old : Entries) (e : Headed) where
   -- What is no Seek adds nothing.
   pub other_more : (e.header.id ≡ seek_id → ⊥) → (b : Body) → Holds live s 0 segment_id e b
-      → Ok table ≡ child_told live s wanted table e
+      → Ok old ≡ one_told 0 segment_id entries_more live s old e
   unfolding with_entries entries entry_of latest_from
   other_more o b x =
-      rw (x.holds, ne_eqb e.header.id seek_id o, positions_none wanted table.parts) refl
+      rw (x.holds, ne_eqb e.header.id seek_id o, positions_none old.wanted old.table.parts) refl
 
   module _ (there : element_header_read live s e.place.at ≡ Ok e) (q : e.header.id ≡ seek_id) where
     -- A Seek is its members.
@@ -132,7 +167,7 @@ module _ (live : Bool) (s : List ℕ) (wanted : Wanted) (table : Seektable) (e :
         by_elements live s 0 segment_id e there (omega arith) (seek_is_master e.header q) ∙ rw q refl
 
     pub seek_refusal : (x : Refusal) → Err x ≡ seek_told live s e
-        → Err x ≡ child_told live s wanted table e
+        → Err x ≡ one_told 0 segment_id entries_more live s old e
     seek_refusal x w = rw (by_members, told_stopped live s (members s) (members_law s) _ x (seek_body live s e) w) refl
 
     its_entry : (f : Forest)
@@ -142,9 +177,11 @@ module _ (live : Bool) (s : List ℕ) (wanted : Wanted) (table : Seektable) (e :
     its_entry f = rw (q, (header_there s e.place.at e (step_read live s e.place.at e there).1).behind) refl
 
     pub seek_more : (x : Seek) → Ok x ≡ seek_told live s e
-        → (r : Seektable) → r ≡ inserted wanted table (x ∷ []) → Ok r ≡ child_told live s wanted table e
+        → (r : Seektable) → r ≡ inserted old.wanted old.table (x ∷ [])
+        → Ok (record { wanted = old.wanted; table = r }) ≡ one_told 0 segment_id entries_more live s old e
     unfolding with_entries
     seek_more x w r i =
         let (f, k, y) = told_read live s (members s) (members_law s) _ x (seek_body live s e) w in
-        rw (by_members, k) (ap Ok (i ∙ ap (λ (v : Seek). inserted wanted table (v ∷ [])) y
-        ∙ ap (inserted wanted table) (its_entry f)))
+        rw (by_members, k) (ap (λ (r : Seektable). Ok (record { wanted = old.wanted; table = r }))
+        (i ∙ ap (λ (v : Seek). inserted old.wanted old.table (v ∷ [])) y
+        ∙ ap (inserted old.wanted old.table) (its_entry f)))

@@ -3,9 +3,8 @@ use Prim.Native.Nat.{ℕ, zero, suc, ◌+◌, ◌-◌}
 use mathlib.Core.Path.{◌≡◌, refl, sym, ap, ◌∙◌}
 use mathlib.Core.List.{List}
 use mathlib.Core.Bool.{Bool, cond}
-use lib.ListN.{drop}
 use lib.Dec.{ltb, eqb}
-use Rattle.header.specs.Header.{Heading, heading, header_of}
+use Rattle.header.specs.Header.{Heading, heading}
 use Rattle.header.specs.Header.{refused as refused_header}
 use Rattle.refusals.specs.Refusals.{overrun, no_free_row}
 use Rattle.header.specs.declared.cursor.Header.{Header}

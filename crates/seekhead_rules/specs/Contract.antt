@@ -1,14 +1,15 @@
 -- What the functions of `seekhead` promise each other: how the definitions are told by the code's enums.
-use Rattle.std.specs.Prelude.{ℕ, ◌-◌, ◌≤◌, ◌<◌, ◌≡◌, List, Bool, length}
+use Rattle.std.specs.Prelude.{ℕ, ◌+◌, ◌-◌, ◌≤◌, ◌<◌, ◌≡◌, List, Bool, length}
 use Rattle.header.specs.Promise.{most_bytes}
 use Rattle.refusals.specs.declared.refusal.Refusal.{Refusal}
 use Rattle.kinds.specs.Kinds.{kind_under}
 use Rattle.bodies_rules.specs.Bodies.{body, body_of}
 use Rattle.bodies_rules.specs.declared.body.Body.{Body}
-use Rattle.elements_rules.specs.Forest.{Forest, none, node}
+use Rattle.elements_rules.specs.Forest.{Forest, none, node, span, join}
 use Rattle.elements_rules.specs.Reading.{Outcome, done, refused, element_header_read, depths, element_of, element}
 use Rattle.header.specs.Reads.{behind}
-use Rattle.seekhead_rules.specs.Seeks.{segment_id, seek_head_id, seek_id, without_rows, no_seek, with_members}
+use Rattle.seekhead_rules.specs.Seeks.{seek_head_id, without_rows, skimmed, no_seek}
+use Rattle.seekhead_rules.specs.Seeks.{with_members}
 use Rattle.seekhead_rules.specs.Seeks.{head_of, seek_body, entries}
 use Rattle.seekhead_rules.specs.Table.{latest_from, positions_from}
 use Rattle.header.specs.declared.cursor.Headed.{Headed}
@@ -16,6 +17,7 @@ use Rattle.seekhead_rules.specs.declared.seek.Seek.{Seek}
 use Rattle.seekhead_rules.specs.declared.head.Wanted.{Wanted}
 use Rattle.seekhead_rules.specs.declared.head.Positions.{Positions}
 use Rattle.seekhead_rules.specs.declared.head.Seektable.{Seektable}
+use Rattle.seekhead_rules.specs.declared.head.Entries.{Entries}
 use Rattle.std.specs.Prelude.{Result, Ok, Err, None}
 
 -- What a reader of an element of a payload asks: a recording within its limit, and an element whose header was read by
@@ -55,10 +57,26 @@ abbrev pub told : {A R : Type 0} → (A → R) → (Refusal → R) → (Forest �
 told read stop make (done f) = read (make f)
 told read stop make (refused e) = stop e
 
--- A Seek with one more member: `seek_member`.
-abbrev pub member_told : (live : Bool) → List ℕ → Seek → Headed → Result Seek Refusal
-member_told live s seek e =
-    told Ok Err (λ f. with_members s e.place.at f seek) (element_at live s 1 seek_id e.place.at)
+-- What the elements of a payload make of a value, one after another, at a depth and under a parent id: with one more
+-- element, and with all of them. A head's children make a table, a Seek's members a Seek.
+abbrev pub one_told :
+    {A : Type 0} → (depth parent : ℕ) → (List ℕ → ℕ → Forest → A → A) → (live : Bool) → List ℕ → A → Headed
+    → Result A Refusal
+one_told depth parent make live s a e =
+    told Ok Err (λ f. make s e.place.at f a) (element_at live s depth parent e.place.at)
+
+abbrev pub all_told :
+    {A : Type 0} → (depth parent : ℕ) → (List ℕ → ℕ → Forest → A → A) → (live : Bool) → List ℕ → A → Headed
+    → Result A Refusal
+all_told depth parent make live s a e = told Ok Err (λ f. make s e.payload.at f a) (skimmed live s depth parent e)
+
+-- The depth is one that elements have, and the elements may be taken a few at a time.
+pub record Gathers {A : Type 0} (depth : ℕ) (make : List ℕ → ℕ → Forest → A → A) : Type 0 where
+  pub shallow : depth < depths
+  pub nothing : (s : List ℕ) (at : ℕ) (a : A) → make s at none a ≡ a
+  pub further :
+      (s : List ℕ) (at : ℕ) (f g : Forest) (a : A)
+      → make s at (join f g) a ≡ make s (at + span f) g (make s at f a)
 
 -- A Seek with all its members: `seek_body`.
 abbrev pub seek_told : (live : Bool) → List ℕ → Headed → Result Seek Refusal
@@ -72,11 +90,9 @@ inserted wanted table es =
 unfoldable pub with_entries : List ℕ → Wanted → ℕ → Forest → Seektable → Seektable
 with_entries s wanted at f table = inserted wanted table (entries s at f)
 
--- A table with one more child of a head: `head_child`.
-abbrev pub child_told : (live : Bool) → List ℕ → Wanted → Seektable → Headed → Result Seektable Refusal
-child_told live s wanted table e =
-    told Ok Err (λ f. with_entries s wanted e.place.at f table)
-    (element_at live s 0 segment_id e.place.at)
+-- A table, with the ids that it is of.
+abbrev pub entries_more : List ℕ → ℕ → Forest → Entries → Entries
+entries_more s at f e = record { wanted = e.wanted; table = with_entries s e.wanted at f e.table }
 
 -- Before a head was read, with the positions by those before.
 abbrev pub fresh : Positions → Seektable

@@ -1,6 +1,7 @@
 // The ids that are wanted, the table of their positions, and what the reader of a head gives.
 
-// A set of wanted ids, of up to five: a search for a part wants one. 0 stands where no id is wanted.
+// A set of wanted ids, of up to five: a search for a part wants one. 0 stands where no id is wanted. Fields and no array:
+// the crates above take each by its name, for which an index would say less.
 #[derive(Clone, Copy)]
 pub struct Wanted {
     pub first: u32,
@@ -25,4 +26,11 @@ pub struct Positions {
 pub struct Seektable {
     pub parts: Positions,
     pub head: Option<u64>,
+}
+
+// The ids that are wanted, and the table of a head's entries so far.
+#[derive(Clone, Copy)]
+pub struct Entries {
+    pub wanted: Wanted,
+    pub table: Seektable,
 }

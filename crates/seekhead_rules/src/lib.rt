@@ -4,5 +4,5 @@
 mod head;
 mod seek;
 
-pub use head::{Positions, Seektable, Wanted};
+pub use head::{Entries, Positions, Seektable, Wanted};
 pub use seek::Seek;

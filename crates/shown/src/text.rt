@@ -28,10 +28,7 @@ pub fn text_range(recording: &[u8], table: &[u64], row: u64) -> Result<Range, Re
 {
     let range = payload_range(recording, table, row)?;
     if !is_text(row_at(table, row as usize).kind) {
-        return Err(Refusal {
-            address: 0,
-            cause: Cause::BadArgument,
-        });
+        return Err(Cause::BadArgument.at(0));
     }
     let text = shown_part(row_payload(recording, table, row));
     Ok(Range {

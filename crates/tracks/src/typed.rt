@@ -10,5 +10,6 @@ use codes::Tracktype;
 pub fn typed_of(number: Option<u64>) -> Option<Tracktype>
     ensures { typed_told result ≡ said typed number }
 {
-    Some(Tracktype::new(number?))
+    let number = number?;
+    Some(Tracktype::new(number))
 }

@@ -32,10 +32,7 @@ pub fn child_at(
         return Ok(None);
     }
     if is_barred(live, child) {
-        return Err(Refusal {
-            address: child.place.at,
-            cause: Cause::UnknownSize,
-        });
+        return Err(Cause::UnknownSize.at(child.place.at));
     }
     Ok(Some(child))
 }

@@ -13,7 +13,7 @@ row_at-requires c = row_there _ _ _ c.payload_range.ensures c.in_ok-range.was
 
 pub returns-then-not-is_text : goal.returns-then-not-is_text
 returns-then-not-is_text c =
-    no_text _ _ _ c.payload_range.ensures c.row_at.ensures c.is_text.ensures c.if-not-is_text.true
+    rw c.at.ensures (no_text _ _ _ c.payload_range.ensures c.row_at.ensures c.is_text.ensures c.if-not-is_text.true)
 
 pub returns : goal.returns
 returns c =

@@ -21,10 +21,11 @@ returns-then-is_ended_by c =
 
 pub returns-then-is_barred : goal.returns-then-is_barred
 returns-then-is_barred c =
-    child_unsized _ _ _ _ (sym c.is_past.ensures ∙ c.if-is_past.false) _
+    rw c.at.ensures
+    (child_unsized _ _ _ _ (sym c.is_past.ensures ∙ c.if-is_past.false) _
     (sym c.header.ensures ∙ c.in_ok-child.was)
     (sym c.is_ended_by.ensures ∙ c.if-is_ended_by.false)
-    (sym c.is_barred.ensures ∙ c.if-is_barred.true)
+    (sym c.is_barred.ensures ∙ c.if-is_barred.true))
 
 pub returns : goal.returns
 returns c =
