@@ -30,6 +30,7 @@ pub fn fill(
         row: 0,
         depth: 0,
     };
+    // A `match`, since a refusal clears the table.
     match master_body(recording, table, mode, from, size, 0, above) {
         Err(refusal) => {
             clear(table);

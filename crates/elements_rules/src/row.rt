@@ -18,7 +18,7 @@ pub struct Row {
     pub after: u64,
 }
 
-// How elements are read: with rows, or without; and in live mode, which knows unknown sizes, or in old mode, which
+// How elements are read, two free choices: with rows, or without; and in live mode, which knows unknown sizes, or in old mode, which
 // takes every size as the number that it is (document 02, C-18).
 #[derive(Clone, Copy)]
 pub struct Mode {

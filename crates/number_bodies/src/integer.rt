@@ -8,7 +8,7 @@ use bodies_rules::{Body, Value};
 use header::Cursor;
 use refusals::Cause;
 
-// The number that v is as two's complement of n bytes.
+// The number that v is as two's complement of n bytes. By hand: the library takes 1, 2, 4 or 8 bytes alone.
 pub fn signed(v: u64, n: u64) -> i64
     requires { (n ≤ 8) × (v < 2 ^ (8 * n)) }
     ensures { result ≡ signed_of n v }

@@ -38,6 +38,7 @@ pub fn payload_range(recording: &[u8], table: &[u64], row: u64) -> Result<Range,
 pub fn row_payload<'a>(recording: &'a [u8], table: &[u64], row: u64) -> &'a [u8]
     ensures { PayloadPromise recording.now table.now row result.now }
 {
+    // A `match`, since a refusal is told as no bytes.
     match payload_range(recording, table, row) {
         Err(_) => &recording[..0],
         Ok(range) => {

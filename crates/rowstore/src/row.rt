@@ -19,6 +19,7 @@ pub const MOST_ROWS: usize = 4096;
 // The most numbers of a table.
 pub const MOST_NUMBERS: usize = MOST_ROWS * WIDTH;
 
+// The eight numbers of a row by name, in the order in which C reads them (include/uzrafmed.h).
 fn put_row(table: &mut [u64], n: usize, row: Row)
     requires { n < length table.old / width }
     ensures { table.new ≡ sets table.old (n * width) (flat row) }
