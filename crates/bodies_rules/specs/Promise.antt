@@ -14,7 +14,7 @@ abbrev pub reply_of : ℕ → Told → Reply Body
 reply_of address (body b) = accepted b
 reply_of address (refused cause) = refusal (because cause address)
 
--- Document 01's values for each case of `BodyReply`: the body by its case, or the refusal.
+-- Document 01's values for what `body_at` answers: the body by its case, or the refusal.
 abbrev pub body_told : Result Body Refusal → Reply Body
 body_told (Ok b) = accepted b
 body_told (Err e) = refusal e

@@ -49,7 +49,7 @@ unfoldable pub table_of : (start numbers : ℕ) → Outcome → List ℕ
 table_of start numbers (done f) = flatten (rows_at start f) ++ zeros (numbers - count f * width)
 table_of start numbers (refused e) = zeros numbers
 
--- Document 01's value for each case of `ReadReply`: the count of rows, or the refusal.
+-- Document 01's value for what `read` answers: the count of rows, or the refusal.
 abbrev pub read_told : Result ℕ Refusal → Reply ℕ
 read_told (Ok n) = accepted n
 read_told (Err e) = refusal e

@@ -22,7 +22,7 @@ unfoldable pub header_reply : List ℕ → ℕ → Reply Header
 header_reply s at =
     cond (leb (length s) most_bytes && leb at (length s)) (reply_of at (header_of (drop at s))) (refusal bad_argument)
 
--- Document 01's values for each case of `HeaderReply`: id, size and length by their names, or the refusal.
+-- Document 01's values for what `header_at` answers: id, size and length by their names, or the refusal.
 abbrev pub header_told : Result Header Refusal → Reply Header
 header_told (Ok h) = accepted h
 header_told (Err e) = refusal e

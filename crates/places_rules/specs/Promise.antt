@@ -26,7 +26,7 @@ pub record RangePromise (s t : List ℕ) (row : ℕ) (r : Result Range Refusal) 
 pub record PayloadPromise (s t : List ℕ) (row : ℕ) (part : List ℕ) : Type 0 where
   pub reply : part ≡ bytes_of s (payload_range s t row)
 
--- Document 01's values for each case of `WhoseReply`.
+-- Document 01's values for each case of what `whose_byte` answers.
 abbrev pub whose_told : Result WhoseRow Refusal → Reply Whose
 whose_told (Ok (Header row rows)) = accepted (by_header row rows)
 whose_told (Ok (Payload row rows)) = accepted (by_payload row rows)

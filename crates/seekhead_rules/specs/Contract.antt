@@ -1,4 +1,4 @@
--- What the functions of `seekhead` promise each other: how the definitions are told by the code's enums.
+-- What the functions of `seekhead` promise each other: how the definitions are told by the code's types.
 use Rattle.std.specs.Prelude.{ℕ, ◌+◌, ◌-◌, ◌≤◌, ◌<◌, ◌≡◌, List, Bool, length}
 use Rattle.header.specs.Promise.{most_bytes}
 use Rattle.refusals.specs.declared.refusal.Refusal.{Refusal}
