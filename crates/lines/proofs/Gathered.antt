@@ -1,12 +1,10 @@
 -- What is gathered in several pieces is gathered as one.
 use mathlib.Core.Logic.{inl, inr}
 use mathlib.Core.Path.{◌≡◌, sym, ap, ◌∙◌, subst}
-use Rattle.std.proofs.Common.{arith, ℕ, ◌-◌, ◌^◌, ◌<◌, true, false, take, get_or, ◌+◌, ◌≤◌, List, [], ◌∷◌, ◌++◌, length, Option, Some, None, IfSome}
+use Rattle.std.proofs.Common.{arith, ℕ, ◌<◌, take, get_or, ◌+◌, ◌≤◌, List, [], ◌∷◌, ◌++◌, length, Option, Some, None, IfSome}
 use Rattle.std.proofs.lemmas.List.{append-nil, append_assoc, length-append, flat_map_more, take_more}
 use Rattle.std.specs.List.{concat, flat_map, FoldsTo}
-use Rattle.std.specs.Fmt.{WritesInCalls, WritesText, digits, digits_output, styled_digits_output, format_spec, padded_integral}
-use Rattle.std.specs.Option.{option_map}
-use Rattle.std.proofs.lemmas.Fmt.{hex_byte}
+use Rattle.std.specs.Fmt.{WritesInCalls, WritesText}
 use Rattle.lines.specs.Gathered.{Gathers, Takes, TakesOrFails, StaysFailed, two_digits, in_hex}
 use Rattle.lines.proofs.Kept.{keeps_same, keeps_more}
 
@@ -46,20 +44,14 @@ takes_on a x b y c (inr one) (inl failed) stays = inl failed
 takes_on a x b y c (inr one) (inr two) stays = inr (takes_more a x b y c one two)
 
 -- One more byte in hexadecimal digits, behind those so far.
-pub hex_more : (a : Option (List ℕ)) (bytes : List ℕ) (i : ℕ) (b : Option (List ℕ)) (d : _) (spec : _) (c : Option (List ℕ))
-    → i < length bytes → get_or bytes i 0 < 256 → digits_output d ≡ Some (digits 16 true (get_or bytes i 0)) → spec ≡ format_spec 32 0 4 2 (2 ^ 64 - 1)
-    → TakesOrFails a (flat_map two_digits (take i bytes)) b
-    → IfSome (styled_digits_output d spec) (λ text. TakesOrFails b text c) → StaysFailed b c
+pub hex_more : (a : Option (List ℕ)) (bytes : List ℕ) (i : ℕ) (b c : Option (List ℕ))
+    → i < length bytes → TakesOrFails a (flat_map two_digits (take i bytes)) b
+    → TakesOrFails b (two_digits (get_or bytes i 0)) c → StaysFailed b c
     → TakesOrFails a (flat_map two_digits (take (i + 1) bytes)) c
-hex_more a bytes i b d spec c in_bytes byte shown plain so_far more stays =
-    let text : styled_digits_output d spec ≡ Some (two_digits (get_or bytes i 0)) =
-    ap (styled_digits_output d) plain
-    ∙ ap (option_map (padded_integral (format_spec 32 0 4 2 (2 ^ 64 - 1)) false [])) shown
-    ∙ ap Some (hex_byte true (get_or bytes i 0) byte) in
-    let one : TakesOrFails b (two_digits (get_or bytes i 0)) c = subst (λ (t : Option (List ℕ)). IfSome t (λ text. TakesOrFails b text c)) text more in
+hex_more a bytes i b c in_bytes so_far more stays =
     let joined : flat_map two_digits (take i bytes) ++ two_digits (get_or bytes i 0) ≡ flat_map two_digits (take (i + 1) bytes) =
     flat_map_more two_digits [] (take i bytes) (get_or bytes i 0) ∙ ap (λ t. flat_map two_digits t) (sym (take_more bytes i 0 in_bytes)) in
-    subst (λ (t : List ℕ). TakesOrFails a t c) joined (takes_on a (flat_map two_digits (take i bytes)) b (two_digits (get_or bytes i 0)) c so_far one stays)
+    subst (λ (t : List ℕ). TakesOrFails a t c) joined (takes_on a (flat_map two_digits (take i bytes)) b (two_digits (get_or bytes i 0)) c so_far more stays)
 
 -- Where there are no bytes, `-` stands for them.
 pub hex_none : (a : Option (List ℕ)) (bytes : List ℕ) (b c : Option (List ℕ)) → length bytes ≡ 0 → Takes a (45 ∷ []) b → TakesOrFails b (flat_map two_digits bytes) c → StaysFailed b c → TakesOrFails a (in_hex bytes) c

@@ -1,6 +1,7 @@
 // Gathers what a program writes to standard output, and hands it on in large pieces.
-ghost use Rattle.std.specs.Prelude.{◌≡◌, ◌≤◌, [], ◌∷◌, ◌++◌, None, Some, IfSome, OnOk, ◌⊎◌};
-ghost use Rattle.lines.specs.Gathered.{Gathers, Keeps, StaysFailed, Takes, TakesOrFails, in_hex};
+ghost use Rattle.std.specs.Prelude.{◌≡◌, ◌≤◌, ◌<◌, true, [], ◌∷◌, ◌++◌, None, Some, IfSome, OnOk, ◌⊎◌};
+ghost use Rattle.std.specs.Fmt.{digit_glyph};
+ghost use Rattle.lines.specs.Gathered.{Gathers, Keeps, StaysFailed, Takes, TakesOrFails, two_digits, in_hex};
 
 use std::fmt::{Display, Write};
 use std::io::{Print, Stdout};
@@ -76,7 +77,7 @@ impl Out {
             self.put(b"-");
         }
         for byte in bytes {
-            self.print(format_args!("{byte:02X}"));
+            self.put(&two_digits(*byte));
         }
     }
 
@@ -89,9 +90,9 @@ impl Out {
         if let Ok(ROOM) = self.held {
             self.write_away();
         }
-        if let Ok(held) = self.held {
-            self.room[held] = byte;
-            self.held = Ok(held + 1);
+        if let Ok(held) = &mut self.held {
+            self.room[*held] = byte;
+            *held += 1;
         }
     }
 
@@ -110,6 +111,25 @@ impl Out {
     {
         self.write_away();
         self.held.map(|_| ())
+    }
+}
+
+// A byte in two hexadecimal digits: a format for each byte would take longer than all else of an answer.
+fn two_digits(byte: u8) -> [u8; 2]
+    ensures { result ≡ two_digits byte }
+{
+    [digit(byte / 16), digit(byte % 16)]
+}
+
+// A hexadecimal digit, as a capital letter from ten on.
+fn digit(value: u8) -> u8
+    requires { value < 16 }
+    ensures { result ≡ digit_glyph true value }
+{
+    if value < 10 {
+        b'0' + value
+    } else {
+        b'A' - 10 + value
     }
 }
 

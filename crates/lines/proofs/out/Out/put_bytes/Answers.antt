@@ -1,21 +1,24 @@
 -- `put_bytes`: one more byte stands in hexadecimal digits behind those so far, and all of them behind the label.
 use mathlib.Core.Logic.{inr}
 use mathlib.Core.Path.{◌≡◌, subst}
-use Rattle.std.proofs.Common.{rules, ℕ, List, Option, take, length, ◌<◌}
+use Rattle.std.proofs.Common.{rules, ℕ, List, Option, take, length, get_or, ◌<◌}
 use Rattle.std.specs.List.{flat_map}
 use Rattle.std.proofs.lemmas.List.{take_all}
-use Rattle.lines.specs.Gathered.{StaysFailed, TakesOrFails, in_hex, two_digits}
+use Rattle.lines.specs.Gathered.{StaysFailed, Takes, TakesOrFails, in_hex, two_digits}
 use Rattle.lines.proofs.Gathered.{hex_more, hex_none, hex_some, takes_on}
 use Rattle.lines.proofs.out.Out.put_bytes.Goals.{then-is_empty, else-is_empty}
 use Rattle.lines.proofs.out.Out.put_bytes.Goals as goal
 
 -- src/out.rt:77:9
 pub loop-byte-preserved : goal.loop-byte-preserved
-loop-byte-preserved c = (
-  hex_more _ c.args.bytes.now c.loop-byte.byte-index _ c.in_radix.result _ _ (search rules) (c.type_inv.bytes c.loop-byte.byte-index).fits c.in_radix.ensures c.laid_out.ensures
-      c.loop-byte.invariant.0 c.print.ensures.text c.print.ensures.failed,
-  λ failed. c.print.ensures.failed (c.loop-byte.invariant.1 failed),
-)
+loop-byte-preserved c =
+    let digits : Takes c.loop-byte.self (two_digits (get_or c.args.bytes.now c.loop-byte.byte-index 0)) c.put-in-loop-byte.new.self =
+    subst (λ (text : List ℕ). Takes c.loop-byte.self text c.put-in-loop-byte.new.self) c.two_digits.ensures
+    (c.put-in-loop-byte.ensures.gathers, c.put-in-loop-byte.ensures.kept) in (
+      hex_more _ c.args.bytes.now c.loop-byte.byte-index _ _ c.loop-byte-test.true
+          c.loop-byte.invariant.0 (inr digits) c.put-in-loop-byte.ensures.failed,
+      λ failed. c.put-in-loop-byte.ensures.failed (c.loop-byte.invariant.1 failed),
+    )
 
 -- src/out.rt:70:5
 pub returns-clause-text : goal.returns-clause-text
