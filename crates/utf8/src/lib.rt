@@ -67,11 +67,22 @@ fn lead_of(first: u8) -> Option<Lead>
     Some(lead)
 }
 
-// Whether each of the bytes is a tail.
+fn is_tail(byte: u8) -> bool
+    ensures { result ≡ within utf8_tail byte }
+{
+    matches!(byte, 0x80..=0xbf)
+}
+
+// Whether each of the bytes is a tail. A lead tells of two at most; these take no loop, which is faster.
 fn are_tails(bytes: &[u8]) -> bool
     ensures { result ≡ list_all (within utf8_tail) bytes.now }
 {
-    bytes.iter().all(|b| matches!(*b, 0x80..=0xbf))
+    match bytes {
+        [] => true,
+        [third] => is_tail(*third),
+        [third, fourth] => is_tail(*third) && is_tail(*fourth),
+        _ => bytes.iter().all(|byte| is_tail(*byte)),
+    }
 }
 
 impl Lead {
