@@ -118,7 +118,7 @@ pub struct Cell {
     pub value: Value,
 }
 
-#[derive(Drop)]
+#[derive(Clone, Copy)]
 pub struct Told {
     cells: [Cell; ROOM],
     count: usize,
@@ -126,15 +126,37 @@ pub struct Told {
 }
 
 impl Model for Told {
-    ghost use Rattle.std.specs.Prelude.{List, ◌≤◌, take};
+    ghost use Rattle.std.specs.Prelude.{List, ◌≡◌, ◌-◌, ◌≤◌, ◌++◌, length, take, drop, replicate};
+    ghost use Rattle.std.proofs.Common.{sym, ap, subst, ◌∙◌, length-take-le, take-append-drop};
     ghost use Rattle.answers.specs.declared.told.Cell.{Cell};
     ghost use Rattle.answers.specs.declared.told.Ending.{Ending};
+    ghost use Rattle.answers.specs.declared.told.Value.TheVariants.{Nothing};
 
     ghost Value = { List Cell × Ending };
 
     ghost view = { λ t. (take t.count t.cells, t.ending) };
 
-    ghost invariant = { λ t. t.count ≤ 32 };
+    // Behind the cells that were told the others are as `new` wrote them.
+    ghost invariant = { λ t.
+        (t.count ≤ 32) × (length t.cells ≡ 32)
+        × (drop t.count t.cells ≡ replicate (32 - t.count) (record { word = 0; value = Nothing })) };
+
+    ghost inverse = { λ d. record {
+      cells = d.0 ++ replicate (32 - length d.0) (record { word = 0; value = Nothing });
+      count = length d.0;
+      ending = d.1;
+    } };
+
+    ghost inverse_ok = { λ t h i.
+        let counted = length-take-le t.count t.cells (subst (λ n. t.count ≤ n) (sym h.1) h.0) in
+        record {
+          cells =
+              (ap (λ n. take t.count t.cells ++ replicate (32 - n) (record { word = 0; value = Nothing })) counted
+              ∙ ap (λ rest. take t.count t.cells ++ rest) (sym h.2)
+              ∙ take-append-drop t.count t.cells) i;
+          count = counted i;
+          ending = t.ending;
+        } };
 }
 
 impl Told {
